@@ -2,7 +2,7 @@
 -- nothing, and of a bucket's metadata all but the overflow parts.
 use Rattle.std.specs.Prelude.{◌≡◌, ℕ, zero, suc, ◌+◌, ◌-◌, ◌/◌, ◌%◌, ◌^◌, ◌<◌, ◌≤◌, nat_lt, ◌==◌, ◌||◌, if◌then◌else◌}
 use Rattle.trace.specs.Events.{Words}
-use Rattle.image_layout.specs.Places.{Shape, first_segment, words_of, bucket_at, block}
+use Rattle.image_layout.specs.Places.{Shape, first_segment, words_of, bucket_at, block, buckets}
 
 -- of word n of a bucket
 abbrev pub core_in_bucket : ℕ → ℕ → ℕ
@@ -15,13 +15,13 @@ core_in_bucket (suc (suc (suc (suc n)))) x = x
 module _ (shape : Shape) where
   -- the words of a segment go in 67 groups of 32: its header, and its 66 buckets
   abbrev pub group_of : ℕ → ℕ
-  group_of i = (i - first_segment shape) / 32 % 67
+  group_of i = (i - first_segment shape) / block % (1 + buckets)
 
   -- the core of word i with the value x: the words in front, those of a header, and those behind the image are whole
   abbrev pub core_of : ℕ → ℕ → ℕ
   core_of i x =
       if nat_lt i (first_segment shape) || (group_of i == 0) || nat_lt (words_of shape - 1) i then x
-      else core_in_bucket ((i - first_segment shape) % 32) x
+      else core_in_bucket ((i - first_segment shape) % block) x
 
   abbrev pub core : Words → Words
   core word i = core_of i (word i)

@@ -2,8 +2,8 @@
 use Rattle.std.specs.Prelude.{ℕ, zero, suc, ◌*◌, ◌/◌, ◌%◌, Bool, false, ◌==◌, ◌&&◌, Option, None, Some, if◌then◌else◌}
 use Rattle.std.specs.FinMap.{empty, insert}
 use Rattle.map_model.specs.Map.{Map}
-use Rattle.bucket_meta.specs.Bucket.{allocated}
-use Rattle.image_layout.specs.Places.{Shape}
+use Rattle.bucket_meta.specs.Bucket.{allocated, record_slots}
+use Rattle.image_layout.specs.Places.{Shape, buckets}
 use Rattle.sound_image.specs.Segments.{ImageWords, frame_of}
 use Rattle.sound_image.specs.Records.{key_hash, word_in, slot_key, slot_value}
 use Rattle.segment_table.specs.Owner.{owner}
@@ -13,18 +13,22 @@ abbrev pub is_owner : Option ℕ → ℕ → Bool
 is_owner None s = false
 is_owner (Some o) s = o == s
 
+-- how many record slots a segment has
+abbrev pub segment_slots : ℕ
+segment_slots = buckets * record_slots
+
 module _ (shape : Shape) (word : ImageWords) where
-  -- slot t, of 924 of each segment, is slot t % 14 of bucket t / 14 % 66 of segment t / 924
+  -- slot t, of all of each segment, is slot t % record_slots of bucket t / record_slots % buckets of segment t / segment_slots
   abbrev pub key_of_slot : ℕ → ℕ
-  key_of_slot t = slot_key shape word (t / 924) (t / 14 % 66) (t % 14)
+  key_of_slot t = slot_key shape word (t / segment_slots) (t / record_slots % buckets) (t % record_slots)
 
   abbrev pub value_of_slot : ℕ → ℕ
-  value_of_slot t = slot_value shape word (t / 924) (t / 14 % 66) (t % 14)
+  value_of_slot t = slot_value shape word (t / segment_slots) (t / record_slots % buckets) (t % record_slots)
 
   -- it has a record, and its segment owns the hash of the record's key: after a power cut records may stand in other segments too
   abbrev pub has_record : ℕ → Bool
   has_record t =
-      (allocated (t % 14) (word_in shape word (t / 924) (t / 14 % 66) 1) == 1) && is_owner (owner (frame_of shape word) (key_hash shape (key_of_slot t))) (t / 924)
+      (allocated (t % record_slots) (word_in shape word (t / segment_slots) (t / record_slots % buckets) 1) == 1) && is_owner (owner (frame_of shape word) (key_hash shape (key_of_slot t))) (t / segment_slots)
 
   -- the map of the records in the slots below a limit
   unfoldable pub map_below : ℕ → Map
@@ -33,4 +37,4 @@ module _ (shape : Shape) (word : ImageWords) where
 
   -- the map of all records
   abbrev pub opening_of : Map
-  opening_of = map_below (924 * shape.segments)
+  opening_of = map_below (segment_slots * shape.segments)

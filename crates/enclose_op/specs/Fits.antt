@@ -62,12 +62,12 @@ outcome_at step = None
 
 -- ---- at most so many events are left
 abbrev pub give_left : Giving → ℕ
-give_left (giving.Lock b to) = 2 + (65 - b)
+give_left (giving.Lock b to) = 2 + (buckets - 1 - b)
 give_left giving.Guard = 1
 
 abbrev pub left_at : EncloseStep → ℕ
 left_at Guard = 2313
-left_at (Lock b take) = 2180 + 2 * (65 - b) + take_left take
+left_at (Lock b take) = 2180 + 2 * (buckets - 1 - b) + take_left take
 left_at Head = 2180
 left_at (Fill at) = 69 + (2111 - at)
 left_at (CountSpent b) = 68

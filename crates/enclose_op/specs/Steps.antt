@@ -1,8 +1,8 @@
 -- What an enclosing wants in each step, and what an answer makes of it; and how it ends.
-use Rattle.std.specs.Prelude.{ℕ, ◌+◌, ◌%◌, ◌==◌, ◌&&◌, nat_lt, Bool, true, false, Option, None, Some, replicate, slice_set, if◌then◌else◌}
+use Rattle.std.specs.Prelude.{ℕ, ◌+◌, ◌%◌, ◌==◌, ◌&&◌, nat_lt, Bool, true, false, Option, None, Some, replicate, slice_set, if◌then◌else◌, ◌-◌}
 use Rattle.hash_word.specs.Hash.{home_of}
 use Rattle.segment_head.specs.HeadWord.{version_in, depth_in}
-use Rattle.image_layout.specs.Places.{buckets}
+use Rattle.image_layout.specs.Places.{buckets, block, words_of_buckets}
 use Rattle.image_layout.specs.Volatile.{counter_word}
 use Rattle.sound_image.specs.Records.{key_hash}
 use Rattle.way.specs.Ways.{head_word, bucket_word, is_leading}
@@ -49,7 +49,7 @@ given_to give end = given_by (given give) end
 
 -- ---- a lock
 abbrev pub next_lock : ℕ → EncloseStep
-next_lock b = if nat_lt b 65 then Lock (b + 1) Look else Head
+next_lock b = if nat_lt b (buckets - 1) then Lock (b + 1) Look else Head
 
 abbrev pub with_lock : Enclosed → ℕ → ℕ → Enclosed
 with_lock e b free = record e { locks = slice_set e.locks b free }
@@ -75,7 +75,7 @@ headed e head = go (with_head e head) (if is_followed e head then Fill 1 else gi
 -- ---- the words
 -- the number of the word after one: lock words are left out
 abbrev pub word_after : ℕ → ℕ
-word_after at = if (at + 1) % 32 == 0 then at + 2 else at + 1
+word_after at = if (at + 1) % block == 0 then at + 2 else at + 1
 
 -- where there is no room, the segment is too deep to be split, or it is handed on
 abbrev pub decided : Enclosed → EncloseStep
@@ -131,8 +131,8 @@ begun_with here change segment hash = record {
     hash = hash;
     segment = segment;
     head = 0;
-    locks = replicate 66 0;
-    buckets = replicate 2112 0;
+    locks = replicate buckets 0;
+    buckets = replicate words_of_buckets 0;
   };
   step = Guard;
 }

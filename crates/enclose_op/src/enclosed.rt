@@ -5,7 +5,7 @@ ghost use Rattle.bucket_meta.specs.Bucket.{record_slots};
 ghost use Rattle.image_layout.specs.Places.{buckets};
 ghost use Rattle.whole_segment.specs.Records.{first_in, third_in, key_in};
 
-use bucket_meta::words::SLOTS;
+use bucket_meta::words::{BUCKET_WORDS, SLOTS};
 use image_layout::{BUCKETS, WORDS_OF_BUCKETS};
 use map_model::Change;
 use segment_head::word::{depth_of, pattern_of};
@@ -43,7 +43,7 @@ impl Enclosed {
         ensures third { loaded.new.third ≡ loaded.old.third }
     {
         for slot in 0..SLOTS {
-            let at = 32 * usize::from(bucket) + 4 + 2 * usize::from(slot);
+            let at = BUCKET_WORDS * usize::from(bucket) + 4 + 2 * usize::from(slot);
             loaded.set_key(bucket, slot, self.buckets[at]);
         }
     }
@@ -54,7 +54,7 @@ impl Enclosed {
     {
         let mut loaded = Loaded::blank();
         for bucket in 0..BUCKETS {
-            let at = 32 * usize::from(bucket);
+            let at = BUCKET_WORDS * usize::from(bucket);
             loaded.set_first(bucket, self.buckets[at + 1]);
             loaded.set_third(bucket, self.buckets[at + 3]);
             self.put_keys(&mut loaded, bucket);

@@ -8,13 +8,16 @@ ghost use Rattle.enclose_op.specs.Steps.{begun, giving, next_lock, locked_to, is
 
 use crate::enclosed::Enclosed;
 use crate::give::{Give, give_from, given};
-use image_layout::{BUCKETS, WORDS_OF_BUCKETS};
+use image_layout::{BLOCK, BUCKETS, WORDS_OF_BUCKETS};
 use map_model::{Change, Reply};
 use op_core::{Ans, Machine, Want, Why};
 use phase::{Take, Taken, take_next, take_want};
 use segment_head::word::{depth_of, version_of};
 use way::{bucket_word, head_word, is_leading, key_hash};
 use world::Site;
+
+/// How many words a bucket has.
+const BLOCK_WORDS: u16 = BLOCK as u16;
 
 /// How an attempt is to end once all is given back.
 #[derive(Clone, Copy, Debug, PartialEq, Eq)]
@@ -93,7 +96,11 @@ fn word_after(at: u16) -> u16
     requires { at < 2111 }
     ensures { result ≡ word_after at }
 {
-    if (at + 1) % 32 == 0 { at + 2 } else { at + 1 }
+    if (at + 1) % BLOCK_WORDS == 0 {
+        at + 2
+    } else {
+        at + 1
+    }
 }
 
 impl Enclosed {

@@ -1,7 +1,7 @@
 -- What a mending wants in each step, and what an answer makes of it; and how it ends.
 use Rattle.std.specs.Prelude.{ℕ, ◌+◌, ◌-◌, ◌*◌, ◌==◌, not, nat_lt, Bool, true, false, Option, None, Some, replicate, slice_index, slice_set, if◌then◌else◌}
 use Rattle.trace.specs.Events.{line_of}
-use Rattle.image_layout.specs.Places.{homes}
+use Rattle.image_layout.specs.Places.{homes, words_of_buckets}
 use Rattle.way.specs.Ways.{head_word, bucket_word}
 use Rattle.op_core.specs.declared.want.Want.{Want}
 use Rattle.op_core.specs.declared.want.Want.TheVariants as want
@@ -159,7 +159,7 @@ taken op ans = next_in op op.step ans
 
 -- one that has done nothing yet
 abbrev pub begun : Guarded → MendOp
-begun guarded = record { guarded = guarded; words = replicate 2112 0; next = replicate 2112 0; step = Fill 0 }
+begun guarded = record { guarded = guarded; words = replicate words_of_buckets 0; next = replicate words_of_buckets 0; step = Fill 0 }
 
 -- HOW IT ENDS, once it has
 abbrev pub end_at : MendStep → Option MendEnd

@@ -8,6 +8,7 @@ ghost use Rattle.mend_op.specs.Stages.{made};
 use crate::heads::{own_depth, side_depth, side_pattern};
 use crate::load::{Words, loaded_of};
 use crate::stage::Stage;
+use bucket_meta::words::BUCKET_WORDS;
 use image_layout::{BUCKETS, Geometry};
 use segment_head::word::pattern_of;
 use whole_segment::rebuilt_notes;
@@ -20,7 +21,7 @@ fn put(words: &mut Words, number: usize, values: &[u64])
     ensures others { (i : ℕ) → ((b : ℕ) → b < length values.now → i ≢ block * b + number) → slice_index words.new i ≡ slice_index words.old i }
 {
     for (bucket, value) in values.iter().enumerate() {
-        words[32 * bucket + number] = *value;
+        words[BUCKET_WORDS * bucket + number] = *value;
     }
 }
 
@@ -30,7 +31,7 @@ fn free_locks(words: &mut Words)
     ensures others { (i : ℕ) → ((b : ℕ) → b < buckets → i ≢ block * b) → slice_index words.new i ≡ slice_index words.old i }
 {
     for bucket in 0..usize::from(BUCKETS) {
-        words[32 * bucket] -= words[32 * bucket] % 2;
+        words[BUCKET_WORDS * bucket] -= words[BUCKET_WORDS * bucket] % 2;
     }
 }
 

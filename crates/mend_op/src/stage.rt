@@ -4,7 +4,10 @@ ghost use Rattle.std.specs.Prelude.{◌≡◌, ◌<◌};
 ghost use Rattle.image_layout.specs.Places.{words_of_buckets};
 ghost use Rattle.mend_op.specs.Stages.{most, place};
 
-use image_layout::{BUCKETS, HOMES};
+use image_layout::{BLOCK, BUCKETS, HOMES};
+
+/// How many words a bucket has.
+const BLOCK_WORDS: u16 = BLOCK as u16;
 
 /// What is stored, and in which words.
 #[derive(Clone, Copy, Debug, PartialEq, Eq)]
@@ -29,16 +32,16 @@ impl Stage {
         }
     }
 
-    /// Which word of the buckets is the one of this number among them: word `n` of bucket `b` is number `32 * b + n`.
+    /// Which word of the buckets is the one of this number among them: word `n` of bucket `b` is number `BLOCK * b + n`.
     pub(crate) fn place(self, number: u8) -> u16
         ensures is { result ≡ place self number }
         ensures within { number < most self → result < words_of_buckets }
     {
         let number = u16::from(number);
         match self {
-            Stage::Clear => 32 * number + 1,
-            Stage::Mend => 32 * (number / 2) + number % 2,
-            Stage::Note => 32 * (number / 2) + 1 + 2 * (number % 2),
+            Stage::Clear => BLOCK_WORDS * number + 1,
+            Stage::Mend => BLOCK_WORDS * (number / 2) + number % 2,
+            Stage::Note => BLOCK_WORDS * (number / 2) + 1 + 2 * (number % 2),
         }
     }
 }

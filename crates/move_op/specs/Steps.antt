@@ -38,6 +38,7 @@ use Rattle.move_op.specs.declared.step.MoveStep.TheVariants.{Lock, Fill, CountSp
 use Rattle.move_op.specs.declared.step.MoveStep.TheVariants as step
 use Rattle.move_op.specs.declared.op.MoveOp.{MoveOp}
 use Rattle.move_op.specs.Shifts.{target_of, shift_in, place_of, record_of}
+use Rattle.image_layout.specs.Places.{block}
 
 -- ---- ends
 -- what is kept, and the next event
@@ -111,7 +112,7 @@ module _ (kept : Kept) where
   -- THE EVENT that it wants
   abbrev pub wanted_in : MoveStep → Want
   wanted_in (Lock direction take) = take_wanted (lock_of (target_of direction)) take
-  wanted_in (Fill direction load) = want.Load (lock_of (target_of direction) + load.next % 32)
+  wanted_in (Fill direction load) = want.Load (lock_of (target_of direction) + load.next % block)
   wanted_in CountSpent = want.Load (counter_word kept.site.geometry)
   wanted_in (step.Make shift leg make) = make_wanted (lock_at shift leg) (record_of shift leg) make
   wanted_in (Draw shift) = want.Draw

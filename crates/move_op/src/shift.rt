@@ -8,7 +8,8 @@ ghost use Rattle.move_op.specs.Shifts.{source_of, target_of, arrived_mark, movin
 use crate::step::{Direction, Leg, Shift};
 use bucket_meta::Meta;
 use bucket_meta::words::{
-    finger_of, finger_place, inserted_mark, lowest_free, member_mark, removed_mark, with_finger,
+    BUCKET_WORDS, finger_of, finger_place, inserted_mark, lowest_free, member_mark, removed_mark,
+    with_finger,
 };
 use displace::{backward, forward};
 use hash_word::finger;
@@ -39,7 +40,11 @@ pub fn target_of(direction: Direction) -> Role
 // ---- which record moves
 
 /// The slot of the record that moves, by the words of both buckets: none where none can, or where no slot is free for it.
-fn moving_slot(direction: Direction, source: &[u64; 32], target: &[u64; 32]) -> Option<u8>
+fn moving_slot(
+    direction: Direction,
+    source: &[u64; BUCKET_WORDS],
+    target: &[u64; BUCKET_WORDS],
+) -> Option<u8>
     ensures is { result ≡ moving_slot direction (slice_index source.now 1) (lowest_free (slice_index target.now 1)) }
     ensures within { IfSome result (λ slot. slot < record_slots) }
 {
@@ -65,7 +70,13 @@ fn arrived_mark(direction: Direction, w1: u64, slot: u8) -> u64
 }
 
 /// What is stored of the copy of a record of `source` in a slot of `target`.
-fn copied(direction: Direction, source: &[u64; 32], from: u8, target: &[u64; 32], to: u8) -> Record
+fn copied(
+    direction: Direction,
+    source: &[u64; BUCKET_WORDS],
+    from: u8,
+    target: &[u64; BUCKET_WORDS],
+    to: u8,
+) -> Record
     requires from { from < record_slots }
     requires to { to < record_slots }
     ensures { result ≡ copied direction source.now from target.now to }
@@ -86,7 +97,7 @@ fn copied(direction: Direction, source: &[u64; 32], from: u8, target: &[u64; 32]
 }
 
 /// What is stored where it stood: the metadata word alone.
-fn cleared(source: &[u64; 32], from: u8) -> Record
+fn cleared(source: &[u64; BUCKET_WORDS], from: u8) -> Record
     ensures { result ≡ cleared source.now from }
 {
     Record {
@@ -100,7 +111,7 @@ fn cleared(source: &[u64; 32], from: u8) -> Record
 }
 
 /// What is stored of the new record, in the slot that was cleared.
-fn placed(direction: Direction, kept: &Kept, source: &[u64; 32], from: u8) -> Record
+fn placed(direction: Direction, kept: &Kept, source: &[u64; BUCKET_WORDS], from: u8) -> Record
     requires { from < record_slots }
     ensures { result ≡ placed direction kept.now source.now from }
 {

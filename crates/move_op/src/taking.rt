@@ -6,6 +6,7 @@ ghost use Rattle.move_op.specs.Steps.{go, end_of, giving, give, locked_to, witho
 use crate::op::MoveOp;
 use crate::shift::{record_of, shift_in, target_of};
 use crate::step::{Direction, Leg, MoveEnd, MoveStep, Shift};
+use bucket_meta::words::BUCKET_WORDS;
 use map_model::Reply;
 use op_core::{Ans, Why};
 use phase::{
@@ -96,7 +97,7 @@ fn filled(op: &mut MoveOp, direction: Direction)
 }
 
 /// After the last word of a third bucket.
-fn filled_with(op: &mut MoveOp, direction: Direction, words: [u64; 32])
+fn filled_with(op: &mut MoveOp, direction: Direction, words: [u64; BUCKET_WORDS])
     ensures { op.new ≡ filled_with op.old.kept direction words }
 {
     op.kept.buckets.put(target_of(direction), words);

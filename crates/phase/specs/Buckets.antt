@@ -3,9 +3,10 @@ use Rattle.std.specs.Prelude.{ℕ, List, replicate}
 use Rattle.phase.specs.declared.role.Role.{Role}
 use Rattle.phase.specs.declared.role.Role.TheVariants.{Home, Probing, First, Second, Next, Previous}
 use Rattle.phase.specs.declared.kept.Buckets.{Buckets}
+use Rattle.image_layout.specs.Places.{block}
 
 abbrev pub no_words : Buckets
-no_words = record { home = replicate 32 0; probing = replicate 32 0; first = replicate 32 0; second = replicate 32 0; next = replicate 32 0; previous = replicate 32 0 }
+no_words = record { home = replicate block 0; probing = replicate block 0; first = replicate block 0; second = replicate block 0; next = replicate block 0; previous = replicate block 0 }
 
 -- with the words of one bucket put in
 abbrev pub with_words : Role → List ℕ → Buckets → Buckets

@@ -3,7 +3,7 @@ use Rattle.std.specs.Prelude.{◌≡◌, ℕ, ◌+◌, ◌-◌, ◌^◌, ◌<◌
 use Rattle.hash_word.specs.Hash.{index_of}
 use Rattle.trace.specs.Events.{Words}
 use Rattle.segment_head.specs.HeadWord.{version_in, is_live}
-use Rattle.image_layout.specs.Places.{Shape, IsShape, root_word, head_at}
+use Rattle.image_layout.specs.Places.{Shape, IsShape, root_word, head_at, block}
 use Rattle.frame_facts.specs.Facts.{Fact, Lives, Current, Rooted}
 use Rattle.way.specs.Ways.{entry_word, is_leading}
 use Rattle.world.specs.declared.site.Site.{Site}
@@ -130,16 +130,16 @@ backed_left end = 0
 module _ (lock : ℕ) where
   pub record IsLoading (pairs : List (ℕ × ℕ)) (load : Load) : Type 0 where
     pub same : (i : ℕ) → 1 ≤ i → i < load.next → Has (lock + i, slice_index load.words i) pairs
-    pub whole : length load.words ≡ 32
+    pub whole : length load.words ≡ block
     pub from : 1 ≤ load.next
-    pub last : load.next ≤ 31
+    pub last : load.next ≤ block - 1
 
   abbrev pub HasLoaded : List (ℕ × ℕ) → Loaded → Type 0
   HasLoaded pairs (loaded.On load) = IsLoading pairs load
-  HasLoaded pairs (loaded.All words) = (i : ℕ) → 1 ≤ i → i < 32 → Has (lock + i, slice_index words i) pairs
+  HasLoaded pairs (loaded.All words) = (i : ℕ) → 1 ≤ i → i < block → Has (lock + i, slice_index words i) pairs
 
 abbrev pub load_left : Load → ℕ
-load_left load = 1 + (31 - load.next)
+load_left load = 1 + (block - 1 - load.next)
 
 abbrev pub loaded_left : Loaded → ℕ
 loaded_left (loaded.On load) = load_left load

@@ -7,6 +7,7 @@ ghost use Rattle.phase.specs.Places.{lock_word};
 
 use crate::held::Held;
 use crate::role::{Role, lock_word};
+use bucket_meta::words::BUCKET_WORDS;
 use map_model::Change;
 use world::Site;
 
@@ -14,17 +15,17 @@ use world::Site;
 #[derive(Clone, Copy, Debug, PartialEq, Eq)]
 pub struct Buckets {
     /// Those of the home bucket.
-    pub home: [u64; 32],
+    pub home: [u64; BUCKET_WORDS],
     /// Those of the probing bucket.
-    pub probing: [u64; 32],
+    pub probing: [u64; BUCKET_WORDS],
     /// Those of the first stash bucket, where it is visited.
-    pub first: [u64; 32],
+    pub first: [u64; BUCKET_WORDS],
     /// Those of the second one, where it is visited.
-    pub second: [u64; 32],
+    pub second: [u64; BUCKET_WORDS],
     /// Those of the bucket after the probing bucket, where room is made by it.
-    pub next: [u64; 32],
+    pub next: [u64; BUCKET_WORDS],
     /// Those of the bucket before the home bucket, where room is made by it.
-    pub previous: [u64; 32],
+    pub previous: [u64; BUCKET_WORDS],
 }
 
 impl Buckets {
@@ -33,17 +34,17 @@ impl Buckets {
         ensures { result ≡ no_words }
     {
         Buckets {
-            home: [0; 32],
-            probing: [0; 32],
-            first: [0; 32],
-            second: [0; 32],
-            next: [0; 32],
-            previous: [0; 32],
+            home: [0; BUCKET_WORDS],
+            probing: [0; BUCKET_WORDS],
+            first: [0; BUCKET_WORDS],
+            second: [0; BUCKET_WORDS],
+            next: [0; BUCKET_WORDS],
+            previous: [0; BUCKET_WORDS],
         }
     }
 
     /// Puts the words of a bucket in their place.
-    pub fn put(&mut self, place: Role, words: [u64; 32])
+    pub fn put(&mut self, place: Role, words: [u64; BUCKET_WORDS])
         ensures { self.new ≡ with_words place words self.old }
     {
         match place {
@@ -57,7 +58,7 @@ impl Buckets {
     }
 
     /// The words of a bucket.
-    pub fn of(&self, place: Role) -> [u64; 32]
+    pub fn of(&self, place: Role) -> [u64; BUCKET_WORDS]
         ensures { result ≡ words_in self.now place }
     {
         match place {

@@ -36,6 +36,7 @@ use Rattle.read_op.specs.declared.step.Task.{Task}
 use Rattle.read_op.specs.declared.op.ReadOp.{ReadOp}
 use Rattle.phase.specs.Places.{lock_word}
 use Rattle.read_op.specs.Places.{free_at}
+use Rattle.image_layout.specs.Places.{block}
 
 -- what a key has in a bucket of these words
 abbrev pub value_of : List ℕ → ℕ → Option ℕ
@@ -143,7 +144,7 @@ module _ (task : Task) where
   abbrev pub wanted_in : ReadStep → Want
   wanted_in (Way walk) = walk_wanted task.site task.hash walk
   wanted_in (Look seen place) = LoadWord (lock_of seen place)
-  wanted_in (Fill seen place load) = LoadWord (lock_of seen place + load.next % 32)
+  wanted_in (Fill seen place load) = LoadWord (lock_of seen place + load.next % block)
   wanted_in (Count seen) = LoadWord (counter_word task.site.geometry)
   wanted_in (Check seen placed back) = LoadWord (back_word task.site task.hash seen.path back)
   wanted_in (Relook seen placed place) = LoadWord (lock_of seen place)

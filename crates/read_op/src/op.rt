@@ -12,7 +12,7 @@ ghost use Rattle.read_op.specs.Steps.{begun, seen_none, wanted, taken, moved, bu
 use crate::role::{Free, free_at};
 use crate::slots::value_of;
 use crate::step::{ReadEnd, ReadStep, Seen, Task};
-use bucket_meta::words::must_visit;
+use bucket_meta::words::{BUCKET_WORDS, must_visit};
 use hash_word::finger;
 use op_core::{Ans, Machine, Want, Why};
 use phase::{
@@ -165,7 +165,7 @@ fn looked(seen: Seen, place: Role) -> ReadStep
 // ---- buckets
 
 /// What was seen, with what the key has in a bucket of these words.
-fn with_value(seen: Seen, key: u64, words: &[u64; 32]) -> Seen
+fn with_value(seen: Seen, key: u64, words: &[u64; BUCKET_WORDS]) -> Seen
     ensures { result ≡ with_value key seen words.now }
 {
     let mut with = seen;
@@ -174,7 +174,7 @@ fn with_value(seen: Seen, key: u64, words: &[u64; 32]) -> Seen
 }
 
 /// What was seen, once the home bucket is loaded.
-fn read_home(seen: Seen, key: u64, words: &[u64; 32]) -> Seen
+fn read_home(seen: Seen, key: u64, words: &[u64; BUCKET_WORDS]) -> Seen
     ensures { result ≡ read_home key seen words.now }
 {
     let mut with = with_value(seen, key, words);
@@ -184,7 +184,7 @@ fn read_home(seen: Seen, key: u64, words: &[u64; 32]) -> Seen
 }
 
 /// What was seen, once the probing bucket is loaded too.
-fn read_probing(seen: Seen, key: u64, hash: u64, words: &[u64; 32]) -> Seen
+fn read_probing(seen: Seen, key: u64, hash: u64, words: &[u64; BUCKET_WORDS]) -> Seen
     ensures { result ≡ read_probing key hash seen words.now }
 {
     let mut with = with_value(seen, key, words);
@@ -194,7 +194,7 @@ fn read_probing(seen: Seen, key: u64, hash: u64, words: &[u64; 32]) -> Seen
 }
 
 /// The step after the last word of a bucket.
-fn read_all(seen: Seen, place: Role, key: u64, hash: u64, words: &[u64; 32]) -> ReadStep
+fn read_all(seen: Seen, place: Role, key: u64, hash: u64, words: &[u64; BUCKET_WORDS]) -> ReadStep
     ensures { result ≡ read_all key hash seen place words.now }
 {
     match place {

@@ -6,6 +6,7 @@ ghost use Rattle.op_core.specs.declared.want.Want.TheVariants as want;
 ghost use Rattle.rest_op.specs.Steps.{is_cleared, clear_from, note_old, note_value, is_noted, note_from, note_word, due, clearing, noting, locks_from, given_to, cleared, begun, begun_in, wanted, taken, end_of};
 
 use crate::heads::rest_head;
+use bucket_meta::words::BUCKET_WORDS;
 use enclose_op::{Enclosed, Give, given};
 use image_layout::{BUCKETS, HOMES};
 use op_core::{Ans, Machine, Want};
@@ -84,7 +85,8 @@ impl RestOp {
         requires { bucket < buckets }
         ensures { result ≡ is_cleared self.now bucket }
     {
-        self.cleared[usize::from(bucket)] != self.whole.buckets[32 * usize::from(bucket) + 1]
+        self.cleared[usize::from(bucket)]
+            != self.whole.buckets[BUCKET_WORDS * usize::from(bucket) + 1]
     }
 
     /// The first such bucket from a number on; the number of all buckets where there is none.
@@ -160,7 +162,7 @@ impl RestOp {
         if number % 2 == 0 {
             self.cleared[at]
         } else {
-            self.whole.buckets[32 * at + 3]
+            self.whole.buckets[BUCKET_WORDS * at + 3]
         }
     }
 

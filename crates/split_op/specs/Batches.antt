@@ -1,7 +1,7 @@
 -- WHAT A SPLIT STORES, one store after another: to empty a slot, to link it, the two headers, and the copies.
 use Rattle.std.specs.Prelude.{ℕ, zero, suc, ◌+◌, ◌-◌, ◌*◌, ◌/◌, ◌%◌, ◌^◌, nat_lt, ◌==◌, ◌&&◌, ◌||◌, not, Bool, true, false, Option, None, Some, List, slice_index, if◌then◌else◌}
 use Rattle.word_bits.specs.Bits.{bit}
-use Rattle.image_layout.specs.Places.{Shape, root_word, head_at, segment_words, buckets}
+use Rattle.image_layout.specs.Places.{Shape, root_word, head_at, segment_words, buckets, block}
 use Rattle.split_op.specs.declared.batch.Batch.{Batch}
 use Rattle.split_op.specs.declared.batch.Batch.TheVariants.{Empty, Link, Mark, New, Copy}
 use Rattle.split_op.specs.declared.copied.Copied.{Copied}
@@ -14,15 +14,15 @@ slot_word shape slot number = if nat_lt slot shape.segments then head_at shape s
 -- ---- a slot is emptied
 -- what a word is emptied to: a lock word to the free value of its version, and another to 0
 abbrev pub empty_value : List ℕ → ℕ → ℕ
-empty_value locks number = if nat_lt number 32 || nat_lt 0 (number % 32) then 0 else slice_index locks (number / 32 - 1) / 2 * 2
+empty_value locks number = if nat_lt number block || nat_lt 0 (number % block) then 0 else slice_index locks (number / block - 1) / 2 * 2
 
 -- the first word of a bucket that is emptied: its lock word where that is not free
 abbrev pub first_of : List ℕ → ℕ → ℕ
-first_of locks bucket = if nat_lt bucket buckets then (if slice_index locks bucket % 2 == 0 then 32 * bucket + 33 else 32 * bucket + 32) else segment_words
+first_of locks bucket = if nat_lt bucket buckets then (if slice_index locks bucket % 2 == 0 then block * bucket + (block + 1) else block * bucket + block) else segment_words
 
 -- the word that is emptied after one
 abbrev pub after_empty : List ℕ → ℕ → ℕ
-after_empty locks number = if not (nat_lt number 32) && nat_lt (number % 32) 3 then number + 1 else first_of locks (number / 32)
+after_empty locks number = if not (nat_lt number block) && nat_lt (number % block) 3 then number + 1 else first_of locks (number / block)
 
 -- ---- records are copied
 -- word m of a bucket of the side is copied, by the word itself and the first metadata word of the bucket
@@ -31,7 +31,7 @@ is_copied_at m word mark = if m == 0 then false else if nat_lt m 4 then not (wor
 
 -- a word of the side is copied, by its number
 abbrev pub is_copied : List ℕ → ℕ → Bool
-is_copied words number = is_copied_at (number % 32) (slice_index words (number - 32)) (slice_index words (number - number % 32 - 31))
+is_copied words number = is_copied_at (number % block) (slice_index words (number - block)) (slice_index words (number - number % block - (block - 1)))
 
 -- the first one of n from a number on
 unfoldable pub seek : List ℕ → ℕ → ℕ → ℕ
@@ -49,7 +49,7 @@ module _ (c : Copied) (locks : List ℕ) where
   due (Link false) = Some (slot_word c.whole.site.geometry c.whole.segment 2, (c.side + 1) % 2 ^ 64)
   due (Mark false) = Some (slot_word c.whole.site.geometry c.whole.segment 1, split_head c.whole)
   due (New false) = Some (slot_word c.whole.site.geometry c.side 1, side_head c.whole)
-  due (Copy number) = if nat_lt number segment_words then Some (slot_word c.whole.site.geometry c.side number, slice_index c.words (number - 32)) else None
+  due (Copy number) = if nat_lt number segment_words then Some (slot_word c.whole.site.geometry c.side number, slice_index c.words (number - block)) else None
   due done = None
 
   -- WHAT IS TO COME after it

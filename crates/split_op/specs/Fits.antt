@@ -53,7 +53,7 @@ module _ (op : SplitOp) where
 
   -- the word of the lock of a bucket of the side
   abbrev pub look_word : ℕ → ℕ
-  look_word b = slot_word op.copied.whole.site.geometry op.copied.side (32 + 32 * (b % buckets))
+  look_word b = slot_word op.copied.whole.site.geometry op.copied.side (block + block * (b % buckets))
 
   -- with the first of these loads the segment is whole
   abbrev pub look_kind : ℕ → StepKind
@@ -156,7 +156,7 @@ module _ (site : Ground) (here : Site) (call : Call) where
     pub areas : v.areas ≡ look_areas c b
     pub header : Has (header_word site.shape c.whole.segment, c.whole.head) v.known
     pub side_header : KnowsFreeHeader c v
-    pub looked : (d : ℕ) → d < b → Has (side_at c (32 + 32 * d), slice_index locks d) v.known
+    pub looked : (d : ℕ) → d < b → Has (side_at c (block + block * d), slice_index locks d) v.known
     pub settled : IsSettled v
     pub only : KnowsOnlyOfBoth site c v
 
@@ -206,19 +206,19 @@ module _ (site : Ground) (here : Site) (call : Call) where
 
     -- a word of the slot that is emptied, by its number: the link, and the first four of each bucket
     abbrev pub IsEmptied : ℕ → Type 0
-    IsEmptied number = (number ≡ 2) ⊎ ((32 ≤ number) × (number < segment_words) × (number % 32 < 4))
+    IsEmptied number = (number ≡ 2) ⊎ ((block ≤ number) × (number < segment_words) × (number % block < 4))
 
     -- THE WORDS BEFORE ONE are emptied, and the lock words from there on are as they were loaded
     pub record IsEmptying (number : ℕ) (v : View) : Type 0 where
       pub next : IsEmptied number ⊎ (segment_words ≤ number)
       pub below : (p : ℕ) → IsEmptied p → p < number → Has (side_at c p, empty_value locks p) v.known
-      pub above : (b : ℕ) → b < buckets → number ≤ 32 + 32 * b → Has (side_at c (32 + 32 * b), slice_index locks b) v.known
+      pub above : (b : ℕ) → b < buckets → number ≤ block + block * b → Has (side_at c (block + block * b), slice_index locks b) v.known
 
     -- THE WORDS BEFORE ONE are copied, and the others that were emptied are so
     pub record IsCopying (number : ℕ) (v : View) : Type 0 where
-      pub next : ((32 ≤ number) × (number < segment_words) × (is_copied c.words number ≡ true)) ⊎ (segment_words ≤ number)
-      pub below : (p : ℕ) → 32 ≤ p → p < segment_words → p < number → is_copied c.words p ≡ true → Has (side_at c p, slice_index c.words (p - 32)) v.known
-      pub rest : (p : ℕ) → 32 ≤ p → p < segment_words → p % 32 < 4 → (p < number → is_copied c.words p ≡ false) → Has (side_at c p, empty_value locks p) v.known
+      pub next : ((block ≤ number) × (number < segment_words) × (is_copied c.words number ≡ true)) ⊎ (segment_words ≤ number)
+      pub below : (p : ℕ) → block ≤ p → p < segment_words → p < number → is_copied c.words p ≡ true → Has (side_at c p, slice_index c.words (p - block)) v.known
+      pub rest : (p : ℕ) → block ≤ p → p < segment_words → p % block < 4 → (p < number → is_copied c.words p ≡ false) → Has (side_at c p, empty_value locks p) v.known
 
     abbrev pub KnowsSideWords : Batch → View → Type 0
     KnowsSideWords (Empty number) v = IsEmptying number v

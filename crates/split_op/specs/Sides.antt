@@ -17,7 +17,7 @@ use Rattle.enclose_op.specs.Whole.{kept_word, kept_first, kept_third, kept_key, 
 
 -- word m of bucket b of a side
 abbrev pub side_word : List ℕ → ℕ → ℕ → ℕ
-side_word words b m = slice_index words (32 * b + m)
+side_word words b m = slice_index words (block * b + m)
 
 -- ---- fingerprints
 -- a word of fingerprints in which so many slots, from one on, have none where they are not taken
@@ -70,11 +70,11 @@ pub record HasMarks (kept : List ℕ) (half : Loaded) (notes : Notes) (words : L
   pub third : (b : ℕ) → b < homes → side_word words b 3 ≡ slice_index notes.third b
   pub stash : (b : ℕ) → homes ≤ b → b < buckets → side_word words b 1 ≡ first_in half b
   pub stash_third : (b : ℕ) → homes ≤ b → b < buckets → side_word words b 3 ≡ bits 0 48 (side_word kept b 3)
-  pub others : (b m : ℕ) → b < buckets → m < 32 → m ≢ 1 → m ≢ 3 → side_word words b m ≡ side_word kept b m
+  pub others : (b m : ℕ) → b < buckets → m < block → m ≢ 1 → m ≢ 3 → side_word words b m ≡ side_word kept b m
 
 -- EACH BUCKET has the fingerprints of taken slots alone, and all other words are the same
 pub record IsThinned (words thin : List ℕ) : Type 0 where
   pub each : length thin ≡ words_of_buckets
   pub low : (b : ℕ) → b < buckets → side_word thin b 2 ≡ low_fingers (side_word words b 1) (side_word words b 2)
   pub high : (b : ℕ) → b < buckets → side_word thin b 3 ≡ high_fingers (side_word words b 1) (side_word words b 3)
-  pub others : (b m : ℕ) → b < buckets → m < 32 → m ≢ 2 → m ≢ 3 → side_word thin b m ≡ side_word words b m
+  pub others : (b m : ℕ) → b < buckets → m < block → m ≢ 2 → m ≢ 3 → side_word thin b m ≡ side_word words b m

@@ -8,7 +8,7 @@ ghost use Rattle.split_op.specs.Batches.{slot_word, empty_value, first_of, after
 use crate::copied::Copied;
 use crate::seek::copied_from;
 use enclose_op::Enclosed;
-use image_layout::{BUCKETS, Geometry, ROOT_WORD, SEGMENT_WORDS};
+use image_layout::{BLOCK, BUCKETS, Geometry, ROOT_WORD, SEGMENT_WORDS};
 use segment_head::word::{FRESH, SPLITTING, depth_of, header_of, pattern_of, version_of};
 
 /// What is stored. Words of a slot are numbered from its first header word on: number 1 is its header, number 2 its link, and number
@@ -27,6 +27,8 @@ pub enum Batch {
     Copy(u16),
 }
 
+/// How many words a header and a bucket have.
+pub const BLOCK_WORDS: u16 = BLOCK as u16;
 /// How many words a slot has.
 pub const SLOT_WORDS: u16 = SEGMENT_WORDS as u16;
 
@@ -74,10 +76,10 @@ fn empty_value(locks: &[u64; BUCKETS as usize], number: u16) -> u64
     requires { number < segment_words }
     ensures { result ≡ empty_value locks.now number }
 {
-    if number < 32 || number % 32 > 0 {
+    if number < BLOCK_WORDS || number % BLOCK_WORDS > 0 {
         0
     } else {
-        locks[usize::from(number / 32 - 1)] / 2 * 2
+        locks[usize::from(number / BLOCK_WORDS - 1)] / 2 * 2
     }
 }
 
@@ -88,9 +90,9 @@ fn first_of(locks: &[u64; BUCKETS as usize], bucket: u16) -> u16
     if bucket >= u16::from(BUCKETS) {
         SLOT_WORDS
     } else if locks[usize::from(bucket)] % 2 == 0 {
-        32 * bucket + 33
+        BLOCK_WORDS * bucket + BLOCK_WORDS + 1
     } else {
-        32 * bucket + 32
+        BLOCK_WORDS * bucket + BLOCK_WORDS
     }
 }
 
@@ -99,10 +101,10 @@ fn after_empty(locks: &[u64; BUCKETS as usize], number: u16) -> u16
     requires { number < segment_words }
     ensures { result ≡ after_empty locks.now number }
 {
-    if number >= 32 && number % 32 < 3 {
+    if number >= BLOCK_WORDS && number % BLOCK_WORDS < 3 {
         number + 1
     } else {
-        first_of(locks, number / 32)
+        first_of(locks, number / BLOCK_WORDS)
     }
 }
 
@@ -132,7 +134,7 @@ pub fn due(copied: &Copied, locks: &[u64; BUCKETS as usize], batch: Batch) -> Op
         )),
         Batch::Copy(number) if number < SLOT_WORDS => Some((
             slot_word(geometry, copied.side, number),
-            copied.words[usize::from(number.saturating_sub(32))],
+            copied.words[usize::from(number.saturating_sub(BLOCK_WORDS))],
         )),
         _ => None,
     }

@@ -3,7 +3,7 @@
 ghost use Rattle.std.specs.Prelude.{◌≡◌};
 ghost use Rattle.split_op.specs.Sides.{HasMarks, low_fingers, high_fingers, IsThinned, side_words};
 
-use bucket_meta::words::{SLOTS, is_taken, with_finger};
+use bucket_meta::words::{BUCKET_WORDS, SLOTS, is_taken, with_finger};
 use enclose_op::Enclosed;
 use image_layout::{BUCKETS, HOMES, WORDS_OF_BUCKETS};
 use whole_segment::{Loaded, Notes, rebuilt_notes};
@@ -22,11 +22,11 @@ fn with_marks(
     for bucket in 0..BUCKETS {
         let at = usize::from(bucket);
         if bucket < HOMES {
-            words[32 * at + 1] = notes.first[at];
-            words[32 * at + 3] = notes.third[at];
+            words[BUCKET_WORDS * at + 1] = notes.first[at];
+            words[BUCKET_WORDS * at + 3] = notes.third[at];
         } else {
-            words[32 * at + 1] = half.first[at];
-            words[32 * at + 3] = bits_of(kept[32 * at + 3], 0, 48);
+            words[BUCKET_WORDS * at + 1] = half.first[at];
+            words[BUCKET_WORDS * at + 3] = bits_of(kept[BUCKET_WORDS * at + 3], 0, 48);
         }
     }
     words
@@ -64,7 +64,7 @@ fn thinned(words: &[u64; WORDS_OF_BUCKETS as usize]) -> [u64; WORDS_OF_BUCKETS a
 {
     let mut thin = *words;
     for bucket in 0..BUCKETS {
-        let at = 32 * usize::from(bucket);
+        let at = BUCKET_WORDS * usize::from(bucket);
         thin[at + 2] = low_fingers(words[at + 1], words[at + 2]);
         thin[at + 3] = high_fingers(words[at + 1], words[at + 3]);
     }

@@ -5,7 +5,7 @@ ghost use Rattle.op_core.specs.declared.want.Want.TheVariants as want;
 ghost use Rattle.split_op.specs.Fits.{hands_on_at};
 ghost use Rattle.split_op.specs.Steps.{split_of, wanted, taken, end_of};
 
-use crate::batch::{due, slot_word};
+use crate::batch::{BLOCK_WORDS, due, slot_word};
 use crate::copied::Copied;
 use crate::copy::side_words;
 use crate::step::{SplitEnd, SplitStep};
@@ -84,7 +84,7 @@ fn want_of(op: &SplitOp) -> Want
         SplitStep::Look(bucket) => Want::Load(slot_word(
             geometry,
             op.copied.side,
-            32 + 32 * u16::from(*bucket % BUCKETS),
+            BLOCK_WORDS + BLOCK_WORDS * u16::from(*bucket % BUCKETS),
         )),
         SplitStep::Put(batch, rounds) => rounds.event(due(&op.copied, &op.locks, *batch)),
         SplitStep::Back(give, _) => op.copied.whole.give(*give),

@@ -5,7 +5,7 @@ ghost use Rattle.word_bits.specs.Bits.{bit};
 ghost use Rattle.image_layout.specs.Places.{segment_words};
 ghost use Rattle.split_op.specs.Batches.{is_copied, copied_from};
 
-use crate::batch::SLOT_WORDS;
+use crate::batch::{BLOCK_WORDS, SLOT_WORDS};
 use image_layout::WORDS_OF_BUCKETS;
 use word_bits::is_set;
 
@@ -15,14 +15,14 @@ pub(crate) fn is_copied(words: &[u64; WORDS_OF_BUCKETS as usize], number: u16) -
     requires { number < segment_words }
     ensures { result ≡ is_copied words.now number }
 {
-    let place = number % 32;
+    let place = number % BLOCK_WORDS;
     if place == 0 {
         false
     } else if place < 4 {
-        words[usize::from(number.saturating_sub(32))] != 0
+        words[usize::from(number.saturating_sub(BLOCK_WORDS))] != 0
     } else {
         is_set(
-            words[usize::from((number - place).saturating_sub(31))],
+            words[usize::from((number - place).saturating_sub(BLOCK_WORDS - 1))],
             u32::from((place - 4) / 2),
         )
     }

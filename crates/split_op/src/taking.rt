@@ -3,7 +3,7 @@
 ghost use Rattle.std.specs.Prelude.{◌≡◌};
 ghost use Rattle.split_op.specs.Steps.{go, back, searched, looked, finished, put_to, stored, given_to, next_in, last_slot};
 
-use crate::batch::{Batch, after, due};
+use crate::batch::{BLOCK_WORDS, Batch, after, due};
 use crate::op::SplitOp;
 use crate::seek::copied_from;
 use crate::step::{SplitEnd, SplitStep};
@@ -116,7 +116,7 @@ pub fn go_on(op: &mut SplitOp, ans: Ans)
         (SplitStep::Look(bucket), Ans::Value(lock)) => looked(op, bucket, lock),
         (SplitStep::Put(batch, rounds), Ans::Passed) => op.step = stored(op, batch, rounds),
         (SplitStep::Release, Ans::Passed) => {
-            let batch = Batch::Copy(copied_from(&op.copied.words, 32));
+            let batch = Batch::Copy(copied_from(&op.copied.words, BLOCK_WORDS));
             op.step = put_to(op, batch, Rounds::begun());
         }
         (SplitStep::Back(give, end), Ans::Passed) => op.step = given_to(given(give), end),

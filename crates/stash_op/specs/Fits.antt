@@ -3,7 +3,7 @@ use Rattle.std.specs.Prelude.{◌≡◌, ℕ, ◌+◌, ◌%◌, ◌^◌, ◌<◌
 use Rattle.bucket_meta.specs.Bucket.{overflow_count}
 use Rattle.hash_word.specs.Hash.{home_of, finger_of}
 use Rattle.trace.specs.Events.{Words, with_word}
-use Rattle.image_layout.specs.Places.{root_word}
+use Rattle.image_layout.specs.Places.{root_word, block}
 use Rattle.sound_image.specs.Records.{key_hash, notes_of, word_in}
 use Rattle.way.specs.Ways.{is_leading}
 use Rattle.map_model.specs.declared.call.Call.{Call}
@@ -100,7 +100,7 @@ module _ (kept : Kept) (seen : Seen) where
 
   abbrev pub kind_at : StashStep → Kind
   kind_at (Lock bucket take) = take_kind (lock_of kept (place_of bucket)) take
-  kind_at (Fill bucket load) = learns (lock_of kept (place_of bucket) + load.next % 32)
+  kind_at (Fill bucket load) = learns (lock_of kept (place_of bucket) + load.next % block)
   kind_at (step.Make make) = make_kind publish_kind (lock_of kept (place_of seen.bucket)) seen.written make
   kind_at (Note part) = note_kind part (noted kept.hash seen)
   kind_at Draw = draws_place (call_of kept.change)

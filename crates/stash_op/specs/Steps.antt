@@ -41,6 +41,7 @@ use Rattle.stash_op.specs.declared.step.StashStep.TheVariants as step
 use Rattle.stash_op.specs.declared.step.Stage.{Stage}
 use Rattle.stash_op.specs.declared.op.StashOp.{StashOp}
 use Rattle.stash_op.specs.Search.{place_of, note_place, free_slot, record_in, noted, has_finger}
+use Rattle.image_layout.specs.Places.{block}
 
 -- ---- ends
 -- what was seen, and the next event
@@ -135,7 +136,7 @@ module _ (kept : Kept) where
     -- THE EVENT that is wanted
     abbrev pub wanted_in : StashStep → Want
     wanted_in (Lock bucket take) = take_wanted (lock_of (place_of bucket)) take
-    wanted_in (Fill bucket load) = want.Load (lock_of (place_of bucket) + load.next % 32)
+    wanted_in (Fill bucket load) = want.Load (lock_of (place_of bucket) + load.next % block)
     wanted_in (step.Make make) = make_wanted (lock_of (place_of seen.bucket)) seen.written make
     wanted_in (Note part) = note_wanted part (noted kept.hash seen)
     wanted_in Draw = want.Draw

@@ -5,8 +5,8 @@ ghost use Rattle.stash_op.specs.Search.{place_of, index_of, note_place, side_of,
 
 use crate::step::{NoteBucket, NoteWords, Seen, StashBucket};
 use bucket_meta::words::{
-    finger_place, inserted_mark, lowest_free, noted_fingers, noted_mark, raised_count,
-    unused_place, with_finger,
+    BUCKET_WORDS, finger_place, inserted_mark, lowest_free, noted_fingers, noted_mark,
+    raised_count, unused_place, with_finger,
 };
 use hash_word::finger;
 use phase::{Buckets, Kept, Record, Role, brought};
@@ -83,7 +83,7 @@ pub fn record_in(kept: &Kept, buckets: &Buckets, bucket: StashBucket, slot: u8) 
 /// Words 1 and 3 of a bucket with the note on a note slot, or else what is made instead.
 fn noted_or(
     bucket: NoteBucket,
-    words: &[u64; 32],
+    words: &[u64; BUCKET_WORDS],
     finger: u8,
     index: u8,
     at: Option<u8>,
@@ -103,7 +103,12 @@ fn noted_or(
 
 /// What notes a record of this fingerprint and stash bucket: the lowest unused note slot of the home bucket, else that of the probing
 /// bucket, and else the home bucket's count of records without a note.
-fn noted_by(home: &[u64; 32], probing: &[u64; 32], finger: u8, index: u8) -> NoteWords
+fn noted_by(
+    home: &[u64; BUCKET_WORDS],
+    probing: &[u64; BUCKET_WORDS],
+    finger: u8,
+    index: u8,
+) -> NoteWords
     ensures { result ≡ noted_by home.now probing.now finger index }
 {
     let counted = NoteWords {

@@ -5,6 +5,7 @@ ghost use Rattle.stash_op.specs.Steps.{end_of, giving, give, answered, putting, 
 
 use crate::search::{free_slot, has_finger, noted, place_of, record_in};
 use crate::step::{Seen, Stage, StashBucket, StashEnd, StashStep};
+use bucket_meta::words::BUCKET_WORDS;
 use map_model::Reply;
 use op_core::{Ans, Why};
 use phase::{
@@ -124,7 +125,7 @@ fn searched(kept: &Kept, seen: &Seen, bucket: StashBucket) -> Stage
 }
 
 /// After the last word of a stash bucket.
-fn filled_with(kept: &Kept, stage: &mut Stage, bucket: StashBucket, words: [u64; 32])
+fn filled_with(kept: &Kept, stage: &mut Stage, bucket: StashBucket, words: [u64; BUCKET_WORDS])
     ensures { stage.new ≡ filled_with kept.now stage.old.seen bucket words }
 {
     let mut seen = stage.seen;

@@ -7,11 +7,11 @@ use Rattle.image_layout.specs.Places.{homes}
 
 -- how many positions there are
 abbrev pub positions : ℕ
-positions = 56
+positions = 4 * record_slots
 
 -- the bucket of a position, for a key of this home
 abbrev pub bucket_at : ℕ → ℕ → ℕ
-bucket_at home p = if nat_lt p 14 then home else if nat_lt p 28 then probing_of home else if nat_lt p 42 then homes else homes + 1
+bucket_at home p = if nat_lt p record_slots then home else if nat_lt p (2 * record_slots) then probing_of home else if nat_lt p (3 * record_slots) then homes else homes + 1
 
 -- its slot
 abbrev pub slot_at : ℕ → ℕ
@@ -20,7 +20,7 @@ slot_at p = p % record_slots
 -- the position of slot r of bucket b, which is behind all others where no key of this home is looked for
 abbrev pub position_of : ℕ → ℕ → ℕ → ℕ
 position_of home b r =
-    if b == home then r else if b == probing_of home then 14 + r else if b == homes then 28 + r else if b == homes + 1 then 42 + r else positions
+    if b == home then r else if b == probing_of home then record_slots + r else if b == homes then 2 * record_slots + r else if b == homes + 1 then 3 * record_slots + r else positions
 
 module _ (key : ℕ → ℕ → ℕ) (hash : ℕ → ℕ) where
   -- where the key in slot r of bucket b is at home

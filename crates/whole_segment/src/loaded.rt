@@ -13,7 +13,7 @@ use way::key_hash;
 use word_bits::mask;
 
 /// How many record slots a segment has.
-pub const KEYS: usize = 924;
+pub const KEYS: usize = BUCKETS as usize * SLOTS as usize;
 
 /// What is loaded of a segment.
 #[derive(Clone, Copy, Debug, PartialEq, Eq)]

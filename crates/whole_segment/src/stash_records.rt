@@ -8,10 +8,10 @@ ghost use Rattle.sound_image.specs.Records.{key_hash};
 use crate::Loaded;
 use bucket_meta::words::SLOTS;
 use hash_word::{finger, home};
-use image_layout::{Geometry, HOMES};
+use image_layout::{Geometry, HOMES, STASH_BUCKETS};
 
 /// How many records have room in the stash.
-const STASH_SLOTS: usize = 28;
+const STASH_SLOTS: usize = STASH_BUCKETS as usize * SLOTS as usize;
 
 /// Records in the stash of a segment, each as its home, its fingerprint and its stash bucket.
 #[derive(Clone, Copy)]

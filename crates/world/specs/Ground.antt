@@ -29,7 +29,7 @@ version_of site = site.front state_word % 2 ^ 8
 
 -- THE STRUCTURE of words is sound: headers, links, root and directory are, and the first words are those of the start but for the root
 pub record IsStructured (site : Ground) (word : Words) : Type 0 where
-  pub fixed : (i : ℕ) → i < 32 → i ≢ root_word → word i ≡ site.front i
+  pub fixed : (i : ℕ) → i < block → i ≢ root_word → word i ≡ site.front i
   pub sound : HasSoundFrame site.shape word
 
 -- a segment is live with the version of the image

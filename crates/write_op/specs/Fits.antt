@@ -3,7 +3,7 @@ use Rattle.std.specs.Prelude.{◌≡◌, ℕ, ◌+◌, ◌%◌, ◌^◌, ◌<◌
 use Rattle.bucket_meta.specs.Bucket.{overflow_count}
 use Rattle.hash_word.specs.Hash.{home_of, finger_of}
 use Rattle.trace.specs.Events.{Words, with_word}
-use Rattle.image_layout.specs.Places.{root_word}
+use Rattle.image_layout.specs.Places.{root_word, block}
 use Rattle.sound_image.specs.Records.{key_hash, notes_of, word_in}
 use Rattle.map_model.specs.declared.call.Call.{Call}
 use Rattle.map_model.specs.declared.change.Effect.{Effect}
@@ -123,7 +123,7 @@ module _ (task : Task) (seen : Seen) where
   kind_at (Way walk) n = walk_kind task.site task.hash walk
   kind_at (Lock place take) n = take_kind (lock_of task seen place) take
   kind_at (Check back) n = back_kind task.site task.hash seen.path (pins seen.path.segment (home_of task.hash)) back
-  kind_at (Fill place load) n = learns (lock_of task seen place + load.next % 32)
+  kind_at (Fill place load) n = learns (lock_of task seen place + load.next % block)
   kind_at Count n = count_kind n
   kind_at (step.Make make) n = make_kind publish_kind (lock_of task seen seen.place) seen.written make
   kind_at Draw n = draws_place (call_of task.change)

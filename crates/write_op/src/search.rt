@@ -10,8 +10,8 @@ use crate::step::{Seen, Spot, Task};
 use balance::{Choice, choose};
 use bucket_meta::Meta;
 use bucket_meta::words::{
-    finger_place, freed_fingers, freed_mark, inserted_mark, lowered_count, lowest_free,
-    lowest_with, member_mark, must_visit, note_place, removed_mark, with_finger,
+    BUCKET_WORDS, finger_place, freed_fingers, freed_mark, inserted_mark, lowered_count,
+    lowest_free, lowest_with, member_mark, must_visit, note_place, removed_mark, with_finger,
 };
 use hash_word::finger;
 use map_model::Effect;
@@ -33,7 +33,7 @@ fn spot_or(place: Role, slot: Option<u8>, rest: Option<Spot>) -> Option<Spot>
 }
 
 /// The slot of a key, in a bucket that is visited.
-fn slot_in(visited: bool, words: &[u64; 32], key: u64) -> Option<u8>
+fn slot_in(visited: bool, words: &[u64; BUCKET_WORDS], key: u64) -> Option<u8>
     ensures is { result ≡ slot_in visited words.now key }
     ensures within { IfSome result (λ slot. slot < record_slots) }
 {
@@ -58,7 +58,7 @@ pub fn found(seen: &Seen, key: u64) -> Option<Spot>
 }
 
 /// The metadata of a bucket, by its words.
-fn meta_of(words: &[u64; 32]) -> Meta
+fn meta_of(words: &[u64; BUCKET_WORDS]) -> Meta
     ensures { IsMetaOf result (slice_index words.now 1) (slice_index words.now 2) (slice_index words.now 3) }
 {
     Meta::read([words[1], words[2], words[3]])
@@ -129,7 +129,7 @@ fn published_mark(effect: Effect, place: Role, w1: u64, slot: u8) -> u64
 }
 
 /// What is stored of the record of a change, in a slot of a bucket with these words.
-fn record_in(task: &Task, place: Role, words: &[u64; 32], slot: u8) -> Record
+fn record_in(task: &Task, place: Role, words: &[u64; BUCKET_WORDS], slot: u8) -> Record
     requires { slot < record_slots }
     ensures { result ≡ record_in task.now place words.now slot }
 {
@@ -187,7 +187,7 @@ pub fn leaves_note(effect: Effect, place: Role) -> bool
 }
 
 /// Words 1 and 3 of a bucket without the note on an note slot, or else what is made instead.
-fn freed_or(place: Role, words: &[u64; 32], at: Option<u8>, rest: NoteWords) -> NoteWords
+fn freed_or(place: Role, words: &[u64; BUCKET_WORDS], at: Option<u8>, rest: NoteWords) -> NoteWords
     ensures { result ≡ freed_or place words.now at rest }
 {
     match at {
@@ -202,7 +202,12 @@ fn freed_or(place: Role, words: &[u64; 32], at: Option<u8>, rest: NoteWords) -> 
 
 /// What takes away a note of this fingerprint and stash bucket: the lowest one in the home bucket goes, else that in the probing
 /// bucket, and else one of those that are counted.
-fn unnoted_by(home: &[u64; 32], probing: &[u64; 32], finger: u8, index: u8) -> NoteWords
+fn unnoted_by(
+    home: &[u64; BUCKET_WORDS],
+    probing: &[u64; BUCKET_WORDS],
+    finger: u8,
+    index: u8,
+) -> NoteWords
     ensures { result ≡ unnoted_by home.now probing.now finger index }
 {
     let counted = NoteWords {

@@ -7,6 +7,7 @@ ghost use Rattle.write_op.specs.Steps.{end_of, giving, give, answered, amiss, ar
 use crate::asking::lock_of;
 use crate::search::{found, has_finger, leaves_note, record_at, room_in, unnoted, visits};
 use crate::step::{Seen, Spot, Stage, Task, WriteEnd, WriteStep};
+use bucket_meta::words::BUCKET_WORDS;
 use map_model::{Effect, Reply};
 use op_core::{Ans, Why};
 use phase::{
@@ -195,7 +196,7 @@ fn filled(hash: u64, stage: &mut Stage, place: Role)
 
 /// After the last word of a bucket; a call of its own for the same reason.
 #[inline(never)]
-fn filled_with(hash: u64, stage: &mut Stage, place: Role, words: [u64; 32])
+fn filled_with(hash: u64, stage: &mut Stage, place: Role, words: [u64; BUCKET_WORDS])
     ensures { stage.new ≡ filled_with hash stage.old.seen place words }
 {
     stage.seen.buckets.put(place, words);

@@ -4,7 +4,7 @@ use Rattle.std.specs.Prelude.{◌≡◌, ◌≢◌, ℕ, ◌^◌, ◌<◌, ◌�
 use Rattle.trace.specs.Events.{Words, value}
 use Rattle.trace.specs.Steps.{HadSinceSettled}
 use Rattle.segment_head.specs.HeadWord.{version_in, state_in, depth_in, pattern_in}
-use Rattle.image_layout.specs.Places.{Shape, root_word, state_word, words_of}
+use Rattle.image_layout.specs.Places.{Shape, root_word, state_word, words_of, block}
 use Rattle.sound_image.specs.Segments.{frame_of, image_version, IsClean}
 use Rattle.sound_image.specs.Image.{IsSoundImage}
 use Rattle.bucket_words.specs.Hits.{find}
@@ -46,7 +46,7 @@ pub record IsRestartOf (site : Ground) (image : List ℕ) (world : World) : Type
   pub words_are : world.words ≡ value (slice_index image) world.trace
   pub settled : (i y : ℕ) → i < words_of site.shape → HadSinceSettled (slice_index image) world.trace i y → y ≡ world.words i
   pub left : IsLeftOf site.shape (slice_index image) world.words
-  pub front : (i : ℕ) → i < 32 → i ≢ root_word → world.words i ≡ site.front i
+  pub front : (i : ℕ) → i < block → i ≢ root_word → world.words i ≡ site.front i
   pub heads : (s : ℕ) → s < site.shape.segments → world.words (header_word site.shape s) ≡ site.front (header_word site.shape s)
   pub pairs : (k : ℕ) → find site.shape (slice_index image) k ≡ site.start k
   pub fresh : (j : ℕ) (v : View) → At world.views j v → v ≡ fresh_view v.callers
