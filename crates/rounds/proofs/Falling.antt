@@ -10,7 +10,7 @@ use Rattle.rounds.specs.declared.rounds.RoundStep.TheVariants.{Storing, Flushing
 use Rattle.rounds.specs.declared.rounds.Rounds.{Rounds}
 use Rattle.rounds.specs.Steps.{at_step, begun, flushed_to, rounds_stores, rounds_wanted, rounds_taken}
 use Rattle.rounds.specs.Events.{IsStore, IsFlush, IsFence}
-use Rattle.rounds.specs.Left.{round_left, left_at, rounds_left}
+use Rattle.rounds.specs.Left.{round_left, left_at, rounds_left, few_left}
 use Rattle.rounds.specs.Laws.{RoundsFall}
 use Rattle.rounds.proofs.Events.{no_false, event_cases, some_store, cases_wanted}
 
@@ -104,6 +104,26 @@ others_fall rounds next stores some other = elim (cases_wanted (rounds_wanted ro
     | inr f ↦ elim f [ inl f ↦ flush_falls rounds next want.0 stores f | inr f ↦ fence_falls rounds next want.0 stores f ]
   ]
 ]
+
+-- ---- of a machine that is in its rounds
+module _ (rounds : Rounds) (left : ℕ) where
+  pub few_is : length rounds.round ≤ most_lines → few_left rounds left ≡ left
+  few_is few = ap (λ b. cond b 0 left) (le-ltb most_lines (length rounds.round) few)
+
+  pub few_most : (most : ℕ) → (length rounds.round ≤ most_lines → left ≤ most) → few_left rounds left ≤ most
+  few_most most low = elim (cases_lt most_lines (length rounds.round)) [
+    | inl many ↦ (let none = ap (λ b. cond b 0 left) (lt-ltb most_lines (length rounds.round) many) in omega (arith, none))
+    | inr few ↦ (let is = few_is few in let all = low few in omega (arith, is, all))
+  ]
+
+  pub few_below : few_left rounds left ≤ left
+  few_below = few_most left (λ few. omega arith)
+
+pub fewer_stores : (rounds : Rounds) (n m : ℕ) → n ≤ m → rounds_left rounds n ≤ rounds_left rounds m
+fewer_stores rounds n m low = omega (arith, low)
+
+pub few_less : (rounds : Rounds) (less left : ℕ) → less ≤ left → few_left rounds less ≤ few_left rounds left
+few_less rounds less left low = few_most rounds less (few_left rounds left) (λ few. let is = few_is rounds left few in omega (arith, is, low))
 
 pub rounds_fall : RoundsFall
 rounds_fall = record { begins = λ stores. omega arith; stores = stores_fall; others = others_fall }

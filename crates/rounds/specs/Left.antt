@@ -1,5 +1,6 @@
 -- At most so many events are left.
 use Rattle.std.specs.Prelude.{ℕ, ◌+◌, ◌-◌, ◌*◌, nat_lt, List, length, if◌then◌else◌}
+use Rattle.whole_segment.specs.Rounds.{most_lines}
 use Rattle.rounds.specs.declared.rounds.RoundStep.{RoundStep}
 use Rattle.rounds.specs.declared.rounds.RoundStep.TheVariants.{Storing, Flushing, Fencing}
 use Rattle.rounds.specs.declared.rounds.Rounds.{Rounds}
@@ -16,3 +17,7 @@ left_at lines Fencing = 1
 -- where so many stores are to come: each of them may touch a line, which is flushed and fenced
 abbrev pub rounds_left : Rounds → ℕ → ℕ
 rounds_left rounds stores = 3 * stores + left_at rounds.round rounds.step
+
+-- of a machine that is in its rounds so many; none in a round that has more lines than it may, of which no event is wanted
+abbrev pub few_left : Rounds → ℕ → ℕ
+few_left rounds left = if nat_lt most_lines (length rounds.round) then 0 else left
