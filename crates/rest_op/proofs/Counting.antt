@@ -1,7 +1,7 @@
 -- How many events are left, and how many lines are flushed and not fenced.
 use Rattle.std.proofs.Common.{◌≡◌, ◌≢◌, ℕ, suc, ◌+◌, ◌-◌, ◌*◌, ◌<◌, ◌≤◌, Bool, true, false, Option, None, Some, length, inl, inr, refl, sym, ap, ◌∙◌, subst, arith}
 use Rattle.std.specs.Prelude.{if◌then◌else◌, nat_lt}
-use Rattle.std.proofs.lemmas.Bool.{cases_lt, ltb-true, ltb-false, le-ltb}
+use Rattle.std.proofs.lemmas.Bool.{cases_lt, ltb-true}
 use Rattle.op_core.specs.declared.want.Want.{Want}
 use Rattle.op_core.specs.declared.want.Want.TheVariants as wants
 use Rattle.op_core.specs.declared.want.Ans.{Ans}
@@ -16,7 +16,7 @@ use Rattle.rounds.specs.Waiting.{rounds_waiting}
 use Rattle.rounds.specs.Left.{rounds_left}
 use Rattle.rounds.proofs.Events.{no_some}
 use Rattle.rounds.proofs.Wanted.{IsAsked, asked}
-use Rattle.rounds.proofs.Falling.{step_most, rounds_fall, fewer_stores}
+use Rattle.rounds.proofs.Falling.{step_most, fewer_stores, few_is, few_below, few_most, rounds_fall}
 use Rattle.rounds.proofs.Waiting.{most_wait, none_waits, event_ends, event_flushes, event_keeps}
 use Rattle.enclose_op.specs.declared.give.Give.{Give as Giving}
 use Rattle.enclose_op.specs.Giving.{given}
@@ -34,18 +34,11 @@ use Rattle.rest_op.proofs.Rounding.{due_is}
 
 -- ---- EVENTS that are left
 -- while buckets are cleared
-few_left : (b : ℕ) (rounds : Rounds) → length rounds.round ≤ 8 → clear_left b rounds ≡ rounds_left rounds (buckets - b) + 3 + after_head
-few_left b rounds few = ap (λ t. if t then 0 else rounds_left rounds (buckets - b) + 3 + after_head) (le-ltb most_lines (length rounds.round) few)
+abbrev all_left : ℕ → Rounds → ℕ
+all_left b rounds = rounds_left rounds (buckets - b) + 3 + after_head
 
-left_by : (b : ℕ) (rounds : Rounds) (t : Bool) → (if t then 0 else rounds_left rounds (buckets - b) + 3 + after_head) ≤ rounds_left rounds (buckets - b) + 3 + after_head
-left_by b rounds true = omega arith
-left_by b rounds false = omega arith
-
-no_more_left : (b : ℕ) (rounds : Rounds) → clear_left b rounds ≤ rounds_left rounds (buckets - b) + 3 + after_head
-no_more_left b rounds = left_by b rounds (nat_lt most_lines (length rounds.round))
-
-clearing_left : (op : RestOp) (b : ℕ) (rounds : Rounds) (o : Option Want) → left_at (clearing_by op o b rounds) ≤ rounds_left rounds (buckets - b) + 3 + after_head
-clearing_left op b rounds (Some want) = no_more_left b rounds
+clearing_left : (op : RestOp) (b : ℕ) (rounds : Rounds) (o : Option Want) → left_at (clearing_by op o b rounds) ≤ all_left b rounds
+clearing_left op b rounds (Some want) = few_below rounds (all_left b rounds)
 clearing_left op b rounds None = omega arith
 
 module _ (op : RestOp) (b : ℕ) (rounds : Rounds) (few : length rounds.round ≤ 8) (want : Want) (is : rounds_wanted rounds (due op b) ≡ Some want) where
@@ -80,8 +73,8 @@ clear_falls op b rounds a answer =
     let after : Rounds = rounds_taken rounds (due op b) in
     let left = clearing_left op later after (rounds_wanted after (due op later)) in
     let falls = fewer op b rounds q.few q.want q.is q.event in
-    subst (λ n. left_at (next_in op (Clear b rounds) a) < n) (sym (few_left b rounds q.few))
-    (subst (λ (x : Ans). left_at (next_in op (Clear b rounds) x) < rounds_left rounds (buckets - b) + 3 + after_head) (sym q.passed) (omega (arith, left, falls)))
+    subst (λ n. left_at (next_in op (Clear b rounds) a) < n) (sym (few_is rounds (all_left b rounds) q.few))
+    (subst (λ (x : Ans). left_at (next_in op (Clear b rounds) x) < all_left b rounds) (sym q.passed) (omega (arith, left, falls)))
 
 -- while notes are stored
 note_left : (from n : ℕ) → from ≤ n → (t : Bool) → nat_lt n (2 * homes) ≡ t → left_at (if t then Note n else Open) ≤ notes_left from
@@ -135,12 +128,8 @@ falls_at op (Give give) a i =
 falls_at op Ended a i = absurd i
 
 -- at most so many are left
-clear_most : (b : ℕ) (rounds : Rounds) (t : Bool) → nat_lt most_lines (length rounds.round) ≡ t → (if t then 0 else rounds_left rounds (buckets - b) + 3 + after_head) ≤ most_events
-clear_most b rounds true is = omega arith
-clear_most b rounds false is = (let few = step_most rounds.round (ltb-false most_lines (length rounds.round) is) rounds.step in omega (arith, few))
-
 pub most_at : (s : RestStep) → left_at s ≤ most_events
-most_at (Clear b rounds) = clear_most b rounds (nat_lt most_lines (length rounds.round)) refl
+most_at (Clear b rounds) = few_most rounds (all_left b rounds) most_events (λ few. let lines = step_most rounds.round few rounds.step in omega (arith, lines))
 most_at Head = omega arith
 most_at HeadFlush = omega arith
 most_at HeadFence = omega arith

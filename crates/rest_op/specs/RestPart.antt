@@ -1,5 +1,5 @@
 -- The rest of a split as a part of a call: with what it may begin, and how it ends.
-use Rattle.std.specs.Prelude.{◌≡◌, ℕ, suc, ◌+◌, ◌-◌, ◌*◌, nat_lt, ⊤, false, Option, None, Some, [], ◌∷◌, length, if◌then◌else◌}
+use Rattle.std.specs.Prelude.{◌≡◌, ℕ, suc, ◌+◌, ◌-◌, ◌*◌, ⊤, false, Option, None, Some, [], ◌∷◌}
 use Rattle.op_core.specs.declared.want.Want.TheVariants as want
 use Rattle.segment_head.specs.HeadWord.{version_in, depth_in, pattern_in, splitting}
 use Rattle.image_layout.specs.Places.{homes, buckets}
@@ -16,7 +16,7 @@ use Rattle.part.specs.Part.{Part}
 use Rattle.phase.specs.Giving.{IsQuiet}
 use Rattle.whole_segment.specs.Rounds.{most_lines}
 use Rattle.rounds.specs.declared.rounds.Rounds.{Rounds}
-use Rattle.rounds.specs.Left.{rounds_left}
+use Rattle.rounds.specs.Left.{rounds_left, few_left}
 use Rattle.rounds.specs.Waiting.{rounds_waiting}
 use Rattle.enclose_op.specs.declared.enclosed.Enclosed.{Enclosed}
 use Rattle.enclose_op.specs.Whole.{kept_words, IsOf, IsWhole, HoldsLocks, KnowsOnlyOf}
@@ -45,7 +45,7 @@ notes_left n = suc (2 * homes - 1 - n) + (buckets + 1)
 
 -- while buckets are cleared, no round has touched more lines than it may
 abbrev pub clear_left : ℕ → Rounds → ℕ
-clear_left b rounds = if nat_lt most_lines (length rounds.round) then 0 else rounds_left rounds (buckets - b) + 3 + after_head
+clear_left b rounds = few_left rounds (rounds_left rounds (buckets - b) + 3 + after_head)
 
 abbrev pub left_at : RestStep → ℕ
 left_at (Clear b rounds) = clear_left b rounds
