@@ -1,13 +1,12 @@
 -- How many events are left.
-use Rattle.std.proofs.Common.{◌≡◌, ℕ, suc, ◌+◌, ◌-◌, ◌*◌, ◌<◌, ◌≤◌, Bool, true, false, Option, None, Some, length, inl, inr, refl, sym, ap, ◌∙◌, subst, arith}
+use Rattle.std.proofs.Common.{◌≡◌, ℕ, suc, ◌+◌, ◌-◌, ◌*◌, ◌<◌, ◌≤◌, Bool, true, false, Option, None, Some, length, inl, inr, refl, sym, ◌∙◌, subst, arith}
 use Rattle.std.specs.Prelude.{if◌then◌else◌, nat_lt}
-use Rattle.std.proofs.lemmas.Bool.{ltb-true, ltb-false, le-ltb}
+use Rattle.std.proofs.lemmas.Bool.{ltb-true}
 use Rattle.op_core.specs.declared.want.Want.{Want}
 use Rattle.op_core.specs.declared.want.Ans.{Ans}
 use Rattle.op_core.specs.declared.want.Ans.TheVariants.{Passed, Value}
 use Rattle.op_core.specs.Answers.{IsAnswer}
 use Rattle.image_layout.specs.Places.{homes}
-use Rattle.whole_segment.specs.Rounds.{most_lines}
 use Rattle.rounds.specs.declared.rounds.Rounds.{Rounds}
 use Rattle.rounds.specs.Steps.{rounds_stores, rounds_wanted, event_wanted, rounds_taken}
 use Rattle.rounds.specs.Steps as rounds
@@ -15,7 +14,7 @@ use Rattle.rounds.specs.Events.{IsStore, IsRoundEvent}
 use Rattle.rounds.specs.Left.{rounds_left}
 use Rattle.rounds.proofs.Events.{no_some}
 use Rattle.rounds.proofs.Wanted.{asked}
-use Rattle.rounds.proofs.Falling.{step_most, rounds_fall, fewer_stores}
+use Rattle.rounds.proofs.Falling.{step_most, fewer_stores, few_is, few_below, few_most, rounds_fall}
 use Rattle.mend_op.specs.declared.stage.Stage.{Stage}
 use Rattle.mend_op.specs.declared.stage.Stage.TheVariants as stage
 use Rattle.mend_op.specs.declared.op.MendStep.{MendStep}
@@ -47,21 +46,16 @@ note_falls op n true = let most = noted_left (with_stored op (place stage.Note n
 note_falls op n false = omega arith
 
 -- ---- while words are stored in rounds
-few_left : (stage : Stage) (n : ℕ) (rounds : Rounds) → length rounds.round ≤ 8 → round_left stage n rounds ≡ rounds_left rounds (most stage - n) + after_stage stage
-few_left stage n rounds few = ap (λ t. if t then 0 else rounds_left rounds (most stage - n) + after_stage stage) (le-ltb most_lines (length rounds.round) few)
-
-left_by : (stage : Stage) (n : ℕ) (rounds : Rounds) (t : Bool)
-    → (if t then 0 else rounds_left rounds (most stage - n) + after_stage stage) ≤ rounds_left rounds (most stage - n) + after_stage stage
-left_by stage n rounds true = omega arith
-left_by stage n rounds false = omega arith
+abbrev all_left : Stage → ℕ → Rounds → ℕ
+all_left stage n rounds = rounds_left rounds (most stage - n) + after_stage stage
 
 over_left : (op : MendOp) (stage : Stage) → left_of (over stage op) ≤ after_stage stage
 over_left op stage.Clear = omega arith
 over_left op stage.Mend = noted_left (prepared stage.Note op) 0
 over_left op stage.Note = omega arith
 
-rounding_left : (op : MendOp) (stage : Stage) (n : ℕ) (rounds : Rounds) (o : Option Want) → left_of (rounding_by o stage n rounds op) ≤ rounds_left rounds (most stage - n) + after_stage stage
-rounding_left op stage n rounds (Some want) = left_by stage n rounds (nat_lt most_lines (length rounds.round))
+rounding_left : (op : MendOp) (stage : Stage) (n : ℕ) (rounds : Rounds) (o : Option Want) → left_of (rounding_by o stage n rounds op) ≤ all_left stage n rounds
+rounding_left op stage n rounds (Some want) = few_below rounds (all_left stage n rounds)
 rounding_left op stage n rounds None = more (left_of (over stage op)) (after_stage stage) (rounds_left rounds (most stage - n)) (over_left op stage)
   where
     more : (a b c : ℕ) → a ≤ b → a ≤ c + b
@@ -84,7 +78,7 @@ module _ (op : MendOp) (stage : Stage) (n : ℕ) (rounds : Rounds) (few : length
   stored = with_stored op (place stage n)
 
   abbrev Fewer : Bool → Type 0
-  Fewer t = left_of (rounded_by t stage n after op) < rounds_left rounds (most stage - n) + after_stage stage
+  Fewer t = left_of (rounded_by t stage n after op) < all_left stage n rounds
 
   store_fewer : IsStore rounds (due op stage n) want → Fewer true
   store_fewer s =
@@ -115,8 +109,8 @@ module _ (op : MendOp) (stage : Stage) (n : ℕ) (rounds : Rounds) (few : length
 round_falls : (op : MendOp) (stage : Stage) (n : ℕ) (rounds : Rounds) (a : Ans) → IsAnswer (event_wanted rounds (due op stage n)) a → left_of (next_in op (Round stage n rounds) a) < round_left stage n rounds
 round_falls op stage n rounds a answer =
     let q = asked rounds (due op stage n) a answer in
-    subst (λ k. left_of (next_in op (Round stage n rounds) a) < k) (sym (few_left stage n rounds q.few))
-    (subst (λ (x : Ans). left_of (next_in op (Round stage n rounds) x) < rounds_left rounds (most stage - n) + after_stage stage) (sym q.passed) (fewer op stage n rounds q.few q.want q.is q.event))
+    subst (λ k. left_of (next_in op (Round stage n rounds) a) < k) (sym (few_is rounds (all_left stage n rounds) q.few))
+    (subst (λ (x : Ans). left_of (next_in op (Round stage n rounds) x) < all_left stage n rounds) (sym q.passed) (fewer op stage n rounds q.few q.want q.is q.event))
 
 -- ---- while words are loaded
 loaded_left : (o : Option ℕ) (op : MendOp) → left_of (loaded_by o op) ≤ 3 * most stage.Clear + after_stage stage.Clear
@@ -156,17 +150,9 @@ stage_most stage.Clear n = omega arith
 stage_most stage.Mend n = omega arith
 stage_most stage.Note n = omega arith
 
-round_most : (stage : Stage) (n : ℕ) (rounds : Rounds) (t : Bool) → nat_lt most_lines (length rounds.round) ≡ t
-    → (if t then 0 else rounds_left rounds (most stage - n) + after_stage stage) ≤ most_events
-round_most stage n rounds true is = omega arith
-round_most stage n rounds false is =
-    let few = step_most rounds.round (ltb-false most_lines (length rounds.round) is) rounds.step in
-    let stores = stage_most stage n in
-    omega (arith, few, stores)
-
 pub most_at : (s : MendStep) → left_at s ≤ most_events
 most_at (Fill i) = omega arith
-most_at (Round stage n rounds) = round_most stage n rounds (nat_lt most_lines (length rounds.round)) refl
+most_at (Round stage n rounds) = few_most rounds (all_left stage n rounds) most_events (λ few. let lines = step_most rounds.round few rounds.step in let stores = stage_most stage n in omega (arith, lines, stores))
 most_at Finish = omega arith
 most_at FinishFlush = omega arith
 most_at FinishFence = omega arith

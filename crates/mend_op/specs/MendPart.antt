@@ -1,5 +1,5 @@
 -- A mending as a part of a call: with what it begins, and how it ends.
-use Rattle.std.specs.Prelude.{◌≡◌, ℕ, suc, ◌+◌, ◌-◌, ◌*◌, ◌^◌, ◌<◌, nat_lt, ⊤, false, Option, None, Some, length, slice_index, if◌then◌else◌}
+use Rattle.std.specs.Prelude.{◌≡◌, ℕ, suc, ◌+◌, ◌-◌, ◌*◌, ◌^◌, ◌<◌, ⊤, false, Option, None, Some, length, slice_index}
 use Rattle.op_core.specs.declared.want.Want.TheVariants as want
 use Rattle.image_layout.specs.Places.{homes, words_of_buckets}
 use Rattle.map_model.specs.declared.call.Call.{Call}
@@ -13,7 +13,7 @@ use Rattle.part.specs.Part.{Part}
 use Rattle.part.specs.Repairs.{HasRepaired}
 use Rattle.whole_segment.specs.Rounds.{most_lines}
 use Rattle.rounds.specs.declared.rounds.Rounds.{Rounds}
-use Rattle.rounds.specs.Left.{rounds_left}
+use Rattle.rounds.specs.Left.{rounds_left, few_left}
 use Rattle.rounds.specs.Waiting.{rounds_waiting}
 use Rattle.repair_op.specs.declared.guarded.Guarded.{Guarded}
 use Rattle.repair_op.specs.Guarded.{RunsHere, IsOld, KeepsRedirected}
@@ -49,7 +49,7 @@ after_stage stage.Note = after_notes
 
 -- while words are stored in rounds, no round has touched more lines than it may
 abbrev pub round_left : Stage → ℕ → Rounds → ℕ
-round_left stage n rounds = if nat_lt most_lines (length rounds.round) then 0 else rounds_left rounds (most stage - n) + after_stage stage
+round_left stage n rounds = few_left rounds (rounds_left rounds (most stage - n) + after_stage stage)
 
 -- the words from one on are loaded, and all stages are to come
 abbrev pub fills_left : ℕ → ℕ
