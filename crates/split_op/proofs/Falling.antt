@@ -3,7 +3,7 @@ use Rattle.std.proofs.Common.{◌≡◌, ◌≢◌, ℕ, suc, ◌+◌, ◌-◌, 
 use Rattle.std.specs.Prelude.{nat_lt, ◌==◌, ◌&&◌, not, min, if◌then◌else◌}
 use Rattle.whole_segment.specs.Rounds.{most_lines}
 use Rattle.image_layout.specs.Places.{Shape, segment_words, buckets, most_segments}
-use Rattle.std.proofs.lemmas.Bool.{ltb-true, ltb-false, le-ltb}
+use Rattle.std.proofs.lemmas.Bool.{ltb-true}
 use Rattle.op_core.specs.declared.want.Want.{Want}
 use Rattle.op_core.specs.declared.want.Want.TheVariants as want
 use Rattle.op_core.specs.declared.want.Ans.{Ans}
@@ -16,7 +16,7 @@ use Rattle.rounds.specs.Steps as round
 use Rattle.rounds.specs.Left.{rounds_left}
 use Rattle.rounds.specs.Waiting.{rounds_waiting}
 use Rattle.rounds.proofs.Wanted.{IsAsked, asked, asked_some}
-use Rattle.rounds.proofs.Falling.{step_most, rounds_fall}
+use Rattle.rounds.proofs.Falling.{step_most, few_is, few_below, few_most, rounds_fall}
 use Rattle.rounds.proofs.Waiting.{most_wait, none_waits, event_ends, event_flushes, event_keeps}
 use Rattle.enclose_op.specs.declared.give.Give.{Give}
 use Rattle.enclose_op.specs.Giving.{given}
@@ -95,12 +95,6 @@ abbrev pub all_left : Batch → Rounds → ℕ
 all_left batch rounds = rounds_left rounds (stores_left batch) + left_behind batch
 
 module _ (shape : Shape) where
-  put_least : (batch : Batch) (rounds : Rounds) → put_left batch rounds ≤ all_left batch rounds
-  put_least batch rounds = choose (λ (n : ℕ). n ≤ all_left batch rounds) (nat_lt most_lines (length rounds.round)) 0 (all_left batch rounds) (λ _. omega arith) (λ _. omega arith)
-
-  put_is : (batch : Batch) (rounds : Rounds) → length rounds.round ≤ most_lines → put_left batch rounds ≡ all_left batch rounds
-  put_is batch rounds few = ap (λ (b : Bool). if b then 0 else all_left batch rounds) (le-ltb most_lines (length rounds.round) few)
-
   finished_left : (batch : Batch) → left_at shape (finished batch) ≤ left_behind batch
   finished_left (Empty i) = omega arith
   finished_left (Link stored) = omega arith
@@ -109,7 +103,7 @@ module _ (shape : Shape) where
   finished_left (Copy i) = omega arith
 
   by_left : (want : Option Want) (batch : Batch) (rounds : Rounds) → left_at shape (put_by want batch rounds) ≤ all_left batch rounds
-  by_left (Some w) batch rounds = put_least batch rounds
+  by_left (Some w) batch rounds = few_below rounds (all_left batch rounds)
   by_left None batch rounds = let few = finished_left batch in omega (arith, few)
 
   to_left : (op : SplitOp) (batch : Batch) (rounds : Rounds) → left_at shape (put_to op batch rounds) ≤ all_left batch rounds
@@ -140,7 +134,7 @@ module _ (shape : Shape) where
     stored_left few wants =
         let low = to_left op (batch_after op batch rounds) (rounds_taken rounds next) in
         let fewer = event_less wants in
-        let is = put_is batch rounds few in
+        let is = few_is rounds (all_left batch rounds) few in
         omega (arith, low, fewer, is)
 
 -- ---- each event
@@ -152,12 +146,11 @@ module _ where
   begun_left : (i : ℕ) → all_left (Copy i) round.begun ≤ 6432
   begun_left i = omega arith
 
-  all_most : (batch : Batch) (rounds : Rounds) → nat_lt most_lines (length rounds.round) ≡ false → all_left batch rounds ≤ 12936
+  all_most : (batch : Batch) (rounds : Rounds) → length rounds.round ≤ most_lines → all_left batch rounds ≤ 12936
   all_most batch rounds few =
-      let low = ltb-false most_lines (length rounds.round) few in
       let stores = stores_most batch in
       let behind = behind_most batch in
-      let round = step_most rounds.round low rounds.step in
+      let round = step_most rounds.round few rounds.step in
       omega (arith, stores, behind, round)
 
   next_slot : (slot last : ℕ) → slot < last → 12935 + (last - (slot + 1)) < 12935 + (last - slot)
@@ -213,8 +206,7 @@ module _ (shape : Shape) where
   most_at Count = omega arith
   most_at (Return count) = omega arith
   most_at (Look b) = omega arith
-  most_at (Put batch rounds) = choose (λ (n : ℕ). n ≤ 12936 + last_slot shape) (nat_lt most_lines (length rounds.round)) 0 (all_left batch rounds) (λ _. omega arith)
-      (λ few. let low = all_most batch rounds few in omega (arith, low))
+  most_at (Put batch rounds) = few_most rounds (all_left batch rounds) (12936 + last_slot shape) (λ few. let low = all_most batch rounds few in omega (arith, low))
   most_at Release = omega arith
   most_at (Back give end) = let few = give_most give in omega (arith, few)
   most_at (Ended end) = omega arith

@@ -1,5 +1,5 @@
 -- The split as a part of a call: how many events are left, where it begins, and what it hands on.
-use Rattle.std.specs.Prelude.{◌≡◌, ◌≢◌, ℕ, ◌+◌, ◌-◌, ◌<◌, ◌≤◌, nat_lt, Bool, true, false, None, List, length, if◌then◌else◌}
+use Rattle.std.specs.Prelude.{◌≡◌, ◌≢◌, ℕ, ◌+◌, ◌-◌, ◌<◌, ◌≤◌, Bool, true, false, None, List}
 use Rattle.op_core.specs.declared.want.Want.TheVariants.{Done}
 use Rattle.whole_segment.specs.Rounds.{most_lines}
 use Rattle.image_layout.specs.Places.{Shape, segment_words, buckets}
@@ -16,7 +16,7 @@ use Rattle.world.specs.StepKinds.{of_structure}
 use Rattle.part.specs.Doings.{Doings}
 use Rattle.part.specs.Part.{Part, Suits, finds, next}
 use Rattle.rounds.specs.declared.rounds.Rounds.{Rounds}
-use Rattle.rounds.specs.Left.{rounds_left}
+use Rattle.rounds.specs.Left.{rounds_left, few_left}
 use Rattle.rounds.specs.Waiting.{rounds_waiting}
 use Rattle.enclose_op.specs.declared.enclosed.Enclosed.{Enclosed}
 use Rattle.enclose_op.specs.Whole.{IsOf, IsWhole, KeepsWhole, RemembersWhole}
@@ -54,7 +54,7 @@ left_behind (Copy number) = 0
 
 -- of a round with more lines than there are, none is wanted
 abbrev pub put_left : Batch → Rounds → ℕ
-put_left batch rounds = if nat_lt most_lines (length rounds.round) then 0 else rounds_left rounds (stores_left batch) + left_behind batch
+put_left batch rounds = few_left rounds (rounds_left rounds (stores_left batch) + left_behind batch)
 
 -- IN AN IMAGE OF THIS SHAPE it makes at most so many: the header of each slot may be loaded
 abbrev pub events_in : Shape → ℕ
