@@ -1,8 +1,8 @@
 -- How many events are left at most, and how many lines wait for a fence.
-use Rattle.std.specs.Prelude.{ℕ, suc, ◌+◌, ◌-◌, ◌*◌, ◌^◌, nat_lt, min, Bool, true, false, length, if◌then◌else◌}
+use Rattle.std.specs.Prelude.{ℕ, suc, ◌+◌, ◌-◌, ◌*◌, ◌^◌, min, Bool, true, false}
 use Rattle.image_layout.specs.Places.{Shape, most_depth}
 use Rattle.whole_segment.specs.Rounds.{most_lines}
-use Rattle.rounds.specs.Left.{rounds_left}
+use Rattle.rounds.specs.Left.{rounds_left, few_left}
 use Rattle.rounds.specs.Waiting.{rounds_waiting}
 use Rattle.directory_op.specs.declared.op.Stage.{Stage}
 use Rattle.directory_op.specs.declared.op.Stage.TheVariants.{Fill, Filled, Deepen, Deepened, GoLive, Live, Enter, Entered}
@@ -51,18 +51,14 @@ guarded_with entries = 2 + 3 * suc entries + entries + 6 + 3 * suc entries + 1
 abbrev pub guarded_left : DirectoryOp → ℕ
 guarded_left op = guarded_with (deepest_entries (shape_of op))
 
--- of a round with more lines than it may have no event is wanted
-abbrev pub few_left : DirectoryOp → ℕ → ℕ
-few_left op left = if nat_lt most_lines (length op.rounds.round) then 0 else left
-
 abbrev pub step_left : DirectoryOp → DirectoryStep → ℕ
 step_left op LoadHead = 3 + guarded_left op
 step_left op LoadSideHead = 2 + guarded_left op
 step_left op TakeGuard = 1 + guarded_left op
 step_left op AskPower = 1 + guarded_left op
 step_left op LoadRoot = guarded_left op
-step_left op (LoadEntry place) = 1 + few_left op (fill_left op place)
-step_left op (Store stage) = few_left op (stage_left op stage)
+step_left op (LoadEntry place) = 1 + few_left op.rounds (fill_left op place)
+step_left op (Store stage) = few_left op.rounds (stage_left op stage)
 step_left op GiveGuard = 1
 step_left op (Ended end) = 0
 

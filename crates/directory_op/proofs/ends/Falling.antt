@@ -15,7 +15,7 @@ use Rattle.rounds.specs.Steps.{begun, rounds_stores, rounds_wanted, rounds_taken
 use Rattle.rounds.specs.Left.{left_at, rounds_left}
 use Rattle.rounds.proofs.Events.{events_end, cases_wanted, none_stored}
 use Rattle.rounds.proofs.Wanted.{asked, asked_some}
-use Rattle.rounds.proofs.Falling.{step_most, rounds_fall}
+use Rattle.rounds.proofs.Falling.{step_most, few_is, few_below, few_most, rounds_fall}
 use Rattle.directory_op.specs.declared.op.DirectoryEnd.TheVariants.{Off}
 use Rattle.directory_op.specs.declared.op.Stage.{Stage}
 use Rattle.directory_op.specs.declared.op.Stage.TheVariants.{Fill, Filled, Deepen, Deepened, GoLive, Live, Enter, Entered}
@@ -24,7 +24,7 @@ use Rattle.directory_op.specs.declared.op.DirectoryStep.TheVariants.{LoadHead, L
 use Rattle.directory_op.specs.declared.op.DirectoryOp.{DirectoryOp}
 use Rattle.directory_op.specs.Places.{entries_of, run_of, side_first, side_last}
 use Rattle.directory_op.specs.Steps.{shape_of, next_store, fill_on, stage_after, settled_to, settled_by, passed_to, passed, wanted_in, power_step, rooted, is_over, with_root, taken_in}
-use Rattle.directory_op.specs.Left.{most_entries, deepest_entries, after_filled, fill_left, stage_left, guarded_with, guarded_left, few_left, step_left, left_of, is_trying}
+use Rattle.directory_op.specs.Left.{most_entries, deepest_entries, after_filled, fill_left, stage_left, guarded_with, guarded_left, step_left, left_of, is_trying}
 use Rattle.directory_op.specs.DirectoryPart.{goes_on, directory_part}
 
 none_some : {A : Type 0} {x : A} → Some x ≡ None → ⊥
@@ -86,23 +86,14 @@ raw_left op (Store stage) = stage_left op stage
 raw_left op GiveGuard = 1
 raw_left op (Ended end) = 0
 
-few_below : (op : DirectoryOp) (left : ℕ) → few_left op left ≤ left
-few_below op left = elim (cases_lt 8 (length op.rounds.round)) [
-  | inl many ↦ subst (λ b. cond b 0 left ≤ left) (sym (lt-ltb 8 (length op.rounds.round) many)) (omega arith)
-  | inr few ↦ subst (λ b. cond b 0 left ≤ left) (sym (le-ltb 8 (length op.rounds.round) few)) (omega arith)
-]
-
-few_is : (op : DirectoryOp) (left : ℕ) → length op.rounds.round ≤ 8 → few_left op left ≡ left
-few_is op left few = ap (λ b. cond b 0 left) (le-ltb 8 (length op.rounds.round) few)
-
 below_raw : (op : DirectoryOp) (step : DirectoryStep) → step_left op step ≤ raw_left op step
 below_raw op LoadHead = omega arith
 below_raw op LoadSideHead = omega arith
 below_raw op TakeGuard = omega arith
 below_raw op AskPower = omega arith
 below_raw op LoadRoot = omega arith
-below_raw op (LoadEntry place) = let low = few_below op (fill_left op place) in omega (arith, low)
-below_raw op (Store stage) = few_below op (stage_left op stage)
+below_raw op (LoadEntry place) = let low = few_below op.rounds (fill_left op place) in omega (arith, low)
+below_raw op (Store stage) = few_below op.rounds (stage_left op stage)
 below_raw op GiveGuard = omega arith
 below_raw op (Ended end) = omega arith
 
@@ -242,7 +233,7 @@ module _ (op : DirectoryOp) where
       let q = asked op.rounds (next_store op stage) a i in
       let fewer = pass_falls stage (asked_some op.rounds (next_store op stage) a q) in
       let below = below_raw (passed op stage) (passed op stage).step in
-      let now = few_is op (stage_left op stage) q.few in
+      let now = few_is op.rounds (stage_left op stage) q.few in
       subst (λ (x : Ans). FallsOrWaits (Store stage) (taken_in op (Store stage) x)) (sym q.passed)
       (inl (omega (arith, fewer, below, now)))
   falls_in GiveGuard Passed i = inl (omega arith)
@@ -261,13 +252,6 @@ module _ (op : DirectoryOp) (few : length op.rounds.round ≤ 8) where
   stage_most (Enter index) = let lines = step_most op.rounds.round few op.rounds.step in let all = few_entries op.root in omega (arith, lines, all)
   stage_most Entered = let lines = step_most op.rounds.round few op.rounds.step in omega (arith, lines)
 
--- at most so many of a round that has no more lines than it may have, and else none
-few_most : (op : DirectoryOp) (left most : ℕ) → (length op.rounds.round ≤ 8 → left ≤ most) → few_left op left ≤ most
-few_most op left most low = elim (cases_lt 8 (length op.rounds.round)) [
-  | inl many ↦ subst (λ b. cond b 0 left ≤ most) (sym (lt-ltb 8 (length op.rounds.round) many)) (omega arith)
-  | inr few ↦ subst (λ b. cond b 0 left ≤ most) (sym (le-ltb 8 (length op.rounds.round) few)) (low few)
-]
-
 module _ (op : DirectoryOp) where
   most_at : (step : DirectoryStep) → step_left op step ≤ 3 + guarded_with most_entries + 8
   most_at LoadHead = let few = few_deepest (shape_of op) in omega (arith, few)
@@ -275,8 +259,8 @@ module _ (op : DirectoryOp) where
   most_at TakeGuard = let few = few_deepest (shape_of op) in omega (arith, few)
   most_at AskPower = let few = few_deepest (shape_of op) in omega (arith, few)
   most_at LoadRoot = let few = few_deepest (shape_of op) in omega (arith, few)
-  most_at (LoadEntry place) = let most = few_most op (fill_left op place) (guarded_with most_entries + 8) (λ few. stage_most op few (Fill place 0)) in omega (arith, most)
-  most_at (Store stage) = let most = few_most op (stage_left op stage) (guarded_with most_entries + 8) (λ few. stage_most op few stage) in omega (arith, most)
+  most_at (LoadEntry place) = let most = few_most op.rounds (fill_left op place) (guarded_with most_entries + 8) (λ few. stage_most op few (Fill place 0)) in omega (arith, most)
+  most_at (Store stage) = let most = few_most op.rounds (stage_left op stage) (guarded_with most_entries + 8) (λ few. stage_most op few stage) in omega (arith, most)
   most_at GiveGuard = omega arith
   most_at (Ended end) = omega arith
 
