@@ -13,7 +13,7 @@ use Rattle.rounds.specs.Steps.{rounds_stores, rounds_wanted}
 use Rattle.rounds.specs.Left.{rounds_left}
 use Rattle.rounds.proofs.Events.{cases_wanted, none_stored}
 use Rattle.rounds.proofs.Wanted.{asked, asked_some}
-use Rattle.rounds.proofs.Falling.{step_most, rounds_fall}
+use Rattle.rounds.proofs.Falling.{step_most, few_is, few_below, few_most, few_less, fewer_stores, rounds_fall}
 use Rattle.directory_op.specs.Places.{entries_of, run_of, side_first}
 use Rattle.directory_op.specs.Left.{most_entries, deepest_entries}
 use Rattle.directory_op.proofs.ends.Falling.{few_entries, entries_within, few_deepest}
@@ -32,21 +32,9 @@ behind_few : (a b i : ℕ) → min a b - 1 - i ≤ b - 1
 behind_few a b i = omega arith
 
 -- ---- what is left
-stores_below : (op : RedirectOp) (stores : ℕ) → stores_left op stores ≤ rounds_left op.rounds stores
-stores_below op stores = elim (cases_lt 8 (length op.rounds.round)) [
-  | inl many ↦ subst (λ b. cond b 0 (rounds_left op.rounds stores) ≤ rounds_left op.rounds stores) (sym (lt-ltb 8 (length op.rounds.round) many)) (omega arith)
-  | inr few ↦ subst (λ b. cond b 0 (rounds_left op.rounds stores) ≤ rounds_left op.rounds stores) (sym (le-ltb 8 (length op.rounds.round) few)) (omega arith)
-]
-
-stores_is : (op : RedirectOp) (stores : ℕ) → length op.rounds.round ≤ 8 → stores_left op stores ≡ rounds_left op.rounds stores
-stores_is op stores few = ap (λ b. cond b 0 (rounds_left op.rounds stores)) (le-ltb 8 (length op.rounds.round) few)
-
 -- one store less is no more
 stores_less : (op : RedirectOp) (fewer more : ℕ) → fewer ≤ more → stores_left op fewer ≤ stores_left op more
-stores_less op fewer more less = elim (cases_lt 8 (length op.rounds.round)) [
-  | inl many ↦ subst (λ b. cond b 0 (rounds_left op.rounds fewer) ≤ cond b 0 (rounds_left op.rounds more)) (sym (lt-ltb 8 (length op.rounds.round) many)) (omega arith)
-  | inr few ↦ subst (λ b. cond b 0 (rounds_left op.rounds fewer) ≤ cond b 0 (rounds_left op.rounds more)) (sym (le-ltb 8 (length op.rounds.round) few)) (omega (arith, less))
-]
+stores_less op fewer more less = few_less op.rounds (rounds_left op.rounds fewer) (rounds_left op.rounds more) (fewer_stores op.rounds fewer more less)
 
 -- behind an entry with which so many stores are to come, no more than one less
 settle_falls : (op : RedirectOp) (most : ℕ) → stores_left op 0 + 1 < most → 2 < most → left_at op (settle_by (rounds_wanted op.rounds None)) < most
@@ -91,28 +79,28 @@ module _ (op : RedirectOp) (index : ℕ) where
 
   store_falls : op.step ≡ Store index → length op.rounds.round ≤ 8 → rounds_wanted op.rounds next ≢ None → left_of (stored op index) < left_at op (Store index)
   store_falls at few some =
-      let now = stores_is op (suc m) few in
+      let now = few_is op.rounds (rounds_left op.rounds (suc m)) few in
       elim (cases_Bool (rounds_stores op.rounds next)) [
         | inl on ↦
             let law = rounds_fall.stores op.rounds next m on in
-            let low = stores_below later m in
+            let low = few_below later.rounds (rounds_left later.rounds m) in
             subst (λ b. left_of (stored_by b later index) < left_at op (Store index)) (sym on) (behind_falls later index (left_at op (Store index)) (omega (arith, law, low, now)))
         | inr off ↦
             let law = rounds_fall.others op.rounds next (suc m) some off in
-            let low = stores_below later (suc m) in
+            let low = few_below later.rounds (rounds_left later.rounds (suc m)) in
             subst (λ b. left_of (stored_by b later index) < left_at op (Store index)) (sym off) (subst (λ t. left_at later t < left_at op (Store index)) (sym at) (omega (arith, law, low, now)))
       ]
 
 -- all is settled
 settling_falls : (op : RedirectOp) → length op.rounds.round ≤ 8 → rounds_wanted op.rounds None ≢ None → left_of (settled op) < left_at op Settle
 settling_falls op few some =
-    let now = stores_is op 0 few in
+    let now = few_is op.rounds (rounds_left op.rounds 0) few in
     elim (cases_Bool (rounds_stores op.rounds None)) [
       | inl on ↦ absurd (none_stored op.rounds on)
       | inr off ↦
           let later : RedirectOp = with_rounds op None in
           let law = rounds_fall.others op.rounds None 0 some off in
-          let low = stores_below later 0 in
+          let low = few_below later.rounds (rounds_left later.rounds 0) in
           elim (cases_wanted (rounds_wanted later.rounds None)) [
             | inl none ↦ subst (λ (o : Option Want). left_at later (settled_to o) < left_at op Settle) (sym none) (omega (arith, law, now))
             | inr more ↦ subst (λ (o : Option Want). left_at later (settled_to o) < left_at op Settle) (sym more.1) (omega (arith, law, low, now))
@@ -170,10 +158,7 @@ falls_at op (Ended end) a at i = absurd i
 
 -- ---- at most so many
 stores_most : (op : RedirectOp) (stores : ℕ) → stores_left op stores ≤ 3 * stores + 9
-stores_most op stores = elim (cases_lt 8 (length op.rounds.round)) [
-  | inl many ↦ subst (λ b. cond b 0 (rounds_left op.rounds stores) ≤ 3 * stores + 9) (sym (lt-ltb 8 (length op.rounds.round) many)) (omega arith)
-  | inr few ↦ subst (λ b. cond b 0 (rounds_left op.rounds stores) ≤ 3 * stores + 9) (sym (le-ltb 8 (length op.rounds.round) few)) (let lines = step_most op.rounds.round few op.rounds.step in omega (arith, lines))
-]
+stores_most op stores = few_most op.rounds (rounds_left op.rounds stores) (3 * stores + 9) (λ few. let lines = step_most op.rounds.round few op.rounds.step in omega (arith, lines))
 
 -- behind an entry come fewer than an area has
 behind_most : (op : RedirectOp) (index : ℕ) → suc (entries_behind op index) ≤ most_entries

@@ -1,8 +1,8 @@
 -- How many events are left at most, and how many lines wait for a fence.
-use Rattle.std.specs.Prelude.{ℕ, suc, ◌+◌, ◌-◌, ◌*◌, nat_lt, length, if◌then◌else◌}
+use Rattle.std.specs.Prelude.{ℕ, suc, ◌+◌, ◌-◌, ◌*◌}
 use Rattle.image_layout.specs.Places.{Shape}
 use Rattle.whole_segment.specs.Rounds.{most_lines}
-use Rattle.rounds.specs.Left.{rounds_left}
+use Rattle.rounds.specs.Left.{rounds_left, few_left}
 use Rattle.rounds.specs.Waiting.{rounds_waiting}
 use Rattle.directory_op.specs.Left.{most_entries, deepest_entries}
 use Rattle.redirect_op.specs.declared.step.RedirectStep.{RedirectStep}
@@ -20,9 +20,9 @@ rooted_with entries = 5 * entries + 3
 abbrev pub entries_behind : RedirectOp → ℕ → ℕ
 entries_behind op index = last_entry op - index
 
--- with so many stores to come; of a round with more lines than it may have no event is wanted
+-- with so many stores to come
 abbrev pub stores_left : RedirectOp → ℕ → ℕ
-stores_left op stores = if nat_lt most_lines (length op.rounds.round) then 0 else rounds_left op.rounds stores
+stores_left op stores = few_left op.rounds (rounds_left op.rounds stores)
 
 abbrev pub left_at : RedirectOp → RedirectStep → ℕ
 left_at op Guard = suc (rooted_with (deepest_entries (shape_of op)))
