@@ -14,10 +14,6 @@ use Rattle.rounds.specs.Left.{round_left, left_at, rounds_left, few_left}
 use Rattle.rounds.specs.Laws.{RoundsFall}
 use Rattle.rounds.proofs.Events.{no_false, event_cases, some_store, cases_wanted}
 
--- the fewer stores are left, the fewer events are
-pub fewer_stores : (rounds : Rounds) (n m : ℕ) → n ≤ m → rounds_left rounds n ≤ rounds_left rounds m
-fewer_stores rounds n m low = omega (arith, low)
-
 -- ---- what a round has left
 module _ (lines : List ℕ) where
   left_some : 0 < length lines → round_left lines ≡ length lines + 1
