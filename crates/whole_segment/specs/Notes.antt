@@ -2,8 +2,8 @@
 use Rattle.std.specs.Prelude.{◌≡◌, ℕ, ◌+◌, ◌%◌, ◌^◌, ◌==◌, ◌&&◌, List, [], ◌∷◌, ◌++◌, if◌then◌else◌}
 use Rattle.std.specs.List.{flat_map}
 use Rattle.hash_word.specs.Hash.{home_of, finger_of, probing_of}
-use Rattle.bucket_meta.specs.Bucket.{allocated, note_used, note_member, note_index, note_finger, overflow_count, record_slots}
-use Rattle.bucket_meta.specs.Notes.{OverflowNote, numbers_below, notes_on, AreExact, notes_by}
+use Rattle.bucket_meta.specs.Bucket.{allocated, overflow_count, record_slots}
+use Rattle.bucket_meta.specs.Notes.{OverflowNote, numbers_below, AreExact, notes_by}
 use Rattle.image_layout.specs.Places.{homes}
 use Rattle.stash.specs.Segment.{Stashed}
 

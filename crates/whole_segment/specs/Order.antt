@@ -1,6 +1,6 @@
 -- The order in which a key is looked for in a segment: its home, its probing bucket, and the two stash buckets, slots ascending. So
 -- there are 56 positions, of 14 slots each.
-use Rattle.std.specs.Prelude.{◌≡◌, ℕ, zero, suc, ◌+◌, ◌%◌, ◌<◌, nat_lt, Bool, false, ◌==◌, ◌&&◌, ◌||◌, if◌then◌else◌}
+use Rattle.std.specs.Prelude.{◌≡◌, ℕ, zero, suc, ◌+◌, ◌*◌, ◌%◌, ◌<◌, nat_lt, Bool, false, ◌==◌, ◌&&◌, ◌||◌, if◌then◌else◌}
 use Rattle.hash_word.specs.Hash.{probing_of, home_of}
 use Rattle.bucket_meta.specs.Bucket.{allocated, record_slots}
 use Rattle.image_layout.specs.Places.{homes}
