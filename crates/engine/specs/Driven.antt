@@ -119,6 +119,8 @@ pub record LeavesNothing (site : Ground) (start : Words) (core : Core) (h : Core
   pub there : slice_get (turn site.shape (suc j) core).callers j ≡ Some caller
   pub entries : caller.entries ≡ c.entries
   pub drew : caller.drew ≡ None
+  -- and its call has begun, so that it is told as open wherever the power is cut
+  pub begun : caller.begun ≡ true
   pub pairs : (k : ℕ) → find site.shape (turn site.shape (suc j) core).words k ≡ find site.shape core.words k
 
 -- AN ATTEMPT THAT ENDS WITHOUT A REPLY, in Again, with a segment that is to be split or repaired, or with a split or a repair, leaves nothing behind

@@ -46,6 +46,7 @@ record LeavesBy (site : Ground) (start : Words) (j : ℕ) (c : Caller) (seen : �
   pub there : slice_get later.callers j ≡ Some caller
   pub entries : caller.entries ≡ c.entries
   pub drew : caller.drew ≡ None
+  pub begun : caller.begun ≡ true
 
 module _ (laws : TurnLaws) (leaves : TurnLeavesOrMakes) (as_done : EndsAsDone) (site : Ground) (start : Words) (core : Core) (h : CoreHolds site start core) (j : ℕ) (e : Engine)
     (n : IsNext (watched core) j e) (ends : wanted (engine_next site.shape core.words e) ≡ want.Done) (none : reply_of_end (end_of (engine_next site.shape core.words e)) ≡ None) where
@@ -113,6 +114,7 @@ module _ (laws : TurnLaws) (leaves : TurnLeavesOrMakes) (as_done : EndsAsDone) (
           there = z.1;
           entries = ap (λ (x : Caller). x.entries) (sym is);
           drew = ap (λ (x : Caller). x.drew) (sym is);
+          begun = ap (λ (x : Caller). x.begun) (sym is);
         }
 
     turned : after ≡ turn site.shape (suc j) core
@@ -137,6 +139,7 @@ module _ (laws : TurnLaws) (leaves : TurnLeavesOrMakes) (as_done : EndsAsDone) (
           there = l.there;
           entries = l.entries;
           drew = l.drew;
+          begun = l.begun;
           pairs = pairs;
         }
 
