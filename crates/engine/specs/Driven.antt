@@ -12,8 +12,9 @@ use Rattle.bucket_words.specs.Hits.{find}
 use Rattle.map_model.specs.declared.call.Call.{Call}
 use Rattle.world.specs.declared.site.Site.{Site}
 use Rattle.world.specs.Ground.{Ground}
-use Rattle.world.specs.Views.{View, At}
+use Rattle.world.specs.Views.{View, Has, At}
 use Rattle.world.specs.Attempts.{HoldsOnly}
+use Rattle.world.specs.areas.Areas.{Directory}
 use Rattle.part.specs.Doings.{IsStill}
 use Rattle.engine.specs.declared.engine.Engine.{Engine}
 use Rattle.engine.specs.Engine.{begun, wanted, end_of, reply_of_end, is_again, IsFresh, anew}
@@ -42,7 +43,7 @@ module _ (shape : Shape) (words : Words) (e : Engine) where
   abbrev pub waits_now : Bool
   waits_now = waits_after shape (wanted e) (answer_now shape words e) (engine_next shape words e)
 
--- another caller than that at place j is in the midst of an attempt, and does not wait for the guard itself
+-- another caller than that at place j has the guard, is in the midst of an attempt, and does not wait for the guard itself
 pub record IsHeldByOther (core : Core) (j : ℕ) : Type 0 where
   pub place : ℕ
   pub elsewhere : place ≢ j
@@ -52,6 +53,13 @@ pub record IsHeldByOther (core : Core) (j : ℕ) : Type 0 where
   pub runs : caller.engine ≡ Some engine
   pub midst : IsFresh caller.site engine → ⊥
   pub goes_on : op_part.is_waiting engine.op ≡ false
+  -- the guard is its own, by its view in what holds of the core
+  pub site : Ground
+  pub start : Words
+  pub holds : CoreHolds site start core
+  pub view : View
+  pub seated : At holds.views place view
+  pub has : Has Directory view.areas
 
 -- WHO TRIES IN VAIN FOR THE GUARD, a split or a repair, finds it with such a caller
 abbrev pub TriesAreOthers : Type 0

@@ -274,10 +274,10 @@ module _ (wins : WinsWhereFree) (site : Ground) (here : Site) (call : Call) (v :
 
 -- ---- who has it
 module _ (bare : BeginsBare) (wins : WinsWhereFree) (site : Ground) (start : Words) (core : Core) (h : CoreHolds site start core) (j : ℕ) where
-  runs_it : (k : ℕ) → k ≢ j → (c : Caller) → slice_get core.callers k ≡ Some c → (u : View) → Has Directory u.areas → (o : Option Engine) → c.engine ≡ o → DoesCall site c o u
+  runs_it : (k : ℕ) → k ≢ j → (c : Caller) → slice_get core.callers k ≡ Some c → (u : View) → At h.views k u → Has Directory u.areas → (o : Option Engine) → c.engine ≡ o → DoesCall site c o u
       → IsHeldByOther core j
-  runs_it k apart c at u has None runs through = absurd (none_has u through.nothing.areas has)
-  runs_it k apart c at u has (Some e) runs calling = record {
+  runs_it k apart c at u seat has None runs through = absurd (none_has u through.nothing.areas has)
+  runs_it k apart c at u seat has (Some e) runs calling = record {
     place = k;
     elsewhere = apart;
     caller = c;
@@ -289,13 +289,19 @@ module _ (bare : BeginsBare) (wins : WinsWhereFree) (site : Ground) (start : Wor
       | inl waits ↦ absurd (waits_without wins site c.site calling.call u e.op waits calling.suits.suits.stands has)
       | inr none ↦ none
     ];
+    site = site;
+    start = start;
+    holds = h;
+    view = u;
+    seated = seat;
+    has = has;
   }
 
   by_seat : (k : ℕ) (u : View) → At (fresh_view 0 ∷ h.views) k u → k ≢ suc j → Has Directory u.areas → IsHeldByOther core j
   by_seat zero u seat apart has = absurd (none_has u (ap (λ (x : View). x.areas) (sym (some-injective (fresh_view 0) u seat))) has)
   by_seat (suc k) u seat apart has =
       let z = caller_at site core.callers h.views k u h.each seat in
-      runs_it k (λ same. apart (ap suc same)) z.0 z.1 u has z.0.engine refl z.2.does
+      runs_it k (λ same. apart (ap suc same)) z.0 z.1 u seat has z.0.engine refl z.2.does
 
 module _ (laws : CallCauses) (bare : BeginsBare) (wins : WinsWhereFree) (opens : OpenedHolds) (keeps : TurnKeeps) (shape : Shape) (words : List ℕ) (image : IsServedImage shape words)
     (scripts : List (List Call)) (are : AreScripts scripts) (turns : List ℕ) (j : ℕ) (e : Engine) (n : IsNext (there opens keeps shape words image scripts are turns) j e) where
