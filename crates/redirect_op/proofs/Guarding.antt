@@ -20,7 +20,7 @@ use Rattle.repair_op.specs.declared.guarded.Guarded.{Guarded}
 use Rattle.repair_op.specs.Guarded.{KnowsReadySide, HasState, HasDeepEntries, KeepsGuarded, KeepsRedirected}
 use Rattle.repair_op.specs.Stands.{HoldsGuard}
 use Rattle.repair_op.proofs.Holding.{has_area, was_area}
-use Rattle.repair_op.proofs.Storing.{header_in, link_in}
+use Rattle.world.proofs.fitting.OneHolder.{head_in_slot, link_in_slot}
 use Rattle.rounds.proofs.Settling.{settled_firm}
 use Rattle.directory_op.proofs.Words.{slot_behind}
 use Rattle.redirect_op.specs.declared.step.RedirectStep.TheVariants.{Guard}
@@ -113,7 +113,7 @@ module _ (site : Ground) (ground : IsGround site) (here : Site) (call : Call) (o
       side_left = record {
         splits = s.guarding.ready.splits;
         slot = s.guarding.ready.slot;
-        linked = known_left (link_word shape g.segment) (suc s.guarding.side) (link_in shape g.segment) s.guarding.ready.linked;
+        linked = known_left (link_word shape g.segment) (suc s.guarding.side) (link_in_slot shape g.segment) s.guarding.ready.linked;
         begins = said _ refl s.guarding.ready.begins;
         lacks = said _ refl s.guarding.ready.lacks;
       }
@@ -125,7 +125,7 @@ module _ (site : Ground) (ground : IsGround site) (here : Site) (call : Call) (o
           old = s.guarding.old;
           areas = ap (all_but is_of_directory) s.guarding.holds.areas_are;
           no_locks = s.guarding.holds.no_locks;
-          header = known_left (header_word shape g.segment) g.head (header_in shape g.segment) s.guarding.header;
+          header = known_left (header_word shape g.segment) g.head (head_in_slot shape g.segment) s.guarding.header;
           known = λ p has. (let k = out_of_directory_has shape p.0 p.1 v.known has in elim (s.guarding.known p k.1) [ inl of_head ↦ of_head | inr front ↦ absurd (k.0 front) ]);
           state = subst (λ (o : Option ℕ). HasState site g o left) (sym s.guarding.side_is) side_left;
           quiet = record {

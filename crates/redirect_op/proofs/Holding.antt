@@ -15,7 +15,8 @@ use Rattle.world.specs.areas.Repairing.{HasStale, HasReadySideOf}
 use Rattle.world.proofs.holders.repairing.Redirecting.{may_redirect}
 use Rattle.repair_op.specs.declared.guarded.Guarded.{Guarded}
 use Rattle.repair_op.proofs.Holding.{has_area, was_area, stale_held}
-use Rattle.repair_op.proofs.Storing.{header_in, link_in, fence_may}
+use Rattle.world.proofs.fitting.OneHolder.{head_in_slot, link_in_slot}
+use Rattle.repair_op.proofs.Storing.{fence_may}
 use Rattle.directory_op.proofs.Words.{entry_no_root, entry_no_slot, slot_behind}
 use Rattle.redirect_op.specs.Stands.{facts_of, directory_areas, IsGuarding, IsRooted, IsOfSide, Names, LeadsBehind, LeadsPast}
 
@@ -45,7 +46,7 @@ module _ (site : Ground) (here : Site) (g : Guarded) (Still : ℕ → Type 0) (v
     ready = record {
       splits = s.ready.splits;
       slot = s.ready.slot;
-      linked = k.known (link_word site.shape g.segment) (suc s.side) (slot_still (link_word site.shape g.segment) (link_in site.shape g.segment)) s.ready.linked;
+      linked = k.known (link_word site.shape g.segment) (suc s.side) (slot_still (link_word site.shape g.segment) (link_in_slot site.shape g.segment)) s.ready.linked;
       begins = k.facts _ s.ready.begins;
       lacks = k.facts _ s.ready.lacks;
     };
@@ -56,7 +57,7 @@ module _ (site : Ground) (here : Site) (g : Guarded) (Still : ℕ → Type 0) (v
       moving = k.moving ∙ s.holds.moving;
       owed = k.owed ∙ s.holds.owed;
     };
-    header = k.known (header_word site.shape g.segment) g.head (slot_still (header_word site.shape g.segment) (header_in site.shape g.segment)) s.header;
+    header = k.known (header_word site.shape g.segment) g.head (slot_still (header_word site.shape g.segment) (head_in_slot site.shape g.segment)) s.header;
     known = λ p has. elim (k.only p has) [ inl was ↦ s.known p was | inr new ↦ inr new ];
   }
 
@@ -122,7 +123,7 @@ module _ (site : Ground) (ground : IsGround site) (here : Site) (g : Guarded) (r
 
   mine : HasStale site v g.segment word
   mine = stale_held site g v (directory_areas site here g) word guarding.old guarding.holds (inr (inr (inl refl))) (inr (inl refl)) refl
-      (record { known = guarding.header; firm = λ y is. firm_slot (header_word site.shape g.segment) y (header_in site.shape g.segment) is })
+      (record { known = guarding.header; firm = λ y is. firm_slot (header_word site.shape g.segment) y (head_in_slot site.shape g.segment) is })
 
   has_side : HasReadySideOf site v g.segment guarding.side root word
   has_side = record {
@@ -130,7 +131,7 @@ module _ (site : Ground) (ground : IsGround site) (here : Site) (g : Guarded) (r
     no_sides = none_sides site here g v guarding;
     into = record {
       splits = guarding.ready.splits;
-      linked = record { known = guarding.ready.linked; firm = λ y is. firm_slot (link_word site.shape g.segment) y (link_in site.shape g.segment) is };
+      linked = record { known = guarding.ready.linked; firm = λ y is. firm_slot (link_word site.shape g.segment) y (link_in_slot site.shape g.segment) is };
     };
     directory = has_directory site here g v guarding;
     root = record { known = r.known; firm = firm_root };
