@@ -2,8 +2,7 @@
 use Rattle.std.specs.Prelude.{ℕ, ◌+◌, ◌%◌, ◌^◌, ◌&&◌, nat_lt, Option, None, Some, slice_index, if◌then◌else◌}
 use Rattle.op_core.specs.declared.want.Want.{Want}
 use Rattle.op_core.specs.declared.want.Want.TheVariants.{Store}
-use Rattle.image_layout.specs.Places.{Shape, root_word, buckets}
-use Rattle.image_layout.specs.Volatile.{segment_guard}
+use Rattle.image_layout.specs.Places.{buckets}
 use Rattle.way.specs.Ways.{bucket_word, slot_guard}
 use Rattle.enclose_op.specs.declared.enclosed.Enclosed.{Enclosed}
 use Rattle.enclose_op.specs.declared.give.Give.{Give}

@@ -10,6 +10,9 @@ use Rattle.sound_image.specs.Records.{key_hash}
 use Rattle.map_model.specs.declared.call.Call.{Call}
 use Rattle.map_model.specs.Map.{key_of}
 use Rattle.map_model.specs.declared.entry.Reply.{Reply}
+use Rattle.world.specs.Ground.{Ground}
+use Rattle.world.specs.Views.{View, Has, At, HasLock}
+use Rattle.world.specs.areas.Kinds.{Guard, guard_word, area_of}
 use Rattle.part.specs.Doings.{Doings, nothing_done, IsStill}
 use Rattle.part.specs.Outcomes.{Outcome, again, stale, need_split, finished, reply_of}
 use Rattle.part.specs.Room.{HasNoRoom}
@@ -20,6 +23,7 @@ use Rattle.engine.specs.Engine.{wanted, end_of, outcome_of_end, reply_of_end, Is
 use Rattle.engine.specs.Left.{is_stale, is_renewed, events_left, events_of_call}
 use Rattle.engine.specs.OpPart.{op_part}
 use Rattle.engine.specs.Core.{Caller, Core, current}
+use Rattle.engine.specs.Holding.{CoreHolds}
 use Rattle.engine.specs.Laws.{IsServedImage, opened, AreScripts}
 use Rattle.engine.specs.Causes.{Watched, watched, engine_next, watched_turn, watched_run, Decides}
 
@@ -102,18 +106,30 @@ module _ (shape : Shape) (words : List ℕ) (scripts : List (List Call)) where
 abbrev pub AlongTurns : (Shape → List ℕ → List (List Call) → List ℕ → Type 0) → Type 0
 AlongTurns P = (shape : Shape) (words : List ℕ) → IsServedImage shape words → (scripts : List (List Call)) → AreScripts scripts → (turns : List ℕ) → P shape words scripts turns
 
--- WHO FINDS A LOCK OR A GUARD TAKEN is told so of another caller's, that is in the midst of an attempt
-pub record IsOthers (core : Core) (j : ℕ) : Type 0 where
+-- a view has the lock of this word, or the guard of which it is the word
+pub data HasTaken (shape : Shape) (v : View) (word : ℕ) : Type 0 where
+  has_lock : HasLock v.held word → HasTaken shape v word
+  has_guard : (guard : Guard) → word ≡ guard_word shape guard → Has (area_of guard) v.areas → HasTaken shape v word
+
+-- WHO FINDS A LOCK OR A GUARD TAKEN, by its word, is told so of another caller's, that is in the midst of an attempt
+pub record IsOthers (core : Core) (j word : ℕ) : Type 0 where
   pub place : ℕ
   pub elsewhere : place ≢ j
   pub caller : Caller
   pub there : slice_get core.callers place ≡ Some caller
   pub midst : IsBetween caller → ⊥
+  -- it has it, by its view in what holds of the core
+  pub site : Ground
+  pub start : Words
+  pub holds : CoreHolds site start core
+  pub view : View
+  pub seated : At holds.views place view
+  pub has : HasTaken site.shape view word
 
 abbrev pub BusyIsOthers : Type 0
 BusyIsOthers = AlongTurns (λ shape words scripts turns. (j : ℕ) (c : Caller) (call : Call) (e : Engine) (word value : ℕ)
     → slice_get (along shape words scripts turns).core.callers j ≡ Some c → current c ≡ Some call → c.engine ≡ Some e
-    → Decides shape (along shape words scripts turns).core.words e (again (Busy word value)) → IsOthers (along shape words scripts turns).core j)
+    → Decides shape (along shape words scripts turns).core.words e (again (Busy word value)) → IsOthers (along shape words scripts turns).core j word)
 
 -- AT THE BEGINNING all callers rest, and each is alone
 abbrev pub AllRestAtStart : Type 0

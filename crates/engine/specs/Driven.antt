@@ -110,7 +110,7 @@ BegunIsDue = (shape : Shape) (words : Words) (here : Site) (call : Call) → IsD
 
 -- ---- what an end leaves
 -- NOTHING IS LEFT BEHIND by the attempt of the caller at place j that ends with this turn: the caller holds and owes nothing, has drawn nothing, was
--- told what it had been told, and has seen what it had seen when the attempt began; and each key has what it had
+-- told what it had been told, and has seen no more by this turn; and each key has what it had
 pub record LeavesNothing (site : Ground) (start : Words) (core : Core) (h : CoreHolds site start core) (j : ℕ) (c : Caller) (e : Engine) : Type 0 where
   -- the view of the caller before the turn
   pub before : View

@@ -49,8 +49,8 @@ pub fn driven_calls_end()
     single::never_again_alone();
 }
 
-/// An attempt that ends without a reply leaves nothing behind: its caller holds and owes nothing, has drawn nothing, and was told and has seen what
-/// it had before the attempt; and the turn by which it ends leaves the pairs. That all turns of the attempt do is what
+/// An attempt that ends without a reply leaves nothing behind: its caller holds and owes nothing, has drawn nothing, was told what it had
+/// been told, and has seen no more by the turn that ends it, which leaves the pairs; and its call has begun. That all turns of the attempt do is what
 /// [`crate::refusals_leave_pairs`] says.
 pub fn ends_leave_nothing()
     ensures { EndsLeaveNothing }

@@ -1,5 +1,5 @@
 -- The three stages in which words are stored: which words each may change, one after another, and what they are to be.
-use Rattle.std.specs.Prelude.{ℕ, zero, suc, ◌+◌, ◌*◌, ◌/◌, ◌%◌, Bool, List, if◌then◌else◌}
+use Rattle.std.specs.Prelude.{ℕ, ◌+◌, ◌*◌, ◌/◌, ◌%◌, List}
 use Rattle.image_layout.specs.Places.{Shape, homes, buckets, block, words_of_buckets}
 use Rattle.whole_segment.specs.Words.{words_by}
 use Rattle.mend_op.specs.declared.stage.Stage.{Stage}

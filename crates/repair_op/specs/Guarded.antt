@@ -3,7 +3,6 @@ use Rattle.std.specs.Prelude.{◌≡◌, ◌≢◌, ℕ, ⊤, suc, ◌^◌, ◌<
 use Rattle.trace.specs.Events.{Words}
 use Rattle.segment_head.specs.HeadWord.{version_in, state_in, depth_in, normal, splitting}
 use Rattle.image_layout.specs.Places.{Shape, root_word}
-use Rattle.image_layout.specs.Volatile.{segment_guard}
 use Rattle.frame_facts.specs.Facts.{Lacks, Deep, Begins}
 use Rattle.map_model.specs.declared.call.Call.{Call}
 use Rattle.world.specs.declared.site.Site.{Site}

@@ -1,5 +1,5 @@
 -- What the rest of a split wants in each step, and what an answer makes of it; and how it ends.
-use Rattle.std.specs.Prelude.{ℕ, zero, suc, ◌+◌, ◌-◌, ◌*◌, ◌/◌, ◌%◌, ◌^◌, ◌==◌, not, nat_lt, Bool, true, false, Option, None, Some, List, slice_index, if◌then◌else◌}
+use Rattle.std.specs.Prelude.{ℕ, ◌+◌, ◌-◌, ◌*◌, ◌/◌, ◌%◌, ◌^◌, ◌==◌, not, nat_lt, Bool, true, false, Option, None, Some, List, slice_index, if◌then◌else◌}
 use Rattle.trace.specs.Events.{line_of}
 use Rattle.segment_head.specs.HeadWord.{version_in, depth_in, pattern_in, header_of, normal}
 use Rattle.image_layout.specs.Places.{homes, buckets}

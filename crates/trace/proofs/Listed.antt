@@ -1,5 +1,5 @@
 -- Membership of a list by its first element and the rest, and that it is the library's.
-use Rattle.std.proofs.Common.{◌≡◌, ℕ, zero, suc, ◌<◌, ◌⊎◌, inl, inr, List, [], ◌∷◌, length, get_or, sym, arith}
+use Rattle.std.proofs.Common.{◌≡◌, ℕ, zero, suc, ◌<◌, inl, inr, List, [], ◌∷◌, length, get_or, sym, arith}
 use Rattle.std.specs.Prelude.{Contains}
 use Rattle.trace.specs.Listed.{Has}
 

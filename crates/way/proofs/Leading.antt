@@ -1,6 +1,6 @@
 -- A header leads to a hash where it is that of a normal segment, has a depth of at most 64, and its pattern is the hash's top bits.
-use Rattle.std.proofs.Common.{◌≡◌, ℕ, ◌≤◌, Bool, true, false}
-use Rattle.std.specs.Prelude.{◌==◌, ◌&&◌, nat_le}
+use Rattle.std.proofs.Common.{◌≡◌, ℕ, ◌≤◌, true}
+use Rattle.std.specs.Prelude.{◌==◌, nat_le}
 use Rattle.std.proofs.lemmas.Bool.{eq-eqb, eqb-true, le-leb, leb-true, and_parts}
 use Rattle.std.specs.Cmp.Derive.{both_true}
 use Rattle.hash_word.specs.Hash.{top}

@@ -1,5 +1,5 @@
 -- A bucket has a free slot, by its metadata word, exactly where fewer than fourteen slots are taken.
-use Rattle.std.proofs.Common.{◌≡◌, ℕ, ◌^◌, ◌<◌, ◌≤◌, Option, None, Some, refl, sym, ap, ◌∙◌, arith, zero-add, count_ones}
+use Rattle.std.proofs.Common.{◌≡◌, ℕ, ◌<◌, ◌≤◌, Option, None, Some, refl, sym, ap, ◌∙◌, arith, zero-add, count_ones}
 use Rattle.std.proofs.lemmas.Nat.{ones-le}
 use Rattle.word_bits.specs.Bits.{bits, bit}
 use Rattle.word_bits.proofs.OneBit.{bit_of_bits}

@@ -1,5 +1,5 @@
 -- The marks of a slot leave the upper part of the metadata word, which has the overflow notes, and are words.
-use Rattle.std.proofs.Common.{◌≡◌, ℕ, ◌+◌, ◌-◌, ◌/◌, ◌%◌, ◌^◌, ◌<◌, ◌≤◌, cond, ◌∙◌, ap, sym, subst, arith, bit_and, bit_or}
+use Rattle.std.proofs.Common.{◌≡◌, ℕ, ◌+◌, ◌-◌, ◌/◌, ◌%◌, ◌^◌, ◌<◌, cond, ◌∙◌, ap, sym, subst, arith, bit_and, bit_or}
 use Rattle.std.specs.Int.{bit_not, w64}
 use Rattle.std.proofs.lemmas.Bool.{lt-ltb}
 use Rattle.std.proofs.lemmas.Nat.{and_shr, or_shr, and_mask, and_le_l, and_le_r, or_lt, or_disjoint, pow_below}

@@ -1,11 +1,11 @@
 -- A note is put on a note slot in the words of its bucket: its own bits alone change.
-use Rattle.std.proofs.Common.{◌≡◌, ◌≢◌, ℕ, zero, suc, ◌+◌, ◌-◌, ◌*◌, ◌/◌, ◌%◌, ◌^◌, ◌<◌, ◌≤◌, Bool, true, false, refl, ap, sym, ◌∙◌, subst, arith, bit_and, bit_or}
+use Rattle.std.proofs.Common.{◌≡◌, ◌≢◌, ℕ, zero, suc, ◌+◌, ◌-◌, ◌*◌, ◌/◌, ◌%◌, ◌^◌, ◌<◌, Bool, true, false, refl, ap, ◌∙◌, arith, bit_and, bit_or}
 use Rattle.std.specs.Prelude.{◌==◌, if◌then◌else◌}
 use Rattle.std.specs.Int.{bit_not, w64}
 use Rattle.std.proofs.lemmas.Nat.{and_shr, and_mod, and_mask, and_le_l, and_le_r, or_shr, or_mod, or_lt, or_disjoint}
 use Rattle.word_bits.specs.Bits.{bits, bit, mask}
 use Rattle.word_bits.proofs.OneBit.{set_same, set_other, clear_same, clear_other}
-use Rattle.bucket_meta.specs.Bucket.{note_used, note_member, note_index, note_finger, overflow_count}
+use Rattle.bucket_meta.specs.Bucket.{note_finger}
 use Rattle.bucket_meta.specs.NoteWords.{with_bit, with_note_finger, noted_mark, noted_fingers, KeepsOtherPlaces, FillsPlace}
 use Rattle.bucket_meta.proofs.Fingers.{byte_there, sets_low}
 use Rattle.bucket_meta.proofs.notes.Freed.{above, below, fits_less, low_used, low_member, low_index, low_count, low_slots, high_count, high_third, high_fourth, six_bytes}

@@ -3,7 +3,7 @@ use Rattle.std.proofs.Common.{◌≡◌, ℕ, zero, suc, ◌+◌, ◌/◌, ◌^�
 use Rattle.std.specs.Prelude.{◌==◌, ◌&&◌, if◌then◌else◌}
 use Rattle.std.proofs.lemmas.Bool.{cases_eq}
 use Rattle.hash_word.specs.Hash.{probing_of}
-use Rattle.bucket_meta.specs.Notes.{OverflowNote, notes_on, AreExact, notes_by}
+use Rattle.bucket_meta.specs.Notes.{OverflowNote, AreExact, notes_by}
 use Rattle.bucket_meta.specs.Bucket.{note_used, note_member, note_index, note_finger, overflow_count}
 use Rattle.stash.proofs.Counts.{same_pieces}
 use Rattle.trace.specs.Events.{Words, with_word}

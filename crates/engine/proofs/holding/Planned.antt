@@ -1,6 +1,6 @@
 -- What a caller in the midst of a call has planned is its call's change, and then it has no new entry; and it never has more
 -- than one new entry.
-use Rattle.std.proofs.Common.{◌≡◌, ℕ, ◌≤◌, suc, Option, None, Some, List, [], ◌∷◌, ◌++◌, length, ap, ◌∙◌, subst, arith, length-append}
+use Rattle.std.proofs.Common.{◌≡◌, ℕ, ◌≤◌, suc, Option, None, Some, List, [], ◌∷◌, ◌++◌, length, ap, ◌∙◌, arith, length-append}
 use Rattle.map_model.specs.declared.call.Call.{Call}
 use Rattle.map_model.specs.declared.entry.Reply.{Reply}
 use Rattle.map_model.specs.declared.entry.Entry.{Entry}

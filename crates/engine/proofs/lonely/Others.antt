@@ -62,7 +62,7 @@ use Rattle.engine.specs.Core.{Caller, Core, current}
 use Rattle.engine.specs.Holding.{IsCalling, DoesCall, CallerFits, CoreHolds, TurnKeeps}
 use Rattle.engine.specs.Laws.{IsServedImage, OpenedHolds, AreScripts}
 use Rattle.engine.specs.Causes.{Watched, BeginsBare, Decides, HasCauseBy, HasCause, EndsHaveCauses}
-use Rattle.engine.specs.Alone.{IsBetween, IsOthers, BusyIsOthers}
+use Rattle.engine.specs.Alone.{IsBetween, HasTaken, has_lock, has_guard, IsOthers, BusyIsOthers}
 use Rattle.engine.proofs.machines.Ops.{either_ops, each_named}
 use Rattle.engine.proofs.sessions.Goodness.{caller_at}
 use Rattle.engine.proofs.attempts.Stepping.{work_in, work_is, op_not_own}
@@ -202,6 +202,7 @@ module _ (laws : CallCauses) (site : Ground) (words : Words) (views : List View)
     pub at : At views place view
     pub elsewhere : place ≢ j
     pub holds : HoldsOnly [] view → ⊥
+    pub has : HasTaken site.shape view word
 
   same_view : (i : ℕ) (u : View) → At views i u → i ≡ j → u ≡ seat.view
   same_view i u at same = some-injective u seat.view (sym (subst (λ k. At views k u) same at) ∙ seat.at)
@@ -216,6 +217,7 @@ module _ (laws : CallCauses) (site : Ground) (words : Words) (views : List View)
         elsewhere = λ same. op_not_own laws.causes site here call words views j seat.before seat.view h seat.at did e.op seat.suits seat.asks seat.small seat.remembers word value
             decides.undecided decides.decides (subst (λ (u : View). HasLock u.held word) (same_view holder.0 holder.1 holder.2 same) holder.3);
         holds = λ bare. (let none : HasLock [] word = subst (λ locks. HasLock locks word) bare.held holder.3 in none.1);
+        has = has_lock holder.3;
       }
   held_by newest (a_guard guard has is some own) =
       let holder = h.structure.held_guards guard has (λ zero_there. some (sym newest ∙ (ap words is ∙ zero_there))) in
@@ -225,6 +227,7 @@ module _ (laws : CallCauses) (site : Ground) (words : Words) (views : List View)
         at = holder.2;
         elsewhere = λ same. own (subst (λ (u : View). Has (area_of guard) u.areas) (same_view holder.0 holder.1 holder.2 same) holder.3);
         holds = λ bare. subst (λ (areas : List Area). Has (area_of guard) areas) bare.areas holder.3;
+        has = has_guard guard is holder.3;
       }
 
   -- whichever machine it is, the event found the value there
@@ -250,19 +253,31 @@ module _ (laws : CallCauses) (bare : BeginsBare) (opens : OpenedHolds) (keeps : 
   abbrev h : CoreHolds site (slice_index words) w.core
   h = holds_there opens keeps shape words image scripts are turns
 
-  by_seat : (k : ℕ) (v : View) → At (fresh_view 0 ∷ h.views) k v → k ≢ suc j → (HoldsOnly [] v → ⊥) → IsOthers w.core j
-  by_seat zero v seat apart holds = absurd (holds (subst (HoldsOnly []) (some-injective (fresh_view 0) v seat) fresh_bare))
-  by_seat (suc k) v seat apart holds =
+  by_seat : (k : ℕ) (v : View) → At (fresh_view 0 ∷ h.views) k v → k ≢ suc j → (HoldsOnly [] v → ⊥) → HasTaken site.shape v word → IsOthers w.core j word
+  by_seat zero v seat apart holds has = absurd (holds (subst (HoldsOnly []) (some-injective (fresh_view 0) v seat) fresh_bare))
+  by_seat (suc k) v seat apart holds has =
       let z = caller_at site w.core.callers h.views k v h.each seat in
-      record { place = k; elsewhere = λ same. apart (ap suc same); caller = z.0; there = z.1; midst = λ between. holds (between_bare bare site z.0 v z.2 between) }
+      record {
+        place = k;
+        elsewhere = λ same. apart (ap suc same);
+        caller = z.0;
+        there = z.1;
+        midst = λ between. holds (between_bare bare site z.0 v z.2 between);
+        site = site;
+        start = slice_index words;
+        holds = h;
+        view = v;
+        seated = seat;
+        has = has;
+      }
 
-  others_hold : slice_get w.core.callers j ≡ Some c → current c ≡ Some call → c.engine ≡ Some e → Decides shape w.core.words e (again (Busy word value)) → IsOthers w.core j
+  others_hold : slice_get w.core.callers j ≡ Some c → current c ≡ Some call → c.engine ≡ Some e → Decides shape w.core.words e (again (Busy word value)) → IsOthers w.core j word
   others_hold at calls runs decides =
       let views : List View = fresh_view 0 ∷ h.views in
       let seated : IsSeated site w.core.words views (suc j) c.site call e (w.doings j) = seat_there opens keeps shape words image scripts are turns laws j c call e at calls runs in
       let held = held_elsewhere laws site w.core.words views h.well.holds (suc j) c.site call e (w.doings j) seated word value decides
       (causes shape words image scripts are turns j c call e (again (Busy word value)) at calls runs decides) in
-      by_seat held.place held.view held.at held.elsewhere held.holds
+      by_seat held.place held.view held.at held.elsewhere held.holds held.has
 
 pub busy_others : CallCauses → BeginsBare → OpenedHolds → TurnKeeps → EndsHaveCauses → BusyIsOthers
 busy_others laws bare opens keeps causes shape words image scripts are turns j c call e word value at calls runs decides =

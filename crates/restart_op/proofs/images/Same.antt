@@ -1,5 +1,5 @@
 -- Words of an image that differ in versions alone have the same records, notes and pairs.
-use Rattle.std.proofs.Common.{◌≡◌, ℕ, ◌+◌, ◌*◌, ◌<◌, sym, ap, ◌∙◌, arith}
+use Rattle.std.proofs.Common.{◌≡◌, ℕ, ◌+◌, ◌<◌, sym, ap, ◌∙◌, arith}
 use Rattle.bucket_meta.specs.Bucket.{lock_of, overflow_count, record_slots}
 use Rattle.hash_word.specs.Hash.{probing_of}
 use Rattle.trace.specs.Events.{Words}

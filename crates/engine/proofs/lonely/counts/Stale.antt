@@ -1,7 +1,7 @@
 -- How many segments are stale: no event leaves more, one by which a segment gets the image's version leaves one less, and one that is stale stays so until
 -- then.
 use Rattle.std.proofs.Common.{◌≡◌, ◌≢◌, ℕ, zero, suc, ◌%◌, ◌^◌, ◌<◌, ◌≤◌, inl, inr, Bool, true, false, List, refl, sym, ◌∙◌, ap, subst, arith}
-use Rattle.std.specs.Prelude.{◌==◌, ◌&&◌, not, if◌then◌else◌}
+use Rattle.std.specs.Prelude.{◌==◌, ◌&&◌, not}
 use Rattle.std.proofs.lemmas.Bool.{cases_eq, eq-eqb, ne_eqb, eqb-true, eqb-false, or_cases, or_left, or_right}
 use Rattle.op_core.specs.declared.want.Want.{Want}
 use Rattle.trace.specs.Events.{Words}
