@@ -7,15 +7,12 @@ use Rattle.image_layout.specs.Places.{Shape, buckets}
 use Rattle.sound_image.specs.Segments.{ImageWords, frame_of}
 use Rattle.sound_image.specs.Records.{key_hash, word_in, slot_key, slot_value}
 use Rattle.segment_table.specs.Owner.{owner}
+use Rattle.image_rules.specs.Own.{segment_slots}
 
 -- the owner that was found is this segment
 abbrev pub is_owner : Option ℕ → ℕ → Bool
 is_owner None s = false
 is_owner (Some o) s = o == s
-
--- how many record slots a segment has
-abbrev pub segment_slots : ℕ
-segment_slots = buckets * record_slots
 
 module _ (shape : Shape) (word : ImageWords) where
   -- slot t, of all of each segment, is slot t % record_slots of bucket t / record_slots % buckets of segment t / segment_slots
