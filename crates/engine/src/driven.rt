@@ -1,6 +1,7 @@
 //! The laws of a caller that is driven. The functions do nothing: each stands for the laws that its contract says.
 
 ghost use Rattle.engine.specs.Driven.{TriesAreOthers, TurnsGoOn, AttemptsAreShort, OwnTurnsStayStill, OwnTurnsStayDue, OwnTurnsLeaveFewer, EndsBeginAnew, BegunIsDue, EndsLeaveNothing};
+ghost use Rattle.engine.specs.Seen.{ToldNothingSeesNothing};
 
 use crate::{causes, laws, single, turns};
 
@@ -50,10 +51,11 @@ pub fn driven_calls_end()
 }
 
 /// An attempt that ends without a reply leaves nothing behind: its caller holds and owes nothing, has drawn nothing, was told what it had
-/// been told, and has seen no more by the turn that ends it, which leaves the pairs; and its call has begun. That all turns of the attempt do is what
-/// [`crate::refusals_leave_pairs`] says.
+/// been told, and has seen no more by the turn that ends it, which leaves the pairs; and its call has begun. By all turns of such attempts, whatever the
+/// others do meanwhile, their caller has seen no more: it was told nothing. That they leave the pairs is what [`crate::refusals_leave_pairs`] says.
 pub fn ends_leave_nothing()
-    ensures { EndsLeaveNothing }
+    ensures ends { EndsLeaveNothing }
+    ensures told { ToldNothingSeesNothing }
 {
     world::worlds_stay_well();
     world::slots_stay();
@@ -64,4 +66,6 @@ pub fn ends_leave_nothing()
     laws::fits_the_world();
     laws::stores_are_words();
     laws::refusals_leave_pairs();
+    turns::turn_keeps();
+    causes::ends_have_causes();
 }

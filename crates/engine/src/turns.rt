@@ -2,15 +2,18 @@
 
 ghost use Rattle.engine.specs.Holding.{CallsStay, TurnKeeps, RunKeeps, HoldingIsGood, CoreBegins};
 ghost use Rattle.engine.specs.Laws.{OpenedHolds, TurnsKeep, CallsAreScripts, TurnsAlone, ThroughIsQuiet, ThroughIsExact, ThroughIsOnce, ThroughIsOwn, ThroughHasMap};
+ghost use Rattle.engine.specs.Seen.{ViewsGetLater};
 ghost use Rattle.engine.specs.Sessions.{CutIsSession, CloseIsSession};
 
 use crate::laws;
 
-/// A turn of any caller keeps what holds of the core, and so do turns one after another, which leave the callers their calls.
+/// A turn of any caller keeps what holds of the core, and so do turns one after another, which leave the callers their calls. By any turns nobody
+/// is taken back what it has seen, each reply comes at a place not before that, and who is told nothing sees no more.
 pub fn turn_keeps()
     ensures one { TurnKeeps }
     ensures all { RunKeeps }
     ensures calls { CallsStay }
+    ensures later { ViewsGetLater }
 {
     world::worlds_stay_well();
     world::slots_stay();

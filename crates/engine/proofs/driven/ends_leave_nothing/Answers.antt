@@ -1,9 +1,10 @@
--- By the step of its kind, and the pairs that it leaves.
+-- By the step of its kind, the pairs that it leaves, and what is seen turn by turn.
 use Rattle.engine.proofs.holding.Turning.{TurnLaws}
 use Rattle.engine.proofs.holding.Leaving.{ends_leave_nothing}
+use Rattle.engine.proofs.holding.Seeing.{told_nothing}
 use Rattle.engine.proofs.driven.ends_leave_nothing.Goals as goal
 
-laws : goal.After-refusals_leave_pairs → TurnLaws
+laws : goal.After-ends_have_causes → TurnLaws
 laws c = record {
   part = c.calls_are_parts.ensures.part;
   begins = c.fits_the_world.ensures.begins;
@@ -16,5 +17,8 @@ laws c = record {
   one_word = c.steps_do_events.ensures.one;
 }
 
-pub returns : goal.returns
-returns c = ends_leave_nothing (laws c) c.refusals_leave_pairs.ensures.turns c.refusals_leave_pairs.ensures.done
+pub returns-clause-ends : goal.returns-clause-ends
+returns-clause-ends c = ends_leave_nothing (laws c) c.refusals_leave_pairs.ensures.turns c.refusals_leave_pairs.ensures.done
+
+pub returns-clause-told : goal.returns-clause-told
+returns-clause-told c = told_nothing c.turn_keeps.ensures.later c.ends_have_causes.ensures.begins c.calls_are_parts.ensures.bare

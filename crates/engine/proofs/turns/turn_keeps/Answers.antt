@@ -1,5 +1,6 @@
 -- By the laws of an engine and of the world.
 use Rattle.engine.proofs.holding.Turning.{TurnLaws, turn_keeps, run_keeps, calls_stay}
+use Rattle.engine.proofs.holding.Seeing.{views_get_later}
 use Rattle.engine.proofs.turns.turn_keeps.Goals as goal
 
 laws : goal.After-stores_are_words → TurnLaws
@@ -23,3 +24,6 @@ returns-clause-all c = run_keeps (turn_keeps (laws c))
 
 pub returns-clause-calls : goal.returns-clause-calls
 returns-clause-calls c = calls_stay
+
+pub returns-clause-later : goal.returns-clause-later
+returns-clause-later c = views_get_later (laws c) c.steps_leave.ensures.later

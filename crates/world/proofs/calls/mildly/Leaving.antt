@@ -1,6 +1,6 @@
 -- What each step leaves as it was: the power word, lock words that are free with the last version, what every key has but for
 -- the two that make a change, and what its caller has seen.
-use Rattle.std.proofs.Common.{◌≡◌, ℕ, [], inl, inr, refl, sym, ap, ◌∙◌, arith, append-nil}
+use Rattle.std.proofs.Common.{◌≡◌, ℕ, inl, inr, refl, sym, ap, ◌∙◌}
 use Rattle.op_core.specs.declared.want.Want.{Want}
 use Rattle.trace.specs.Events.{Words, with_word}
 use Rattle.image_layout.specs.Places.{Shape}
@@ -18,7 +18,7 @@ use Rattle.world.proofs.device.Worlds.{one_word}
 use Rattle.world.proofs.stepping.Steps.{power_kept}
 use Rattle.world.proofs.stepping.SpentLocks.{spent_lock_stays}
 use Rattle.world.proofs.stepping.Pairs.{pairs_kept}
-use Rattle.world.proofs.stepping.Later.{later_at}
+use Rattle.world.proofs.stepping.Later.{later_same, later_at}
 use Rattle.world.proofs.mild.Kept.{steps_spare, steps_reply_nothing}
 use Rattle.world.proofs.mild.Callers.{backing_stands}
 use Rattle.world.proofs.moving.SpentNumbers.{spending_stands}
@@ -54,9 +54,4 @@ pairs_stay site words views j v (of_structure kind) number h at may other k =
 
 pub later_view : RepliesComeLater
 later_view site words views j v (of_call kind) h at = later_at site words views j v h.log h.history (λ a. h.notes.answered j v a at) at kind
-later_view site words views j v (of_structure kind) h at = record {
-  rest = [];
-  own = steps_reply_nothing.own site kind words v ∙ sym (append-nil v.own);
-  places = λ e none. absurd none;
-  seen = (let same = steps_reply_nothing.seen site kind words v in omega (arith, same));
-}
+later_view site words views j v (of_structure kind) h at = later_same v _ (steps_reply_nothing.own site kind words v) (steps_reply_nothing.seen site kind words v)
