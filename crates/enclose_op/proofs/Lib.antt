@@ -8,4 +8,5 @@ pub mod Owning
 pub mod Stepping
 pub mod EncloseIsPart
 pub mod Rooms
+pub mod Saying
 pub mod causes

@@ -1,11 +1,13 @@
 -- The enclosing as a part of a call: what may be enclosed, where it begins, what it hands on, and where there is room.
-use Rattle.std.specs.Prelude.{◌≡◌, ◌≢◌, ℕ, ◌<◌, ◌^◌, true, false, None, Some, List, []}
+use Rattle.std.specs.Prelude.{◌≡◌, ◌≢◌, ℕ, ◌<◌, ◌^◌, ⊤, true, false, None, Some, List, []}
 use Rattle.trace.specs.Events.{Words}
 use Rattle.segment_head.specs.HeadWord.{version_in}
+use Rattle.image_layout.specs.Places.{buckets}
 use Rattle.sound_image.specs.Records.{key_hash}
 use Rattle.op_core.specs.declared.want.Want.TheVariants.{Done}
 use Rattle.map_model.specs.declared.call.Call.{Call}
 use Rattle.map_model.specs.declared.change.Change.{Change}
+use Rattle.map_model.specs.declared.entry.Reply.TheVariants.{Deep}
 use Rattle.map_model.specs.Map.{key_of}
 use Rattle.map_model.specs.Changes.{call_of}
 use Rattle.map_model.specs.Legal.{IsInsert}
@@ -17,14 +19,14 @@ use Rattle.world.specs.Invariant.{Holds}
 use Rattle.world.specs.areas.Areas.{header_word}
 use Rattle.world.specs.Attempts.{HoldsOnly}
 use Rattle.part.specs.Doings.{Doings}
-use Rattle.part.specs.Outcomes.{finished}
+use Rattle.part.specs.Outcomes.{Outcome, replied, finished}
 use Rattle.part.specs.Room.{HasNoRoom}
 use Rattle.part.specs.Part.{Part, Suits, finds, next}
 use Rattle.phase.specs.Stands.{IsThere}
 use Rattle.enclose_op.specs.declared.op.EncloseOp.{EncloseOp}
 use Rattle.enclose_op.specs.Whole.{IsOf, KeepsWhole, RemembersWhole}
 use Rattle.enclose_op.specs.Steps.{begun, wanted, taken, is_whole}
-use Rattle.enclose_op.specs.Fits.{kind_at, outcome_at, left_at, most_events, SuitsStep}
+use Rattle.enclose_op.specs.Fits.{kind_at, outcome_at, left_at, most_events, HoldsPart, SuitsStep}
 use Rattle.enclose_op.specs.Remembers.{RemembersAt}
 
 pub record EnclosureStands (site : Ground) (here : Site) (call : Call) (op : EncloseOp) (v : View) : Type 0 where
@@ -89,3 +91,15 @@ FindsRoom = (site : Ground) (here : Site) (call : Call) (words : Words) (views :
 abbrev pub KeepsRoom : Type 0
 KeepsRoom = (site : Ground) (here : Site) (call : Call) (words : Words) (op : EncloseOp) (before v : View) → Suits enclose_part site here call op before v
     → (number s hash : ℕ) → s < site.shape.segments → HasNoRoom site.shape words s hash → HasNoRoom site.shape (words_after site.shape (wanted op) number words) s hash
+
+-- ---- what is said of a segment that is held
+-- that there may be room, and that it is as deep as the image allows
+abbrev pub IsSaidOfHeld : Outcome → Type 0
+IsSaidOfHeld finished = ⊤
+IsSaidOfHeld (replied Deep place) = ⊤
+IsSaidOfHeld outcome = ⊥
+
+-- WHERE ONE OF THESE IS DECIDED the guard and all locks of the segment are held
+abbrev pub SaysOfHeld : Type 0
+SaysOfHeld = (site : Ground) (here : Site) (call : Call) (words : Words) (op : EncloseOp) (before v : View) → Suits enclose_part site here call op before v
+    → outcome_at op.step ≡ None → (outcome : Outcome) → outcome_at (next enclose_part site words op).step ≡ Some outcome → IsSaidOfHeld outcome → HoldsPart site op.enclosed 0 buckets v

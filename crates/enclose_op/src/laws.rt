@@ -4,14 +4,15 @@ ghost use Rattle.part.specs.Part.{IsPart};
 ghost use Rattle.part.specs.Splits.{EndsBySplitCause};
 ghost use Rattle.enclose_op.specs.GiveLaws.{GiveStands};
 ghost use Rattle.enclose_op.specs.Ends.{EndsAsSaid};
-ghost use Rattle.enclose_op.specs.EnclosePart.{enclose_part, segment_of, BeginsAsPart, BeginsUndecided, BeginsRemembering, HandsOnWhole, HandsOnRemembered, FindsRoom, KeepsRoom};
+ghost use Rattle.enclose_op.specs.EnclosePart.{enclose_part, segment_of, BeginsAsPart, BeginsUndecided, BeginsRemembering, HandsOnWhole, HandsOnRemembered, FindsRoom, KeepsRoom, SaysOfHeld};
 
 /// The enclosing of a segment is a part of a call, beside any other callers: it takes the guard and the 66 locks of a segment that its
 /// caller knows to be live and current, and loads the header and all words of the buckets. It gives everything back where the header
 /// does not lead to the hash of its key any more, where there is room, where a lock is another's or has come to its last version, and
 /// where the segment is as deep as the image allows, which is told with its cause. Else it hands on the whole segment, with what its
-/// caller holds and knows of it. Where it says that there may be room, the newest words have room for its key, or the header does not lead
-/// there any more; and none of its events makes room in a segment that has none.
+/// caller holds and knows of it. Where it says that there may be room, the newest words have room for its key, or the header has another
+/// version or does not lead there any more; and none of its events makes room in a segment that has none. That there may be room, and that
+/// the segment is as deep as the image allows, it says while the guard and all 66 locks of the segment are held.
 pub fn enclosings_are_parts()
     ensures part { IsPart enclose_part }
     ensures begins { BeginsAsPart }
@@ -19,6 +20,7 @@ pub fn enclosings_are_parts()
     ensures whole { HandsOnWhole }
     ensures room { FindsRoom }
     ensures keeps { KeepsRoom }
+    ensures held { SaysOfHeld }
 {}
 
 /// Each outcome of an enclosing has its cause, beside any other callers. A guard or lock that is told busy is that of the segment, or of one of

@@ -8,3 +8,4 @@ pub mod Opens
 pub mod Counting
 pub mod RestIsPart
 pub mod ByCause
+pub mod Heading

@@ -1,10 +1,12 @@
 -- The rest of a split as a part of a call: with what it may begin, and how it ends.
-use Rattle.std.specs.Prelude.{◌≡◌, ℕ, suc, ◌+◌, ◌-◌, ◌*◌, ⊤, false, Option, None, Some, [], ◌∷◌}
+use Rattle.std.specs.Prelude.{◌≡◌, ℕ, suc, ◌+◌, ◌-◌, ◌*◌, ⊤, Bool, true, false, Option, None, Some, [], ◌∷◌}
 use Rattle.op_core.specs.declared.want.Want.TheVariants as want
-use Rattle.segment_head.specs.HeadWord.{version_in, depth_in, pattern_in, splitting}
+use Rattle.op_core.specs.declared.want.Ans.{Ans}
+use Rattle.segment_head.specs.HeadWord.{version_in, depth_in, pattern_in, normal, splitting}
 use Rattle.image_layout.specs.Places.{homes, buckets}
 use Rattle.frame_facts.specs.Facts.{Lacks, Deep}
 use Rattle.map_model.specs.declared.call.Call.{Call}
+use Rattle.way.specs.Ways.{head_word}
 use Rattle.world.specs.declared.site.Site.{Site}
 use Rattle.world.specs.Ground.{Ground, IsGround}
 use Rattle.world.specs.Views.{View, Has}
@@ -25,7 +27,7 @@ use Rattle.rest_op.specs.declared.op.RestEnd.TheVariants as ends
 use Rattle.rest_op.specs.declared.op.RestStep.{RestStep}
 use Rattle.rest_op.specs.declared.op.RestStep.TheVariants.{Clear, Head, HeadFlush, HeadFence, Note, Open, Give, Ended}
 use Rattle.rest_op.specs.declared.op.RestOp.{RestOp}
-use Rattle.rest_op.specs.Steps.{wanted, taken, begun_in, end_of}
+use Rattle.rest_op.specs.Steps.{rest_head, wanted, taken, begun_in, end_of}
 use Rattle.rest_op.specs.Reckoned.{side_depth, side_pattern, IsReckoned, rest_of}
 use Rattle.rest_op.specs.Stands.{kind_at, SuitsStep}
 
@@ -130,3 +132,21 @@ BeginsUndecided = (op : RestOp) → outcome_at (begun_in op) ≡ None
 -- ---- IT ENDS with the split made
 abbrev pub EndsAsSplit : Type 0
 EndsAsSplit = (site : Ground) (here : Site) (call : Call) (op : RestOp) (v : View) → RestStands site here call op v → wanted op ≡ want.Done → (outcome_at op.step ≡ Some finished) × (end_of op ≡ ends.Split)
+
+-- ---- the header
+-- it was stored
+abbrev pub is_headed : RestStep → Bool
+is_headed (Clear b rounds) = false
+is_headed Head = false
+is_headed step = true
+
+-- THE SPLIT IS MADE BY THE STORE OF THE HEADER, of a normal segment that is one deeper, with a 0 behind its pattern: that is not stored at first, is
+-- stored by one event, whatever is answered, and was where the split is told as made
+pub record StoresHeader : Type 0 where
+  pub begins : (op : RestOp) → is_headed (begun_in op) ≡ false
+  pub stores : (op : RestOp) (a : Ans) → is_headed op.step ≡ false → is_headed (taken op a).step ≡ true
+      → wanted op ≡ want.Store (head_word op.whole.site.geometry op.whole.segment) (rest_head op.whole)
+  pub same : (op : RestOp) (a : Ans) → (taken op a).whole ≡ op.whole
+  pub ends : (op : RestOp) → outcome_at op.step ≡ Some finished → is_headed op.step ≡ true
+  pub header : (site : Ground) (here : Site) (call : Call) (e : Enclosed) → IsGround site → IsOf site here call e → IsWhole site e
+      → IsHeader (rest_head e) normal (side_depth e) (2 * pattern_in e.head) (version_in e.head)

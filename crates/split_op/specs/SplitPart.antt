@@ -1,25 +1,28 @@
 -- The split as a part of a call: how many events are left, where it begins, and what it hands on.
-use Rattle.std.specs.Prelude.{◌≡◌, ◌≢◌, ℕ, ◌+◌, ◌-◌, ◌<◌, ◌≤◌, Bool, true, false, None, List}
+use Rattle.std.specs.Prelude.{◌≡◌, ◌≢◌, ℕ, ◌+◌, ◌-◌, ◌<◌, ◌≤◌, Bool, true, false, None, Some, List, [], ◌∷◌}
 use Rattle.op_core.specs.declared.want.Want.TheVariants.{Done}
 use Rattle.whole_segment.specs.Rounds.{most_lines}
 use Rattle.image_layout.specs.Places.{Shape, segment_words, buckets}
 use Rattle.op_core.specs.declared.want.Ans.{Ans}
 use Rattle.trace.specs.Events.{Words}
 use Rattle.map_model.specs.declared.call.Call.{Call}
+use Rattle.map_model.specs.declared.entry.Reply.TheVariants.{Full}
 use Rattle.world.specs.declared.site.Site.{Site}
 use Rattle.world.specs.Ground.{Ground, IsGround}
 use Rattle.world.specs.Views.{View, At}
 use Rattle.world.specs.Invariant.{Holds}
+use Rattle.world.specs.areas.Areas.{Segment, Allocation}
 use Rattle.world.specs.areas.Kinds.{moves}
 use Rattle.world.specs.areas.Rows.{news}
 use Rattle.world.specs.StepKinds.{of_structure}
 use Rattle.part.specs.Doings.{Doings}
+use Rattle.part.specs.Outcomes.{replied}
 use Rattle.part.specs.Part.{Part, Suits, finds, next}
 use Rattle.rounds.specs.declared.rounds.Rounds.{Rounds}
 use Rattle.rounds.specs.Left.{rounds_left, few_left}
 use Rattle.rounds.specs.Waiting.{rounds_waiting}
 use Rattle.enclose_op.specs.declared.enclosed.Enclosed.{Enclosed}
-use Rattle.enclose_op.specs.Whole.{IsOf, IsWhole, KeepsWhole, RemembersWhole}
+use Rattle.enclose_op.specs.Whole.{IsOf, IsWhole, HoldsLocks, KeepsWhole, RemembersWhole}
 use Rattle.enclose_op.specs.Fits.{give_left}
 use Rattle.split_op.specs.declared.batch.Batch.{Batch}
 use Rattle.split_op.specs.declared.batch.Batch.TheVariants.{Empty, Link, Mark, New, Copy}
@@ -134,6 +137,12 @@ BeginsRemembering = (site : Ground) (e : Enclosed) (words : List ℕ) (did : Doi
 -- WHERE IT HANDS ON the side has the copies
 abbrev pub HandsOnCopied : Type 0
 HandsOnCopied = (site : Ground) (here : Site) (call : Call) (op : SplitOp) (v : View) → SplitStands site here call op v → hands_on_at op.step ≡ true → KeepsCopied site here call op.copied v
+
+-- WHERE IT IS DECIDED THAT NO SLOT IS FREE the guard of free slots, that of the segment and all its locks are held
+abbrev pub SaysFullOfHeld : Type 0
+SaysFullOfHeld = (site : Ground) (here : Site) (call : Call) (words : Words) (op : SplitOp) (before v : View) → Suits split_part site here call op before v
+    → outcome_at op.step ≡ None → (place : ℕ) → outcome_at (next split_part site words op).step ≡ Some (replied Full place)
+    → (v.areas ≡ Allocation ∷ Segment (segment_of op) ∷ []) × HoldsLocks site op.copied.whole v
 
 -- ---- the slot that becomes a side
 -- its header as a new one is stored

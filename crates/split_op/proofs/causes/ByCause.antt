@@ -54,18 +54,18 @@ lock_apart shape s b within near same = by (first_segment shape) s shape.segment
     by f s n b within near same = omega (arith, within, near, same)
 
 -- none is decided where another is
-no_outcome : (s : SplitStep) (outcome : Outcome) → outcome_at s ≡ None → outcome_at s ≡ Some outcome → ⊥
+pub no_outcome : (s : SplitStep) (outcome : Outcome) → outcome_at s ≡ None → outcome_at s ≡ Some outcome → ⊥
 no_outcome s outcome none some = none-some outcome (sym none ∙ some)
 
 -- ---- what is decided behind an event
 module _ (op : SplitOp) where
   -- nothing behind one of the rounds
-  open_next : (batch : Batch) (rounds : Rounds) (a : Ans) → outcome_at (next_in op (Put batch rounds) a).step ≡ None
+  pub open_next : (batch : Batch) (rounds : Rounds) (a : Ans) → outcome_at (next_in op (Put batch rounds) a).step ≡ None
   open_next batch rounds Passed = open_put _ _ _
   open_next batch rounds a = refl
 
   -- and what was, where something is given back
-  same_next : (give : Give) (end : SplitEnd) (a : Ans) → outcome_at (next_in op (Back give end) a).step ≡ outcome_of end
+  pub same_next : (give : Give) (end : SplitEnd) (a : Ans) → outcome_at (next_in op (Back give end) a).step ≡ outcome_of end
   same_next give end Passed = same_outcome (given give) end
   same_next give end a = refl
 
