@@ -9,3 +9,4 @@ pub mod Beginnings
 pub mod Opening
 pub mod Quiet
 pub mod Leaving
+pub mod Repaired

@@ -13,3 +13,4 @@ pub mod Causes
 pub mod Alone
 pub mod Short
 pub mod Driven
+pub mod Repaired
