@@ -10,3 +10,4 @@ pub mod Opening
 pub mod Quiet
 pub mod Leaving
 pub mod Seeing
+pub mod Repaired

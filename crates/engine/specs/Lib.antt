@@ -14,3 +14,4 @@ pub mod Alone
 pub mod Short
 pub mod Driven
 pub mod Seen
+pub mod Repaired

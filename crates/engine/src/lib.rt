@@ -25,6 +25,6 @@ pub use left::events_of_call;
 pub use short::{repairs_are_short, splits_are_short};
 pub use single::{calls_end_alone, never_again_alone};
 pub use turns::{
-    close_is_session, core_begins, cut_is_session, holding_is_good, opened_holds, through_is_quiet,
-    turn_keeps, turns_alone, turns_keep,
+    close_is_session, core_begins, cut_is_session, holding_is_good, opened_holds,
+    repairs_leave_order, through_is_quiet, turn_keeps, turns_alone, turns_keep,
 };

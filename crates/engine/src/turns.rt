@@ -3,6 +3,7 @@
 ghost use Rattle.engine.specs.Holding.{CallsStay, TurnKeeps, RunKeeps, HoldingIsGood, CoreBegins};
 ghost use Rattle.engine.specs.Laws.{OpenedHolds, TurnsKeep, CallsAreScripts, TurnsAlone, ThroughIsQuiet, ThroughIsExact, ThroughIsOnce, ThroughIsOwn, ThroughHasMap};
 ghost use Rattle.engine.specs.Seen.{ViewsGetLater};
+ghost use Rattle.engine.specs.Repaired.{TurnRepairs, BetweenIsInOrder};
 ghost use Rattle.engine.specs.Sessions.{CutIsSession, CloseIsSession};
 
 use crate::laws;
@@ -73,6 +74,18 @@ pub fn through_is_quiet()
 {
     world::entries_are_legal();
     world::current_segments_rest();
+}
+
+/// A repair leaves its segment in order, beside any other callers: whichever turn makes a stale segment current leaves it normal, with its own
+/// records alone, each key once, exact notes, and no lock of it taken. And where all callers stand between two attempts, as they do behind each
+/// attempt of one that steps while all others stand so, each segment of the image's version has its own records alone, each key once, and
+/// exact notes.
+pub fn repairs_leave_order()
+    ensures turns { TurnRepairs }
+    ensures between { BetweenIsInOrder }
+{
+    world::stale_segments_only_go();
+    laws::calls_are_parts();
 }
 
 /// The replies to a caller that runs alone are, one after another, those of a plain map.

@@ -15,6 +15,7 @@ use Rattle.world.specs.areas.Areas.{Segment, Whole, header_word}
 use Rattle.world.specs.areas.Lasting.{IsTakenInMedia}
 use Rattle.world.specs.areas.Rows.{news, frees, renews}
 use Rattle.world.specs.areas.Kinds.{Guard, guard_word, HasGuard, area_of, moves}
+use Rattle.world.specs.areas.Beginning.{IsRepaired}
 use Rattle.world.specs.StepKinds.{StepKind, of_call, of_structure, MayTake}
 use Rattle.world.specs.StepLaws.{words_of_step, views_of_step}
 
@@ -96,6 +97,11 @@ abbrev pub RenewedAreCurrent : Type 0
 RenewedAreCurrent = (site : Ground) (words : Words) (views : List View) (j : ℕ) (v : View) (s x number : ℕ) → Holds site words views → At views j v
     → MayTake site (of_structure (moves renews s x)) v
     → IsStaleSlot site words s × IsCurrentIn site (words_of_step site (of_structure (moves renews s x)) number words) s
+
+-- WHAT BECOMES CURRENT IS REPAIRED: a segment that was stale and is current after a step is normal then, each record in it is its own, each key stands
+-- once, the notes of its homes are exact, and no lock of it is taken
+abbrev pub CurrentIsRepaired : Type 0
+CurrentIsRepaired = AtEachStep (λ site kind words later. (s : ℕ) → IsStaleSlot site words s → IsCurrentIn site later s → IsRepaired site later s)
 
 -- a slot is used: its segment is live, or is the new side of a splitting segment of the image's version
 abbrev pub IsUsedIn : Ground → Words → ℕ → Type 0

@@ -4,7 +4,7 @@ ghost use Rattle.world.specs.Ground.{Ground};
 ghost use Rattle.world.specs.Laws.{ChangesOneWord};
 ghost use Rattle.world.specs.StepKinds.{StepKind};
 ghost use Rattle.world.specs.Slots.{SlotsStayTaken, TakenStays, FullsAreTaken, StaysCurrent, NewSlotsWereFree, RestsAreQuiet, OthersAreQuiet};
-ghost use Rattle.world.specs.Slots.{CurrentStays, NothingGrowsStale, StaleStays, RenewedAreCurrent, UsedStays, FreedByRepairs, FreeSlotsStayTaken, FreeSlotsStayTakenInMedia, CurrentSegmentsRest};
+ghost use Rattle.world.specs.Slots.{CurrentStays, NothingGrowsStale, StaleStays, RenewedAreCurrent, CurrentIsRepaired, UsedStays, FreedByRepairs, FreeSlotsStayTaken, FreeSlotsStayTakenInMedia, CurrentSegmentsRest};
 ghost use Rattle.world.specs.StepLaws.{Keeps, MildKindsKeep, MediaStand, PowerStays, StepsDoEvents, KeepsWell, OtherStepsKeepPairs, SpentLocksStay, RepliesComeLater, CutsKeep, JoinsKeep, CallsLeaveAreas, CallsWithoutAreas, KnowWithoutAreas, CallsSpareTheStructure};
 
 /// A peek, a look at the power, a flush and the cut of the power keep the invariant, whatever areas their view has.
@@ -81,12 +81,14 @@ pub fn rests_are_quiet()
 {}
 
 /// A step leaves each current segment current, and makes none stale. A stale one stays stale until it is renewed; one that is renewed was stale
-/// and is current.
+/// and is current. So what was stale and is current behind a step is repaired: normal, with its own records alone, each key once, exact notes and
+/// no lock taken.
 pub fn stale_segments_only_go()
     ensures current { CurrentStays }
     ensures stale { NothingGrowsStale }
     ensures stays { StaleStays }
     ensures renewed { RenewedAreCurrent }
+    ensures repaired { CurrentIsRepaired }
 {}
 
 /// A slot is used where its segment is live, or is the new side of a splitting segment of the image's version: it stays so, and no other slot is

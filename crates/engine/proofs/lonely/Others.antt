@@ -77,7 +77,7 @@ between_bare bare site c v fits (inr p) =
     let calling : IsCalling site c p.0 v = subst (λ o. DoesCall site c o v) p.1 fits.does in
     bare site c.site calling.call p.0 v p.2 calling.suits.suits.stands
 
-fresh_bare : HoldsOnly [] (fresh_view 0)
+pub fresh_bare : HoldsOnly [] (fresh_view 0)
 fresh_bare = record { held = refl; known = refl; dirty = refl; flushed = refl; planned = refl; moving = refl; owed = refl; areas = refl }
 
 -- where all others stand there, no view but that of one seat holds anything

@@ -1,10 +1,11 @@
 -- A slot that is taken stays so at each kind of step, and a live segment has the image's version after it, where each has it before. Where some have
 -- not: what is current stays so, nothing grows stale, and a slot that was free at the start and is taken stays taken.
-use Rattle.std.proofs.Common.{◌≡◌, ◌≢◌, ◌⊎◌, ℕ, ◌<◌, List, inl, inr, refl, sym, ap, ◌∙◌, subst, arith}
+use Rattle.std.proofs.Common.{◌≡◌, ◌≢◌, ◌⊎◌, ℕ, ◌+◌, ◌*◌, ◌%◌, ◌<◌, List, inl, inr, refl, sym, ap, ◌∙◌, subst, arith}
 use Rattle.std.proofs.lemmas.Bool.{cases_eq}
 use Rattle.trace.specs.Events.{Words, with_word}
 use Rattle.trace.proofs.Replaced.{replaced_same, replaced_other}
 use Rattle.segment_head.specs.HeadWord.{version_in, state_in, free, HasLiveState}
+use Rattle.image_layout.specs.Places.{bucket_at, head_at}
 use Rattle.world.specs.Ground.{Ground, version_of, IsCurrentIn}
 use Rattle.world.specs.Views.{View, At}
 use Rattle.world.specs.Invariant.{Holds}
@@ -12,9 +13,10 @@ use Rattle.world.specs.areas.Areas.{header_word}
 use Rattle.world.specs.areas.Rows.{Row, marks, news, goes_live, finishes, unmarks, frees, renews, IsRow}
 use Rattle.world.specs.areas.Kinds.{moves}
 use Rattle.world.specs.areas.Asking.{MayAt}
+use Rattle.world.specs.areas.Beginning.{IsRepaired}
 use Rattle.world.specs.StepKinds.{StepKind, of_call, of_structure, MayTake}
 use Rattle.world.specs.StepLaws.{words_of_step}
-use Rattle.world.specs.Slots.{AllCurrent, SlotsStayTaken, StaysCurrent, NewSlotsWereFree, IsStaleSlot, CurrentStays, NothingGrowsStale, StaleStays, RenewedAreCurrent, IsUsedIn, UsedStays, FreedByRepairs, FreeSlotsStayTaken}
+use Rattle.world.specs.Slots.{AllCurrent, SlotsStayTaken, StaysCurrent, NewSlotsWereFree, IsStaleSlot, CurrentStays, NothingGrowsStale, StaleStays, RenewedAreCurrent, CurrentIsRepaired, IsUsedIn, UsedStays, FreedByRepairs, FreeSlotsStayTaken}
 use Rattle.world.proofs.basics.Structures.{header_is}
 use Rattle.world.proofs.fitting.Rows.{one_head, row_live, row_version}
 use Rattle.world.proofs.moving.Known.{grounds, newest_is}
@@ -185,6 +187,37 @@ renewed_are_current site words views j v s x number h at may =
       record { live = record { slot = q.0.0.slot; live = inl q.0.1 }; old = (h.structure.fits.stale j v s at q.1).1 },
       record { live = record { slot = q.0.0.slot; live = inl (ap state_in same ∙ q.0.0.becomes ∙ q.0.1) }; current = ap version_in same ∙ q.0.2 },
     )
+
+-- it is repaired too: that is asked of who renews it
+module _ (site : Ground) (words : Words) (views : List View) (j : ℕ) (v : View) (s x number : ℕ) (h : Holds site words views) (at : At views j v)
+    (may : MayTake site (of_structure (moves renews s x)) v) where
+  abbrev later : Words
+  later = words_of_step site (of_structure (moves renews s x)) number words
+
+  -- no lock word is that of the header
+  lock_apart : (f b : ℕ) → f + 32 + 32 * b ≡ f + 1 → ⊥
+  lock_apart f b e = omega (arith, e)
+
+  lock_same : (b : ℕ) → later (bucket_at site.shape s b) ≡ words (bucket_at site.shape s b)
+  lock_same b = replaced_other words (header_word site.shape s) x (bucket_at site.shape s b) (lock_apart (head_at site.shape s) b)
+
+  renewed_is_repaired : IsRepaired site later s
+  renewed_is_repaired =
+      let new = newest_is site words views h j v at in
+      let row = (may.0 words new).0 in
+      let asks = may.3 in
+      record {
+        normal = ap state_in (replaced_same words (header_word site.shape s) x) ∙ row.0.becomes ∙ row.1;
+        in_order = asks.2 words new;
+        free = λ b near. (let k = asks.1 b near in ap (λ w. w % 2) (lock_same b ∙ new.knows (bucket_at site.shape s b) k.0 k.1) ∙ k.2);
+      }
+
+pub current_is_repaired : CurrentIsRepaired
+current_is_repaired site words views j v kind number h at may s was now = elim (stale_stays site words views j v kind number h at may s was) [
+  | inl still ↦ absurd (still.old now.current)
+  | inr by ↦ subst (λ (k : StepKind). IsRepaired site (words_of_step site k number words) s) (sym by.1)
+      (renewed_is_repaired site words views j v s by.0 number h at (subst (λ (k : StepKind). MayTake site k v) by.1 may))
+]
 
 pub used_stays : UsedStays
 used_stays site words views j v kind number h at may s used =

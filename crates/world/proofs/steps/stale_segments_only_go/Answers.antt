@@ -1,4 +1,4 @@
-use Rattle.world.proofs.stepping.Slots.{current_stays, nothing_grows_stale, stale_stays, renewed_are_current}
+use Rattle.world.proofs.stepping.Slots.{current_stays, nothing_grows_stale, stale_stays, renewed_are_current, current_is_repaired}
 use Rattle.world.proofs.steps.stale_segments_only_go.Goals as goal
 
 pub returns-clause-current : goal.returns-clause-current
@@ -12,3 +12,6 @@ returns-clause-stays c = stale_stays
 
 pub returns-clause-renewed : goal.returns-clause-renewed
 returns-clause-renewed c = renewed_are_current
+
+pub returns-clause-repaired : goal.returns-clause-repaired
+returns-clause-repaired c = current_is_repaired
