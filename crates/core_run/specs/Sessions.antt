@@ -3,7 +3,7 @@ use Rattle.std.specs.Prelude.{ℕ, not, is_some, true, List}
 use Rattle.script_text.specs.declared.line.Line.{Line}
 use Rattle.session.specs.Transcript.{transcript_of}
 use Rattle.session.specs.Session.{SessionEnd, IsSession}
-use Rattle.engine.specs.Core.{tolds_of}
+pub use Rattle.engine.specs.Core.{tolds_of}
 use Rattle.core_run.specs.State.{State}
 use Rattle.core_run.specs.Run.{core_run, cut_of, medium_words}
 use Rattle.core_run.specs.Running.{Setup, IsSetup, start_of}
