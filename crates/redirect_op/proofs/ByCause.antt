@@ -34,7 +34,7 @@ use Rattle.redirect_op.specs.Ends.{outcome_of, outcome_at}
 use Rattle.redirect_op.specs.RedirectPart.{RemembersAt, redirect_part, segment_of, BeginsRemembering}
 use Rattle.redirect_op.proofs.Plain.{none_held, ended_at}
 
-none_some : {A : Type 0} {x : A} → None ≡ Some x → ⊥
+pub none_some : {A : Type 0} {x : A} → None ≡ Some x → ⊥
 none_some e = cc
 
 some_same : {x y : Outcome} → Some x ≡ Some y → x ≡ y
@@ -57,7 +57,7 @@ module _ (P : RedirectStep → Type 0) (entry : (index : ℕ) → P (Entry index
       by true = entry (index + 1)
       by false = settle_is (rounds_wanted op.rounds None)
 
-  head_is : (op : RedirectOp) (index n : ℕ) → P (met_head op index n).step
+  pub head_is : (op : RedirectOp) (index n : ℕ) → P (met_head op index n).step
   head_is op index n = by (nat_le (depth_in n) (depth_in op.guarded.head))
     where
       by : (b : Bool) → P (if b then go op (Store index) else behind op index).step
@@ -72,11 +72,11 @@ module _ (P : RedirectStep → Type 0) (entry : (index : ℕ) → P (Entry index
       by false = subst P (sym at) (store index)
 
   -- whatever is answered to an event of the rounds
-  store_is : (op : RedirectOp) (index : ℕ) (a : Ans) → op.step ≡ Store index → P (next_in op (Store index) a).step
+  pub store_is : (op : RedirectOp) (index : ℕ) (a : Ans) → op.step ≡ Store index → P (next_in op (Store index) a).step
   store_is op index Passed at = stored_is op index at
   store_is op index a at = store index
 
-  settle_to_is : (op : RedirectOp) (a : Ans) → P (next_in op Settle a).step
+  pub settle_to_is : (op : RedirectOp) (a : Ans) → P (next_in op Settle a).step
   settle_to_is op Passed = settled_is (rounds_wanted (rounds_taken op.rounds None) None)
   settle_to_is op a = settle
 

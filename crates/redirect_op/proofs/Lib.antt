@@ -9,3 +9,4 @@ mod Flushing
 mod Plain
 mod RedirectIsPart
 mod ByCause
+mod Old

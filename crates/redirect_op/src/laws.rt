@@ -2,6 +2,7 @@
 
 ghost use Rattle.part.specs.Part.{IsPart};
 ghost use Rattle.part.specs.Repairs.{EndsByRepairCause};
+ghost use Rattle.repair_op.specs.Finishing.{StaysOld};
 ghost use Rattle.redirect_op.specs.RedirectPart.{redirect_part, segment_of, BeginsAsPart, BeginsUndecided, BeginsWithinImage, BeginsRemembering, HandsOnRedirected, EndsAsSaid};
 
 /// The redirecting of the entries of a stale segment's ready side is a part, beside any other callers: it begins with a guarded segment, and
@@ -18,8 +19,10 @@ pub fn redirects_are_parts()
     ensures ends { EndsAsSaid }
 {}
 
-/// Its only outcome is that another has the guard of the directory, which the attempt, that took the guard of the segment, did not change.
+/// Its only outcome is that another has the guard of the directory, which the attempt, that took the guard of the segment, did not change; and
+/// the segment has not the image's version then.
 pub fn ends_have_causes()
     ensures causes { EndsByRepairCause redirect_part segment_of }
+    ensures old { StaysOld redirect_part segment_of }
     ensures remembers { BeginsRemembering }
 {}

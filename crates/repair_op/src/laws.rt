@@ -2,7 +2,7 @@
 
 ghost use Rattle.part.specs.Part.{IsPart};
 ghost use Rattle.part.specs.Repairs.{EndsByRepairCause};
-ghost use Rattle.repair_op.specs.Finishing.{FinishesCurrent};
+ghost use Rattle.repair_op.specs.Finishing.{FinishesCurrent, StaysOld};
 ghost use Rattle.repair_op.specs.Guarded.{GuardedAreStale};
 ghost use Rattle.repair_op.specs.RepairPart.{repair_part, segment_of, BeginsAsRepair, BeginsUndecided, BeginsRemembering, HandsOnGuarded, HandsOnRemembered, EndsAsSaid};
 
@@ -20,11 +20,13 @@ pub fn repairs_are_parts()
 
 /// Each outcome of the beginning of a repair has its cause, beside any other callers. A guard that is told busy is that of the segment, or
 /// that of free slots once the guard of the segment was taken; another has it now, and the attempt did not change it. A segment that is told
-/// repaired was loaded with the image's version, and has it in the newest words. Nothing is remembered at first but that no word was changed; of a
-/// segment that is handed on it is remembered that its guard was taken, and that of the directory was not.
+/// repaired was loaded with the image's version, and has it in the newest words. One has not that version where the guard of free slots is told
+/// busy; where its own guard is, nothing is said of its header. Nothing is remembered at first but that no word was changed; of a segment that is
+/// handed on it is remembered that its guard was taken, and that of the directory was not.
 pub fn ends_have_causes()
     ensures causes { EndsByRepairCause repair_part segment_of }
     ensures current { FinishesCurrent repair_part segment_of }
+    ensures old { StaysOld repair_part segment_of }
     ensures remembers { BeginsRemembering }
     ensures remembered { HandsOnRemembered }
 {}

@@ -1,6 +1,7 @@
 -- By what each event decides, and what is remembered after it.
 use Rattle.repair_op.proofs.ByCause.{ends_by_repair_cause}
 use Rattle.repair_op.proofs.Current.{finishes_current}
+use Rattle.repair_op.proofs.Old.{stays_old}
 use Rattle.repair_op.proofs.Recalling.{begins_remembering, hands_on_remembered}
 use Rattle.repair_op.proofs.laws.ends_have_causes.Goals as goal
 
@@ -9,6 +10,9 @@ returns-clause-causes c = ends_by_repair_cause
 
 pub returns-clause-current : goal.returns-clause-current
 returns-clause-current c = finishes_current
+
+pub returns-clause-old : goal.returns-clause-old
+returns-clause-old c = stays_old
 
 pub returns-clause-remembers : goal.returns-clause-remembers
 returns-clause-remembers c = begins_remembering
