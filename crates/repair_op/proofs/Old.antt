@@ -1,5 +1,5 @@
 -- Where another guard than the segment's is told busy, its header is known, and has not the image's version: the guard of free slots alone is such.
-use Rattle.std.proofs.Common.{◌≡◌, ◌≢◌, ℕ, zero, suc, Bool, true, false, None, Some, refl, sym, ap, ◌∙◌}
+use Rattle.std.proofs.Common.{◌≡◌, ◌≢◌, ℕ, zero, suc, Bool, true, false, None, Some, sym, ap, ◌∙◌}
 use Rattle.std.specs.Prelude.{◌==◌, if◌then◌else◌}
 use Rattle.trace.specs.Events.{Words}
 use Rattle.op_core.specs.declared.want.Ans.TheVariants.{Value, Won, Lost}
