@@ -1,11 +1,13 @@
 //! The events of a publishing where the directory is deep enough, and of one that waits and doubles it, in an image of two slots.
 use crate::memory::site;
-use directory_op::{DirectoryEnd, DirectoryOp, DirectoryStep};
+use crate::rows::{Follows, follow};
+use directory_op::DirectoryOp;
 use enclose_op::Enclosed;
 use image_layout::{BUCKETS, WORDS_OF_BUCKETS};
 use map_model::{Change, Effect};
-use op_core::{Ans, Machine, Want};
+use op_core::Machine;
 use split_op::Copied;
+use std::alloc::Global;
 use std::test::Fail;
 use world::Site;
 
@@ -32,78 +34,68 @@ fn copied() -> Result<Copied, Fail> {
     })
 }
 
-/// The headers of the segment and of its side: splitting with depth 0, and new with depth 1 and pattern 1; and that of the side as it is
-/// live.
-const HEAD: u64 = 513;
-
-const SIDE_HEAD: u64 = 0x1_0001_0301;
-
-const LIVE_HEAD: u64 = 0x1_0001_0101;
-
-#[test]
-fn a_side_is_published_in_a_deeper_directory(rt: HostRuntime) -> Result<(), Fail> {
-    let mut op = DirectoryOp::new(copied()?);
-    for (want, ans) in [
-        (Want::Load(65), Ans::Value(HEAD)),
-        (Want::Load(2209), Ans::Value(SIDE_HEAD)),
-        (Want::Exchange(4355, 0, 3), Ans::Lost(2)),
-        (Want::Power, Ans::Value(0)),
-        (Want::Exchange(4355, 0, 3), Ans::Won),
-        (Want::Load(8), Ans::Value(1)),
-        (Want::Store(2209, LIVE_HEAD), Ans::Passed),
-        (Want::Flush(276), Ans::Passed),
-        (Want::Fence, Ans::Passed),
-        (Want::Store(34, 1), Ans::Passed),
-        (Want::Flush(4), Ans::Passed),
-        (Want::Fence, Ans::Passed),
-        (Want::Store(4355, 0), Ans::Passed),
-    ] {
-        assert_eq!(rt; op.want(), want);
-        op.take(ans);
+impl Follows for DirectoryOp {
+    fn begun(_case: &str) -> Result<DirectoryOp, Fail> {
+        Ok(DirectoryOp::new(copied()?))
     }
-    assert_eq!(rt; op.want(), Want::Done);
-    assert_eq!(rt; op.step, DirectoryStep::Ended(DirectoryEnd::Published));
-    Ok(())
+
+    fn told(&self, alloc: Global, what: &str) -> Result<String, Fail> {
+        let told = match what {
+            "want" => format!(in alloc; "{:?}", self.want())?,
+            _ => format!(in alloc; "{:?}", self.step)?,
+        };
+        Ok(told)
+    }
 }
 
 #[test]
-fn the_directory_is_doubled(rt: HostRuntime) -> Result<(), Fail> {
-    let mut op = DirectoryOp::new(copied()?);
-    for (want, ans) in [
-        (Want::Load(65), Ans::Value(HEAD)),
-        (Want::Load(2209), Ans::Value(SIDE_HEAD)),
-        (Want::Exchange(4355, 0, 3), Ans::Won),
-        (Want::Load(8), Ans::Value(0)),
-        (Want::Load(32), Ans::Value(0)),
-        (Want::Store(33, 0), Ans::Passed),
-        (Want::Store(34, 0), Ans::Passed),
-        (Want::Flush(4), Ans::Passed),
-        (Want::Fence, Ans::Passed),
-        (Want::Store(8, 1), Ans::Passed),
-        (Want::Flush(1), Ans::Passed),
-        (Want::Fence, Ans::Passed),
-        (Want::Store(2209, LIVE_HEAD), Ans::Passed),
-    ] {
-        assert_eq!(rt; op.want(), want);
-        op.take(ans);
-    }
-    assert_eq!(rt; op.want(), Want::Flush(276));
-    Ok(())
+fn sides_are_published(rt: HostRuntime) -> Result<(), Fail> {
+    follow(rt.alloc(), DirectoryOp::new(copied()?), ROWS)
 }
 
-#[test]
-fn it_ends_where_the_power_is_off(rt: HostRuntime) -> Result<(), Fail> {
-    let mut op = DirectoryOp::new(copied()?);
-    for ans in [
-        Ans::Value(HEAD),
-        Ans::Passed,
-        Ans::Value(SIDE_HEAD),
-        Ans::Lost(2),
-        Ans::Value(1),
-    ] {
-        op.take(ans);
-    }
-    assert_eq!(rt; op.want(), Want::Done);
-    assert_eq!(rt; op.step, DirectoryStep::Ended(DirectoryEnd::Off));
-    Ok(())
-}
+/// Publishings. The headers: of the segment, 513, splitting with depth 0; of its side, 0x100010301, new with depth 1 and pattern 1, and
+/// 4295033089 once it is live.
+const ROWS: &str = "\
+# A side is published where the directory is deep enough; first another caller has its guard.
+on -
+Load(65) = Value 513
+Load(2209) = Value 0x100010301
+Exchange(4355, 0, 3) = Lost 2
+Power = Value 0
+Exchange(4355, 0, 3) = Won
+Load(8) = Value 1
+Store(2209, 4295033089) = Passed
+Flush(276) = Passed
+Fence = Passed
+Store(34, 1) = Passed
+Flush(4) = Passed
+Fence = Passed
+Store(4355, 0) = Passed
+want Done
+step Ended(Published)
+# The directory is doubled.
+on -
+Load(65) = Value 513
+Load(2209) = Value 0x100010301
+Exchange(4355, 0, 3) = Won
+Load(8) = Value 0
+Load(32) = Value 0
+Store(33, 0) = Passed
+Store(34, 0) = Passed
+Flush(4) = Passed
+Fence = Passed
+Store(8, 1) = Passed
+Flush(1) = Passed
+Fence = Passed
+Store(2209, 4295033089) = Passed
+want Flush(276)
+# It ends where the power is off.
+on -
+? = Value 513
+? = Passed
+? = Value 0x100010301
+? = Lost 2
+? = Value 1
+want Done
+step Ended(Off)
+";

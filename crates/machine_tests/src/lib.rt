@@ -1,8 +1,8 @@
 //! The tests of the machines, of the engine that runs them, and of what they share.
 //!
 //! Each module runs one of them on words that stand in the test: it compares the events that are wanted, one after another or by their
-//! number, the words that are left, and how it ends; [`memory`] has what they step on. All that they name is public in the crates below, and
-//! nothing else stands here.
+//! number, the words that are left, and how it ends; [`memory`] has what they step on, and [`rows`] the loops that walk cases which stand in a
+//! text. All that they name is public in the crates below, and nothing else stands here.
 #![tactic(auto)]
 
 #[cfg(test)]
@@ -33,6 +33,8 @@ mod repairs;
 mod restarts;
 #[cfg(test)]
 mod rests;
+#[cfg(test)]
+mod rows;
 #[cfg(test)]
 mod splits;
 #[cfg(test)]

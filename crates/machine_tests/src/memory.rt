@@ -102,6 +102,23 @@ impl Memory {
         }
     }
 
+    /// The first event that a machine wants in the place of the loads of these words, which it does; none where it wants all of them.
+    pub fn departs_from_loads(
+        &mut self,
+        op: &mut impl Machine,
+        from: u64,
+        to: u64,
+    ) -> Option<Want> {
+        for at in from..to {
+            let want = op.want();
+            if want != Want::Load(at) {
+                return Some(want);
+            }
+            op.take(self.answer(want));
+        }
+        None
+    }
+
     fn exchange(&mut self, at: u64, old: u64, new: u64) -> Ans {
         let found = self.word(at);
         if found == old {
@@ -132,14 +149,14 @@ impl Memory {
     }
 }
 
-/// The first event that a machine wants in the place of one of these, each of which is answered so; none where it wants all of them.
-pub fn differs(op: &mut impl Machine, events: &[(Want, Ans)]) -> Option<Want> {
+/// The first event that a machine wants in the place of one of these, which the memory does; none where it wants all of them.
+pub fn departs(op: &mut impl Machine, memory: &mut Memory, events: &[Want]) -> Option<Want> {
     for event in events {
         let want = op.want();
-        if want != event.0 {
+        if want != *event {
             return Some(want);
         }
-        op.take(event.1);
+        op.take(memory.answer(want));
     }
     None
 }

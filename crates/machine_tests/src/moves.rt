@@ -1,9 +1,11 @@
 //! Inserts that found home and probing bucket full, on the words of an image with one segment and the identity as its hash.
-use crate::memory::{Memory, site};
-use map_model::{Change, Effect, Reply};
+use crate::memory::{Memory, departs, site};
+use crate::rows::{Deeds, number, walk};
+use map_model::{Change, Effect};
 use move_op::{MoveEnd, MoveOp};
-use op_core::{Ans, Machine, Want, Why};
+use op_core::{Machine, Want};
 use phase::{Buckets, Held, Kept};
+use std::alloc::Global;
 use std::test::Fail;
 
 /// The header of a normal segment of version 1 and depth 0.
@@ -61,261 +63,281 @@ fn kept_in(memory: &mut Memory, key: u64, home: u64) -> Result<Kept, Fail> {
     })
 }
 
-/// Runs a displacement to its end: how it stands there, and how it ended.
-fn run(memory: &mut Memory, kept: Kept) -> (MoveOp, MoveEnd) {
-    let mut op = MoveOp::new(kept);
-    memory.run(&mut op);
-    let end = if op.want() == Want::Done {
-        op.end()
-    } else {
-        MoveEnd::Off
-    };
-    (op, end)
-}
-
 /// Key 256 in bucket 1, and then keys 0 to 26: home 0 has 0 and the odd ones, its probing bucket the others as members.
-fn moving_on() -> Result<Memory, Fail> {
-    let mut memory = Memory::of(1, 0, &[])?;
-    put(&mut memory, 96, 0, 0);
-    fill(&mut memory, 96, 1, 1);
+fn moving_on(memory: &mut Memory) {
+    put(memory, 96, 0, 0);
+    fill(memory, 96, 1, 1);
     memory.set(97, FULL);
-    put(&mut memory, 128, 0, 256);
-    fill(&mut memory, 128, 1, 2);
+    put(memory, 128, 0, 256);
+    fill(memory, 128, 1, 2);
     memory.set(129, FULL + (0x3FFE << 14));
-    Ok(memory)
 }
 
 /// Key 0 in bucket 0, key 1 in bucket 1 as a member, and then keys 256 to 282: home 1 has the odd ones, its probing bucket the
 /// others as members.
-fn moving_back() -> Result<Memory, Fail> {
-    let mut memory = Memory::of(1, 0, &[])?;
-    put(&mut memory, 96, 0, 0);
+fn moving_back(memory: &mut Memory) {
+    put(memory, 96, 0, 0);
     memory.set(97, 1);
-    put(&mut memory, 128, 0, 1);
-    fill(&mut memory, 128, 1, 257);
+    put(memory, 128, 0, 1);
+    fill(memory, 128, 1, 257);
     memory.set(129, FULL + (1 << 14));
-    fill(&mut memory, 160, 0, 256);
+    fill(memory, 160, 0, 256);
     memory.set(161, FULL + MEMBERS);
-    Ok(memory)
 }
 
 /// Keys 256 to 283 in home 1 and its probing bucket, where none can move.
-fn not_moving() -> Result<Memory, Fail> {
-    let mut memory = Memory::of(1, 0, &[])?;
-    fill(&mut memory, 128, 0, 257);
+fn not_moving(memory: &mut Memory) {
+    fill(memory, 128, 0, 257);
     memory.set(129, FULL);
-    fill(&mut memory, 160, 0, 256);
+    fill(memory, 160, 0, 256);
     memory.set(161, FULL + MEMBERS);
-    Ok(memory)
 }
 
-fn taken(lock: u64) -> [Want; 2] {
-    [Want::Load(lock), Want::Exchange(lock, 0, 1)]
+/// Displacements, each of which is told by its key and the lock word of its home bucket; `lay` puts records where they stand before.
+#[derive(Drop)]
+struct Moves;
+
+impl Deeds for Moves {
+    fn memory(&self) -> Result<Memory, Fail> {
+        Memory::of(1, 0, &[])
+    }
+
+    fn told(&mut self, alloc: Global, memory: &mut Memory, deed: &str) -> Result<String, Fail> {
+        if deed == "lay moving_on" {
+            moving_on(memory);
+            return Ok(format!(in alloc; "laid")?);
+        }
+        if deed == "lay not_moving" {
+            not_moving(memory);
+            return Ok(format!(in alloc; "laid")?);
+        }
+        let Some((key, home)) = deed.split_once(' ') else {
+            return Err(Fail::new("no key"));
+        };
+        let mut op = MoveOp::new(kept_in(memory, number(key)?, number(home)?)?);
+        memory.run(&mut op);
+        if op.hands_on() || !op.wants_nothing() || op.want() != Want::Done {
+            return Err(Fail::new("it is handed on"));
+        }
+        let end = op.end();
+        Ok(format!(in alloc; "{end:?}")?)
+    }
+}
+
+#[test]
+fn moves_and_locks(rt: HostRuntime) -> Result<(), Fail> {
+    walk(rt.alloc(), &mut Moves, ROWS)
+}
+
+/// Where a displacement departs from the events by which it locks and loads a bucket.
+fn departs_from_lock(op: &mut MoveOp, memory: &mut Memory, lock: u64) -> Option<Want> {
+    let locking = [Want::Load(lock), Want::Exchange(lock, 0, 1)];
+    let locking = departs(op, memory, &locking);
+    locking.or(memory.departs_from_loads(op, lock.wrapping_add(1), lock.wrapping_add(32)))
+}
+
+/// The fingerprints of the bucket of lock word 128, that a record leaves and another comes to.
+fn stored_fingers(memory: &Memory, more: u64) -> Want {
+    Want::Store(130, memory.word(130).wrapping_add(more))
 }
 
 #[test]
 fn events_of_a_move_forward(rt: HostRuntime) -> Result<(), Fail> {
-    let mut memory = moving_on()?;
-    let kept = kept_in(&mut memory, 27, 96)?;
-    let mut op = MoveOp::new(kept);
-    for want in taken(160) {
-        assert_eq!(rt; op.want(), want);
-        op.take(memory.answer(want));
-    }
-    for at in 161..192u64 {
-        assert_eq!(rt; op.want(), Want::Load(at));
-        op.take(memory.answer(Want::Load(at)));
-    }
-    let fingers = memory.word(130);
-    let after = [
-        Want::Store(164, 256),
-        Want::Store(165, 1256),
-        Want::Store(162, 0),
-        Want::Flush(20),
-        Want::Fence,
-        Want::Store(161, 16385),
-        Want::Flush(20),
-        Want::Fence,
-        Want::Store(129, 0x3FFE + (0x3FFE << 14)),
-        Want::Flush(16),
-        Want::Fence,
-        Want::Store(132, 27),
-        Want::Store(133, 7),
-        Want::Store(130, fingers.wrapping_add(27)),
-        Want::Flush(16),
-        Want::Fence,
-        Want::Store(129, FULL + MEMBERS),
-        Want::Flush(16),
-        Want::Fence,
-        Want::Draw,
-        Want::Store(96, 2),
-        Want::Store(128, 2),
-        Want::Store(160, 2),
-        Want::Done,
+    let mut memory = Memory::of(1, 0, &[])?;
+    moving_on(&mut memory);
+    let mut op = MoveOp::new(kept_in(&mut memory, 27, 96)?);
+    let locking = departs_from_lock(&mut op, &mut memory, 160);
+    let moving = departs(&mut op, &mut memory, &MOVING_ON);
+    let fingers = [stored_fingers(&memory, 27)];
+    let storing = departs(&mut op, &mut memory, &fingers);
+    let ending = departs(&mut op, &mut memory, &ENDING_ON);
+    assert_eq!(rt; locking.or(moving).or(storing).or(ending), None);
+    let words = [
+        memory.word(164),
+        memory.word(161),
+        memory.word(132),
+        memory.word(2208),
     ];
-    for want in after {
-        assert_eq!(rt; op.want(), want);
-        op.take(memory.answer(want));
-    }
-    for (at, value) in [(164u64, 256), (161, 16385), (132, 27), (2208, 1)] {
-        assert_eq!(rt; memory.word(at), value, "at {at}");
-    }
-    let mut again = moving_on()?;
-    let kept = kept_in(&mut again, 27, 96)?;
-    let (op, end) = run(&mut again, kept);
-    assert_eq!(rt; end, MoveEnd::Replied(Reply::Done, 0));
-    assert!(rt; op.wants_nothing());
-    assert!(rt; !op.hands_on());
-    assert_eq!(rt; again.events, 56);
+    assert_eq!(rt; words, [256, 16385, 27, 1]);
     Ok(())
 }
+
+/// What such a displacement stores before the fingerprint of the new record, and after it.
+const MOVING_ON: [Want; 13] = [
+    Want::Store(164, 256),
+    Want::Store(165, 1256),
+    Want::Store(162, 0),
+    Want::Flush(20),
+    Want::Fence,
+    Want::Store(161, 16385),
+    Want::Flush(20),
+    Want::Fence,
+    Want::Store(129, 0x3FFE + (0x3FFE << 14)),
+    Want::Flush(16),
+    Want::Fence,
+    Want::Store(132, 27),
+    Want::Store(133, 7),
+];
+
+const ENDING_ON: [Want; 10] = [
+    Want::Flush(16),
+    Want::Fence,
+    Want::Store(129, FULL + MEMBERS),
+    Want::Flush(16),
+    Want::Fence,
+    Want::Draw,
+    Want::Store(96, 2),
+    Want::Store(128, 2),
+    Want::Store(160, 2),
+    Want::Done,
+];
 
 #[test]
 fn events_of_a_move_back(rt: HostRuntime) -> Result<(), Fail> {
-    let mut memory = moving_back()?;
-    let kept = kept_in(&mut memory, 283, 128)?;
-    let mut op = MoveOp::new(kept);
-    for lock in [192u64, 96] {
-        for want in taken(lock) {
-            assert_eq!(rt; op.want(), want);
-            op.take(memory.answer(want));
-        }
-        for number in 1..32u64 {
-            let at = lock.wrapping_add(number);
-            assert_eq!(rt; op.want(), Want::Load(at));
-            op.take(memory.answer(Want::Load(at)));
-        }
-    }
-    let fingers = memory.word(130);
-    let after = [
-        Want::Store(102, 1),
-        Want::Store(103, 1001),
-        Want::Store(98, 256),
-        Want::Flush(12),
-        Want::Fence,
-        Want::Store(97, 3),
-        Want::Flush(12),
-        Want::Fence,
-        Want::Store(129, 0x3FFE),
-        Want::Flush(16),
-        Want::Fence,
-        Want::Store(132, 283),
-        Want::Store(133, 7),
-        Want::Store(130, fingers.wrapping_add(26)),
-        Want::Flush(16),
-        Want::Fence,
-        Want::Store(129, FULL),
-        Want::Flush(16),
-        Want::Fence,
-        Want::Draw,
-        Want::Store(128, 2),
-        Want::Store(160, 2),
-        Want::Store(192, 2),
-        Want::Store(96, 2),
-        Want::Done,
+    let mut memory = Memory::of(1, 0, &[])?;
+    moving_back(&mut memory);
+    let mut op = MoveOp::new(kept_in(&mut memory, 283, 128)?);
+    let next = departs_from_lock(&mut op, &mut memory, 192);
+    let previous = departs_from_lock(&mut op, &mut memory, 96);
+    let moving = departs(&mut op, &mut memory, &MOVING_BACK);
+    let fingers = [stored_fingers(&memory, 26)];
+    let storing = departs(&mut op, &mut memory, &fingers);
+    let ending = departs(&mut op, &mut memory, &ENDING_BACK);
+    let departed = next.or(previous).or(moving).or(storing).or(ending);
+    assert_eq!(rt; departed, None);
+    let words = [
+        memory.word(97),
+        memory.word(102),
+        memory.word(129),
+        memory.word(132),
     ];
-    for want in after {
-        assert_eq!(rt; op.want(), want);
-        op.take(memory.answer(want));
-    }
-    for (at, value) in [(97u64, 3), (102, 1), (129, 16383), (132, 283)] {
-        assert_eq!(rt; memory.word(at), value, "at {at}");
-    }
+    assert_eq!(rt; words, [3, 1, 16383, 283]);
     Ok(())
 }
 
-#[test]
-fn copy_to_a_slot_of_another_line(rt: HostRuntime) -> Result<(), Fail> {
-    let mut memory = moving_on()?;
-    memory.set(161, 0x01FF);
-    let kept = kept_in(&mut memory, 27, 96)?;
-    let (_, end) = run(&mut memory, kept);
-    assert_eq!(rt; end, MoveEnd::Replied(Reply::Done, 0));
-    assert_eq!(rt; memory.events, 57);
-    for (at, value) in [(161u64, 0x03FF + (1 << 23)), (182, 256), (183, 1256)] {
-        assert_eq!(rt; memory.word(at), value, "at {at}");
+/// The same of one that moves a record back.
+const MOVING_BACK: [Want; 13] = [
+    Want::Store(102, 1),
+    Want::Store(103, 1001),
+    Want::Store(98, 256),
+    Want::Flush(12),
+    Want::Fence,
+    Want::Store(97, 3),
+    Want::Flush(12),
+    Want::Fence,
+    Want::Store(129, 0x3FFE),
+    Want::Flush(16),
+    Want::Fence,
+    Want::Store(132, 283),
+    Want::Store(133, 7),
+];
+
+const ENDING_BACK: [Want; 11] = [
+    Want::Flush(16),
+    Want::Fence,
+    Want::Store(129, FULL),
+    Want::Flush(16),
+    Want::Fence,
+    Want::Draw,
+    Want::Store(128, 2),
+    Want::Store(160, 2),
+    Want::Store(192, 2),
+    Want::Store(96, 2),
+    Want::Done,
+];
+
+/// Whether an insert of key 284 moves nothing there, keeps four locks and the words of their buckets, and hands all that on, after 66 events.
+fn hands_on(memory: &mut Memory) -> Result<bool, Fail> {
+    let kept = kept_in(memory, 284, 128)?;
+    let mut op = MoveOp::new(kept);
+    memory.run(&mut op);
+    let held = Held {
+        next: Some(0),
+        previous: Some(0),
+        ..kept.held
+    };
+    let left = op.kept();
+    let buckets = left.buckets.next == memory.bucket(192)
+        && left.buckets.previous == memory.bucket(96)
+        && left.change == kept.change;
+    let mut locked = true;
+    for lock in LOCKS {
+        locked = locked && memory.word(lock) == 1;
     }
-    Ok(())
+    let ended = op.want() == Want::Done && op.end() == MoveEnd::NoMove && op.hands_on();
+    Ok(ended && left.held == held && buckets && locked && memory.events == 66)
 }
 
 #[test]
 fn no_record_can_move(rt: HostRuntime) -> Result<(), Fail> {
-    let mut full_next = not_moving()?;
-    full_next.set(193, FULL);
-    let mut full_previous = moving_back()?;
-    full_previous.set(97, FULL);
-    for memory in [not_moving()?, full_next, full_previous] {
-        let mut memory = memory;
-        let kept = kept_in(&mut memory, 284, 128)?;
-        let (op, end) = run(&mut memory, kept);
-        assert_eq!(rt; end, MoveEnd::NoMove);
-        assert!(rt; op.hands_on());
-        assert_eq!(rt; memory.events, 66);
-        let held = Held {
-            next: Some(0),
-            previous: Some(0),
-            ..kept.held
-        };
-        assert_eq!(rt; op.kept().held, held);
-        assert_eq!(rt; op.kept().buckets.next, memory.bucket(192));
-        assert_eq!(rt; op.kept().buckets.previous, memory.bucket(96));
-        assert_eq!(rt; op.kept().change, kept.change);
-        for lock in LOCKS {
-            assert_eq!(rt; memory.word(lock), 1, "at {lock}");
-        }
-    }
+    let mut memory = Memory::of(1, 0, &[])?;
+    not_moving(&mut memory);
+    assert!(rt; hands_on(&mut memory)?, "where no record can move");
+    let mut memory = Memory::of(1, 0, &[])?;
+    not_moving(&mut memory);
+    memory.set(193, FULL);
+    assert!(rt;
+        hands_on(&mut memory)?,
+        "where the next bucket is full, too"
+    );
+    let mut memory = Memory::of(1, 0, &[])?;
+    moving_back(&mut memory);
+    memory.set(97, FULL);
+    assert!(rt; hands_on(&mut memory)?, "where the bucket before is full");
     Ok(())
 }
 
-#[test]
-fn each_third_lock_is_another_s(rt: HostRuntime) -> Result<(), Fail> {
-    for (lock, look, others) in [
-        (192u64, 0u64, [128u64, 160, 160]),
-        (96, 33, [128, 160, 192]),
-    ] {
-        let busy = Why::Busy {
-            word: lock,
-            seen: 3,
-        };
-        let mut memory = not_moving()?;
-        memory.set(lock, 3);
-        let kept = kept_in(&mut memory, 284, 128)?;
-        let (_, end) = run(&mut memory, kept);
-        assert_eq!(rt; end, MoveEnd::Again(busy));
-        assert_eq!(rt; memory.word(lock), 3);
-        for (after, value) in [(3u64, 3u64), (4, 4)] {
-            let mut memory = not_moving()?;
-            memory.other = (look.wrapping_add(1), lock, after);
-            let kept = kept_in(&mut memory, 284, 128)?;
-            let (_, end) = run(&mut memory, kept);
-            let moved = Why::Moved {
-                word: lock,
-                before: 0,
-                after,
-            };
-            let why = if after == 3 { busy } else { moved };
-            assert_eq!(rt; end, MoveEnd::Again(why));
-            assert_eq!(rt; memory.word(lock), value);
-            for other in others {
-                assert_eq!(rt; memory.word(other), 2, "at {other}");
-            }
-        }
-    }
-    Ok(())
-}
-
-#[test]
-fn each_third_lock_is_spent(rt: HostRuntime) -> Result<(), Fail> {
-    for lock in [192u64, 96] {
-        let mut memory = not_moving()?;
-        memory.set(lock, u64::MAX - 1);
-        memory.set(2208, 6);
-        let kept = kept_in(&mut memory, 284, 128)?;
-        let (_, end) = run(&mut memory, kept);
-        assert_eq!(rt; end, MoveEnd::Replied(Reply::Spent, 6));
-        assert_eq!(rt; memory.word(lock), u64::MAX - 1);
-        assert_eq!(rt; memory.word(128), 2);
-        assert_eq!(rt; memory.word(160), 2);
-    }
-    Ok(())
-}
+/// Displacements, as `crate::rows` reads them.
+const ROWS: &str = "\
+# A record moves on to the next bucket, and there into a slot of another line.
+on -
+do lay moving_on -> laid
+do 27 96 -> Replied(Done, 0) in 56
+on -
+do lay moving_on -> laid
+set 161=0x1FF
+do 27 96 -> Replied(Done, 0) in 57
+has 161=0x8003FF 182=256 183=1256
+# The lock of the next bucket, and that of the bucket before, is another's: at first; and it is taken, or has moved on, after it was looked at. Those
+# before it are given back. And it has its last version.
+on -
+do lay not_moving -> laid
+set 192=3
+do 284 128 -> Again(Busy { word: 192, seen: 3 })
+has 192=3
+on -
+do lay not_moving -> laid
+other 1 192=3
+do 284 128 -> Again(Busy { word: 192, seen: 3 })
+has 192=3 128=2 160=2
+on -
+do lay not_moving -> laid
+other 1 192=4
+do 284 128 -> Again(Moved { word: 192, before: 0, after: 4 })
+has 192=4 128=2 160=2
+on -
+do lay not_moving -> laid
+set 192=0xFFFFFFFFFFFFFFFE 2208=6
+do 284 128 -> Replied(Spent, 6)
+has 192=0xFFFFFFFFFFFFFFFE 128=2 160=2
+on -
+do lay not_moving -> laid
+set 96=3
+do 284 128 -> Again(Busy { word: 96, seen: 3 })
+has 96=3
+on -
+do lay not_moving -> laid
+other 34 96=3
+do 284 128 -> Again(Busy { word: 96, seen: 3 })
+has 96=3 128=2 160=2 192=2
+on -
+do lay not_moving -> laid
+other 34 96=4
+do 284 128 -> Again(Moved { word: 96, before: 0, after: 4 })
+has 96=4 128=2 160=2 192=2
+on -
+do lay not_moving -> laid
+set 96=0xFFFFFFFFFFFFFFFE 2208=6
+do 284 128 -> Replied(Spent, 6)
+has 96=0xFFFFFFFFFFFFFFFE 128=2 160=2
+";

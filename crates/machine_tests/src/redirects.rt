@@ -1,23 +1,18 @@
 //! Stale segments in slot 0, with a ready side in slot 1 or without one: the events by which entries are redirected, what is handed on, and the
 //! ends.
-use crate::memory::{differs, site};
-use op_core::{Ans, Machine, Want, Why};
-use redirect_op::{RedirectEnd, RedirectOp};
+use crate::memory::site;
+use crate::rows::{Follows, follow};
+use op_core::{Ans, Machine, Want};
+use redirect_op::RedirectOp;
 use repair_op::Guarded;
+use std::alloc::Global;
 use std::test::Fail;
 use world::Site;
 
-/// The word of the segment's header.
-const HEAD: u64 = 65;
 /// The header of a segment of version 1 and depth 0 that is splitting, and of one that is normal.
 const SPLITTING: u64 = 0x0201;
 
 const NORMAL: u64 = 0x0101;
-/// The header of its ready side, and of a segment two deep that has the second half of that.
-const READY: u64 = 0x1_0001_0102;
-
-const DEEPER: u64 = 0x3_0002_0102;
-
 /// Caller 1 goes on from the segment with this header, in an image of so many slots that may be so deep.
 fn begun(slots: u64, depth: u64, head: u64, side: Option<u64>) -> Result<RedirectOp, Fail> {
     let site = Site {
@@ -32,76 +27,32 @@ fn begun(slots: u64, depth: u64, head: u64, side: Option<u64>) -> Result<Redirec
     }))
 }
 
-#[test]
-fn segment_without_a_side_is_handed_on_at_once(rt: HostRuntime) -> Result<(), Fail> {
-    let op = begun(2, 1, NORMAL, None)?;
-    assert!(rt; op.wants_nothing());
-    assert!(rt; op.hands_on());
-    assert_eq!(rt; op.end(), Some(RedirectEnd::Guarded));
-    Ok(())
+impl Follows for RedirectOp {
+    fn begun(case: &str) -> Result<RedirectOp, Fail> {
+        match case {
+            "without a side" => begun(2, 1, NORMAL, None),
+            "two slots" => begun(2, 1, SPLITTING, Some(1)),
+            _ => begun(3, 2, SPLITTING, Some(1)),
+        }
+    }
+
+    fn told(&self, alloc: Global, what: &str) -> Result<String, Fail> {
+        let told = match what {
+            "nothing" => format!(in alloc; "{}", self.wants_nothing())?,
+            "hands" => format!(in alloc; "{}", self.hands_on())?,
+            _ => format!(in alloc; "{:?}", self.end())?,
+        };
+        Ok(told)
+    }
 }
 
 #[test]
-fn entry_of_the_stale_segment_names_the_side(rt: HostRuntime) -> Result<(), Fail> {
-    let mut op = begun(2, 1, SPLITTING, Some(1))?;
-    let events = [
-        (Want::Exchange(4355, 0, 1), Ans::Won),
-        (Want::Load(8), Ans::Value(1)),
-        (Want::Load(34), Ans::Value(0)),
-        (Want::Load(HEAD), Ans::Value(SPLITTING)),
-        (Want::Store(34, 1), Ans::Passed),
-        (Want::Flush(4), Ans::Passed),
-        (Want::Fence, Ans::Passed),
-        (Want::Store(4355, 0), Ans::Passed),
-    ];
-    assert!(rt; !op.hands_on());
-    assert_eq!(rt; differs(&mut op, &events), None);
-    assert!(rt; op.wants_nothing());
-    assert!(rt; op.hands_on());
-    assert_eq!(rt; op.end(), Some(RedirectEnd::Guarded));
-    Ok(())
+fn entries_are_redirected(rt: HostRuntime) -> Result<(), Fail> {
+    follow(rt.alloc(), begun(2, 1, NORMAL, None)?, ROWS)
 }
 
-#[test]
-fn entry_of_a_deeper_segment_is_left_alone(rt: HostRuntime) -> Result<(), Fail> {
-    let mut op = begun(3, 2, SPLITTING, Some(1))?;
-    let events = [
-        (Want::Exchange(6499, 0, 1), Ans::Won),
-        (Want::Load(8), Ans::Value(2)),
-        (Want::Load(37), Ans::Value(0)),
-        (Want::Load(HEAD), Ans::Value(SPLITTING)),
-        (Want::Store(37, 1), Ans::Passed),
-        (Want::Load(38), Ans::Value(2)),
-        (Want::Load(4353), Ans::Value(DEEPER)),
-        (Want::Flush(4), Ans::Passed),
-        (Want::Fence, Ans::Passed),
-        (Want::Store(6499, 0), Ans::Passed),
-    ];
-    assert_eq!(rt; differs(&mut op, &events), None);
-    assert!(rt; op.hands_on());
-    Ok(())
-}
-
-#[test]
-fn entries_that_lead_into_the_side_are_fenced_alone(rt: HostRuntime) -> Result<(), Fail> {
-    let mut op = begun(2, 1, SPLITTING, Some(1))?;
-    let events = [
-        (Want::Exchange(4355, 0, 1), Ans::Won),
-        (Want::Load(8), Ans::Value(1)),
-        (Want::Load(34), Ans::Value(1)),
-        (Want::Load(2209), Ans::Value(READY)),
-        (Want::Fence, Ans::Passed),
-        (Want::Store(4355, 0), Ans::Passed),
-    ];
-    assert_eq!(rt; differs(&mut op, &events), None);
-    assert!(rt; op.hands_on());
-    Ok(())
-}
-
-#[test]
-fn entries_are_stored_in_rounds(rt: HostRuntime) -> Result<(), Fail> {
-    // The 128 entries of the 1-side, of an area of 256, lie on 17 lines.
-    let mut op = begun(2, 8, SPLITTING, Some(1))?;
+/// How many stores, flushes and fences a redirecting in an image of depth 8 makes.
+fn counted(op: &mut RedirectOp) -> (u64, u64, u64) {
     let mut stores = 0u64;
     let mut flushes = 0u64;
     let mut fences = 0u64;
@@ -127,26 +78,15 @@ fn entries_are_stored_in_rounds(rt: HostRuntime) -> Result<(), Fail> {
         };
         op.take(ans);
     }
-    assert!(rt; op.hands_on());
-    assert_eq!(rt; (stores, flushes, fences), (128, 17, 3));
-    Ok(())
+    (stores, flushes, fences)
 }
 
+// The 128 entries of the 1-side, of an area of 256, lie on 17 lines.
 #[test]
-fn guard_of_another(rt: HostRuntime) -> Result<(), Fail> {
-    let mut op = begun(2, 1, SPLITTING, Some(1))?;
-    let events = [
-        (Want::Exchange(4355, 0, 1), Ans::Lost(9)),
-        (Want::Store(4356, 0), Ans::Passed),
-    ];
-    assert_eq!(rt; differs(&mut op, &events), None);
-    assert!(rt; op.wants_nothing());
-    assert!(rt; !op.hands_on());
-    let busy = Why::Busy {
-        word: 4355,
-        seen: 9,
-    };
-    assert_eq!(rt; op.end(), Some(RedirectEnd::Again(busy)));
+fn entries_are_stored_in_rounds(rt: HostRuntime) -> Result<(), Fail> {
+    let mut op = begun(2, 8, SPLITTING, Some(1))?;
+    assert_eq!(rt; counted(&mut op), (128, 17, 3));
+    assert!(rt; op.hands_on());
     Ok(())
 }
 
@@ -163,3 +103,55 @@ fn other_answers_change_nothing(rt: HostRuntime) -> Result<(), Fail> {
     assert_eq!(rt; op.end(), None);
     Ok(())
 }
+
+/// Redirectings in images of two slots and of three: 513 is the header of the stale segment.
+const ROWS: &str = "\
+# A segment without a side is handed on at once.
+on without a side
+nothing true
+hands true
+end Some(Guarded)
+# The entry of the stale segment names the side.
+on two slots
+hands false
+Exchange(4355, 0, 1) = Won
+Load(8) = Value 1
+Load(34) = Value 0
+Load(65) = Value 513
+Store(34, 1) = Passed
+Flush(4) = Passed
+Fence = Passed
+Store(4355, 0) = Passed
+nothing true
+hands true
+end Some(Guarded)
+# The entry of a deeper segment is left alone.
+on three slots
+Exchange(6499, 0, 1) = Won
+Load(8) = Value 2
+Load(37) = Value 0
+Load(65) = Value 513
+Store(37, 1) = Passed
+Load(38) = Value 2
+Load(4353) = Value 0x300020102
+Flush(4) = Passed
+Fence = Passed
+Store(6499, 0) = Passed
+hands true
+# Entries that lead into the side are fenced alone.
+on two slots
+Exchange(4355, 0, 1) = Won
+Load(8) = Value 1
+Load(34) = Value 1
+Load(2209) = Value 0x100010102
+Fence = Passed
+Store(4355, 0) = Passed
+hands true
+# The guard of the directory is another's.
+on two slots
+Exchange(4355, 0, 1) = Lost 9
+Store(4356, 0) = Passed
+nothing true
+hands false
+end Some(Again(Busy { word: 4355, seen: 9 }))
+";

@@ -1,10 +1,12 @@
 //! Releases of the locks of an insert of key 5, whose home bucket is the first of its segment: their events, their ends, and answers
 //! that were not asked for.
 use crate::memory::site;
+use crate::rows::{Follows, follow};
 use map_model::{Change, Effect};
 use op_core::{Ans, Machine, Want};
 use phase::{Buckets, Held, Kept, Role};
 use release_op::{ReleaseEnd, ReleaseOp};
+use std::alloc::Global;
 use std::test::Fail;
 
 /// What such an insert keeps in an image with so many slots for a segment and of this depth, with these locks in a slot.
@@ -32,42 +34,36 @@ fn end_of(op: ReleaseOp) -> ReleaseEnd {
     }
 }
 
-#[test]
-fn gives_six_locks_back(rt: HostRuntime) -> Result<(), Fail> {
-    let held = Held {
-        home: Some(0),
-        probing: Some(4),
-        first: Some(8),
-        second: Some(2),
-        next: Some(6),
-        previous: Some(u64::MAX - 3),
-    };
-    let mut op = ReleaseOp::new(kept(1, 0, 0, held)?);
-    for want in [
-        Want::Store(96, 2),
-        Want::Store(128, 6),
-        Want::Store(2144, 10),
-        Want::Store(2176, 4),
-        Want::Store(160, 8),
-        Want::Store(2112, u64::MAX - 1),
-    ] {
-        assert_eq!(rt; op.want(), want);
-        assert!(rt; !op.wants_nothing());
-        op.take(Ans::Passed);
+impl Follows for ReleaseOp {
+    fn begun(case: &str) -> Result<ReleaseOp, Fail> {
+        let six = Held {
+            home: Some(0),
+            probing: Some(4),
+            first: Some(8),
+            second: Some(2),
+            next: Some(6),
+            previous: Some(u64::MAX - 3),
+        };
+        let kept = match case {
+            "six" => kept(1, 0, 0, six)?,
+            "slot 1" => kept(2, 1, 1, Held::none().with(Role::Previous, 0))?,
+            _ => kept(1, 0, 0, Held::none())?,
+        };
+        Ok(ReleaseOp::new(kept))
     }
-    assert!(rt; op.wants_nothing());
-    assert_eq!(rt; end_of(op), ReleaseEnd::NeedSplit(0));
-    Ok(())
+
+    fn told(&self, alloc: Global, what: &str) -> Result<String, Fail> {
+        let told = match what {
+            "nothing" => format!(in alloc; "{}", self.wants_nothing())?,
+            _ => format!(in alloc; "{:?}", end_of(*self))?,
+        };
+        Ok(told)
+    }
 }
 
 #[test]
-fn tells_the_slot_of_its_segment(rt: HostRuntime) -> Result<(), Fail> {
-    let held = Held::none().with(Role::Previous, 0);
-    let mut op = ReleaseOp::new(kept(2, 1, 1, held)?);
-    assert_eq!(rt; op.want(), Want::Store(4256, 2));
-    op.take(Ans::Passed);
-    assert_eq!(rt; end_of(op), ReleaseEnd::NeedSplit(1));
-    Ok(())
+fn locks_are_given_back(rt: HostRuntime) -> Result<(), Fail> {
+    follow(rt.alloc(), ReleaseOp::begun("six")?, ROWS)
 }
 
 #[test]
@@ -88,10 +84,30 @@ fn other_answers_change_nothing(rt: HostRuntime) -> Result<(), Fail> {
     Ok(())
 }
 
-#[test]
-fn nothing_is_decided_where_no_lock_was_kept(rt: HostRuntime) -> Result<(), Fail> {
-    let op = ReleaseOp::new(kept(1, 0, 0, Held::none())?);
-    assert!(rt; op.wants_nothing());
-    assert_eq!(rt; end_of(op), ReleaseEnd::Off);
-    Ok(())
-}
+/// Releases of six locks, of one in slot 1, and of none.
+const ROWS: &str = "\
+# Six locks are given back.
+on six
+nothing false
+Store(96, 2) = Passed
+nothing false
+Store(128, 6) = Passed
+nothing false
+Store(2144, 10) = Passed
+nothing false
+Store(2176, 4) = Passed
+nothing false
+Store(160, 8) = Passed
+nothing false
+Store(2112, 18446744073709551614) = Passed
+nothing true
+end NeedSplit(0)
+# It tells the slot of its segment.
+on slot 1
+Store(4256, 2) = Passed
+end NeedSplit(1)
+# Nothing is decided where no lock was kept.
+on none
+nothing true
+end Off
+";

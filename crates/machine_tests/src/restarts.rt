@@ -1,100 +1,118 @@
 //! Restarts of images of one slot and of nine, event for event. Bit 8 of the state word is the marker.
+use crate::rows::{Follows, follow, number};
 use image_layout::Geometry;
-use op_core::{Ans, Machine, Want};
-use restart_op::{RestartOp, RestartStep, Started};
+use op_core::{Machine, Want};
+use restart_op::RestartOp;
+use std::alloc::Global;
 use std::test::Fail;
 
-/// The last three events of a restart, and what it leaves.
-fn ending(op: &mut RestartOp) -> (Want, Want, Want, Option<Started>) {
-    let store = op.want();
-    op.take(Ans::Passed);
-    let flush = op.want();
-    op.take(Ans::Passed);
-    let fence = op.want();
-    op.take(Ans::Passed);
-    let left = match op.want() {
-        Want::Done => Some(op.end()),
-        _ => None,
-    };
-    (store, flush, fence, left)
-}
-
-/// How a restart ends that leaves this version.
-fn ends_with(version: u8, swept: bool) -> (Want, Want, Want, Option<Started>) {
-    (
-        Want::Store(16, u64::from(version)),
-        Want::Flush(2),
-        Want::Fence,
-        Some(Started { version, swept }),
-    )
-}
-
-// Clean ones keep their version, and unclean ones get the next.
-#[test]
-fn versions_without_a_sweep(rt: HostRuntime) -> Result<(), Fail> {
-    let table = [(259, 3), (511, 255), (3, 4), (254, 255), (0xFE03, 4)];
-    for (state, version) in table {
-        let mut op = RestartOp::new(Geometry::new(1, 0, 0)?);
-        assert_eq!(rt; op.want(), Want::Load(16));
-        op.take(Ans::Value(state));
-        assert_eq!(rt; ending(&mut op), ends_with(version, false), "at {state}");
+impl Follows for RestartOp {
+    fn begun(case: &str) -> Result<RestartOp, Fail> {
+        Ok(RestartOp::new(Geometry::new(number(case)?, 0, 0)?))
     }
-    Ok(())
-}
 
-#[test]
-fn a_sweep_of_one_slot(rt: HostRuntime) -> Result<(), Fail> {
-    let mut op = RestartOp::new(Geometry::new(1, 0, 0)?);
-    op.take(Ans::Value(255));
-    assert_eq!(rt; op.want(), Want::Load(65));
-    op.take(Ans::Value(511));
-    assert_eq!(rt; op.want(), Want::Store(65, 256));
-    op.take(Ans::Passed);
-    assert_eq!(rt; op.want(), Want::Flush(8));
-    op.take(Ans::Passed);
-    assert_eq!(rt; op.want(), Want::Fence);
-    op.take(Ans::Passed);
-    assert_eq!(rt; ending(&mut op), ends_with(1, true));
-    Ok(())
-}
-
-// The headers of nine slots stand in words 65, 2209 and so on: 2144 words and 268 lines apart.
-#[test]
-fn a_sweep_of_nine_slots_takes_two_rounds(rt: HostRuntime) -> Result<(), Fail> {
-    let mut op = RestartOp::new(Geometry::new(9, 0, 0)?);
-    op.take(Ans::Value(255));
-    for round in [(0, 8), (8, 9)] {
-        for slot in round.0..round.1 {
-            assert_eq!(rt; op.want(), Want::Load(65 + 2144 * slot));
-            op.take(Ans::Value(0xFF00_0001_FF00_0000 + 512 + slot));
-            assert_eq!(rt;
-                op.want(),
-                Want::Store(65 + 2144 * slot, 0xFF00_0001_FF00_0200)
-            );
-            op.take(Ans::Passed);
+    fn told(&self, alloc: Global, what: &str) -> Result<String, Fail> {
+        if what == "step" {
+            return Ok(format!(in alloc; "{:?}", self.step)?);
         }
-        for slot in round.0..round.1 {
-            assert_eq!(rt; op.want(), Want::Flush(8 + 268 * slot));
-            op.take(Ans::Passed);
-        }
-        assert_eq!(rt; op.want(), Want::Fence);
-        op.take(Ans::Passed);
+        let left = match self.want() {
+            Want::Done => Some(self.end()),
+            _ => None,
+        };
+        Ok(format!(in alloc; "{left:?}")?)
     }
-    assert_eq!(rt; ending(&mut op), ends_with(1, true));
-    Ok(())
 }
 
 #[test]
-fn answers_of_another_kind(rt: HostRuntime) -> Result<(), Fail> {
-    let mut op = RestartOp::new(Geometry::new(1, 0, 0)?);
-    op.take(Ans::Passed);
-    assert_eq!(rt; op.step, RestartStep::Load);
-    op.take(Ans::Value(511));
-    op.take(Ans::Won);
-    let started = Started {
-        version: 255,
-        swept: false,
-    };
-    assert_eq!(rt; op.step, RestartStep::Store(started));
-    Ok(())
+fn restarts_and_sweeps(rt: HostRuntime) -> Result<(), Fail> {
+    follow(rt.alloc(), RestartOp::begun("1")?, ROWS)
 }
+
+/// Restarts, each on an image with so many slots for segments.
+const ROWS: &str = "\
+# Clean ones keep their version, and unclean ones get the next.
+on 1
+Load(16) = Value 259
+Store(16, 3) = Passed
+Flush(2) = Passed
+Fence = Passed
+end Some(Started { version: 3, swept: false })
+on 1
+Load(16) = Value 511
+Store(16, 255) = Passed
+Flush(2) = Passed
+Fence = Passed
+end Some(Started { version: 255, swept: false })
+on 1
+Load(16) = Value 3
+Store(16, 4) = Passed
+Flush(2) = Passed
+Fence = Passed
+end Some(Started { version: 4, swept: false })
+on 1
+Load(16) = Value 254
+Store(16, 255) = Passed
+Flush(2) = Passed
+Fence = Passed
+end Some(Started { version: 255, swept: false })
+on 1
+Load(16) = Value 65027
+Store(16, 4) = Passed
+Flush(2) = Passed
+Fence = Passed
+end Some(Started { version: 4, swept: false })
+# A sweep of one slot.
+on 1
+? = Value 255
+Load(65) = Value 511
+Store(65, 256) = Passed
+Flush(8) = Passed
+Fence = Passed
+Store(16, 1) = Passed
+Flush(2) = Passed
+Fence = Passed
+end Some(Started { version: 1, swept: true })
+# A sweep of nine slots takes two rounds. Their headers stand in words 65, 2209 and so on: 2144 words and 268 lines apart.
+on 9
+? = Value 255
+Load(65) = Value 0xFF000001FF000200
+Store(65, 18374686488244781568) = Passed
+Load(2209) = Value 0xFF000001FF000201
+Store(2209, 18374686488244781568) = Passed
+Load(4353) = Value 0xFF000001FF000202
+Store(4353, 18374686488244781568) = Passed
+Load(6497) = Value 0xFF000001FF000203
+Store(6497, 18374686488244781568) = Passed
+Load(8641) = Value 0xFF000001FF000204
+Store(8641, 18374686488244781568) = Passed
+Load(10785) = Value 0xFF000001FF000205
+Store(10785, 18374686488244781568) = Passed
+Load(12929) = Value 0xFF000001FF000206
+Store(12929, 18374686488244781568) = Passed
+Load(15073) = Value 0xFF000001FF000207
+Store(15073, 18374686488244781568) = Passed
+Flush(8) = Passed
+Flush(276) = Passed
+Flush(544) = Passed
+Flush(812) = Passed
+Flush(1080) = Passed
+Flush(1348) = Passed
+Flush(1616) = Passed
+Flush(1884) = Passed
+Fence = Passed
+Load(17217) = Value 0xFF000001FF000208
+Store(17217, 18374686488244781568) = Passed
+Flush(2152) = Passed
+Fence = Passed
+Store(16, 1) = Passed
+Flush(2) = Passed
+Fence = Passed
+end Some(Started { version: 1, swept: true })
+# Answers of another kind change nothing.
+on 1
+? = Passed
+step Load
+? = Value 511
+? = Won
+step Store(Started { version: 255, swept: false })
+";

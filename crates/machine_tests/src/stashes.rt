@@ -1,18 +1,17 @@
 //! Records that come to the stash of a new image with one segment, on words that another caller may change.
-use crate::memory::{Memory, site};
+use crate::memory::{Memory, departs, site};
+use crate::rows::{Deeds, number, walk};
 use bucket_meta::words::must_visit;
 use hash_word::finger;
-use map_model::{Change, Effect, Reply};
-use op_core::{Ans, Machine, Want, Why};
+use map_model::{Change, Effect};
+use op_core::{Machine, Want};
 use phase::{Buckets, Held, Kept, Role};
 use stash_op::{StashEnd, StashOp};
+use std::alloc::Global;
 use std::test::Fail;
 
 /// The header of a normal segment of version 1 and depth 0.
 const HEAD: u64 = 257;
-/// The lock words of the home bucket of keys 0 to 255, of their probing bucket, and of both stash buckets.
-const LOCKS: [u64; 4] = [96, 128, 2144, 2176];
-
 /// Bucket 0 is full with the even keys 0 to 26, and bucket 1 with the odd keys 1 to 27, all of home 0; and these words are in it.
 fn full_with(pairs: &[(u64, u64)]) -> Result<Memory, Fail> {
     let mut memory = Memory::of(
@@ -72,56 +71,65 @@ fn kept_in(memory: &mut Memory, key: u64) -> Result<Kept, Fail> {
     })
 }
 
-/// Brings the record of this key to the stash: how that ended, and after how many events.
-fn run(memory: &mut Memory, key: u64) -> Result<(StashEnd, u64), Fail> {
-    let mut op = StashOp::new(kept_in(memory, key)?);
-    memory.run(&mut op);
-    let end = if op.want() == Want::Done {
-        op.end()
-    } else {
-        StashEnd::Off
-    };
-    Ok((end, memory.events))
+/// Records that come to the stash, each of which is told by its key.
+#[derive(Drop)]
+struct Stashings;
+
+impl Deeds for Stashings {
+    fn memory(&self) -> Result<Memory, Fail> {
+        full_with(&[])
+    }
+
+    fn told(&mut self, alloc: Global, memory: &mut Memory, deed: &str) -> Result<String, Fail> {
+        let mut op = StashOp::new(kept_in(memory, number(deed)?)?);
+        memory.run(&mut op);
+        let end = if op.want() == Want::Done {
+            op.end()
+        } else {
+            StashEnd::Off
+        };
+        if op.hands_on() {
+            let held = op.kept().held;
+            let (first, second) = (held.first.is_some(), held.second.is_some());
+            return Ok(format!(in alloc; "{end:?} handing on {first} {second}")?);
+        }
+        Ok(format!(in alloc; "{end:?}")?)
+    }
 }
 
-fn done(place: u64) -> StashEnd {
-    StashEnd::Replied(Reply::Done, place)
+#[test]
+fn records_come_to_the_stash(rt: HostRuntime) -> Result<(), Fail> {
+    walk(rt.alloc(), &mut Stashings, ROWS)
 }
+
+/// What stores the record of key 28 and its note in the home bucket, once the first stash bucket is loaded.
+const STASHING: [Want; 15] = [
+    Want::Store(2148, 28),
+    Want::Store(2149, 128),
+    Want::Store(2146, 28),
+    Want::Flush(268),
+    Want::Fence,
+    Want::Store(2145, 1),
+    Want::Flush(268),
+    Want::Fence,
+    Want::Store(97, 0x1000_3FFF),
+    Want::Store(99, 0x001C_1A18_1614_1210),
+    Want::Draw,
+    Want::Store(96, 2),
+    Want::Store(128, 2),
+    Want::Store(2144, 2),
+    Want::Done,
+];
 
 #[test]
 fn events_with_a_note_of_the_home_bucket(rt: HostRuntime) -> Result<(), Fail> {
     let mut memory = full_with(&[])?;
     let mut op = StashOp::new(kept_in(&mut memory, 28)?);
-    for want in [Want::Load(2144), Want::Exchange(2144, 0, 1)] {
-        assert_eq!(rt; op.want(), want);
-        op.take(memory.answer(want));
-    }
-    for at in 2145..2176u64 {
-        assert_eq!(rt; op.want(), Want::Load(at));
-        op.take(memory.answer(Want::Load(at)));
-    }
-    for want in [
-        Want::Store(2148, 28),
-        Want::Store(2149, 128),
-        Want::Store(2146, 28),
-        Want::Flush(268),
-        Want::Fence,
-        Want::Store(2145, 1),
-        Want::Flush(268),
-        Want::Fence,
-        Want::Store(97, 0x1000_3FFF),
-        Want::Store(99, 0x001C_1A18_1614_1210),
-        Want::Draw,
-        Want::Store(96, 2),
-        Want::Store(128, 2),
-        Want::Store(2144, 2),
-        Want::Done,
-    ] {
-        assert_eq!(rt; op.want(), want);
-        op.take(memory.answer(want));
-    }
-    let end = run(&mut full_with(&[])?, 28)?;
-    assert_eq!(rt; end, (done(0), 47));
+    let locking = [Want::Load(2144), Want::Exchange(2144, 0, 1)];
+    let locking = departs(&mut op, &mut memory, &locking);
+    let loading = memory.departs_from_loads(&mut op, 2145, 2176);
+    let stashing = departs(&mut op, &mut memory, &STASHING);
+    assert_eq!(rt; locking.or(loading).or(stashing), None);
     Ok(())
 }
 
@@ -130,7 +138,8 @@ fn stores_of_note(before: u64) -> Result<[Want; 3], Fail> {
     let mut memory = full_with(&[])?;
     for key in 28..56u64 {
         if key < before.wrapping_add(28) {
-            run(&mut memory, key)?;
+            let mut earlier = StashOp::new(kept_in(&mut memory, key)?);
+            memory.run(&mut earlier);
         }
     }
     let mut op = StashOp::new(kept_in(&mut memory, before.wrapping_add(28))?);
@@ -149,88 +158,68 @@ fn stores_of_note(before: u64) -> Result<[Want; 3], Fail> {
     Ok(stores)
 }
 
+/// After how many records, and which stores: in the home bucket, in words 1 and 3, and in word 1 alone where the fingerprint stands there; in the
+/// probing bucket, with its membership bit; and by the count of the home bucket, raised from 0 to 1.
+const NOTES: [(u64, [Want; 3]); 4] = [
+    (
+        1,
+        [
+            Want::Store(97, 0x3000_3FFF),
+            Want::Store(99, 0x1D1C_1A18_1614_1210),
+            Want::Done,
+        ],
+    ),
+    (
+        2,
+        [
+            Want::Store(97, 0x0003_C000_7000_3FFF),
+            Want::Done,
+            Want::Done,
+        ],
+    ),
+    (
+        4,
+        [
+            Want::Store(129, 0x0001_1FFF_FFFF),
+            Want::Store(131, 0x0020_1B19_1715_1311),
+            Want::Done,
+        ],
+    ),
+    (
+        8,
+        [
+            Want::Store(97, 0x03E3_C100_F000_3FFF),
+            Want::Done,
+            Want::Done,
+        ],
+    ),
+];
+
 #[test]
 fn stores_of_each_note(rt: HostRuntime) -> Result<(), Fail> {
-    // In the home bucket: in words 1 and 3, and in word 1 alone where the fingerprint stands there.
-    let stores = stores_of_note(1)?;
-    let both = [
-        Want::Store(97, 0x3000_3FFF),
-        Want::Store(99, 0x1D1C_1A18_1614_1210),
-        Want::Done,
-    ];
-    assert_eq!(rt; stores, both);
-    let stores = stores_of_note(2)?;
-    let one = [
-        Want::Store(97, 0x0003_C000_7000_3FFF),
-        Want::Done,
-        Want::Done,
-    ];
-    assert_eq!(rt; stores, one);
-    // In the probing bucket, with its membership bit.
-    let stores = stores_of_note(4)?;
-    let probing = [
-        Want::Store(129, 0x0001_1FFF_FFFF),
-        Want::Store(131, 0x0020_1B19_1715_1311),
-        Want::Done,
-    ];
-    assert_eq!(rt; stores, probing);
-    // By the count of the home bucket, raised from 0 to 1.
-    let stores = stores_of_note(8)?;
-    let counted = [
-        Want::Store(97, 0x03E3_C100_F000_3FFF),
-        Want::Done,
-        Want::Done,
-    ];
-    assert_eq!(rt; stores, counted);
+    for (before, stores) in NOTES {
+        assert_eq!(rt; stores_of_note(before)?, stores, "after {before}");
+    }
     Ok(())
 }
 
-#[test]
-fn stash_fills_up(rt: HostRuntime) -> Result<(), Fail> {
-    let mut memory = full_with(&[])?;
-    for key in 28..56u64 {
-        let (end, _) = run(&mut memory, key)?;
-        assert_eq!(rt; end, done(key.wrapping_sub(28)), "key {key}");
+/// How many events pass before a machine hands on, 200 at the most.
+fn events_until_handing_on(op: &mut StashOp, memory: &mut Memory) -> u8 {
+    for event in 0..200u8 {
+        if op.hands_on() {
+            return event;
+        }
+        let want = op.want();
+        op.take(memory.answer(want));
     }
-    for (at, value) in [
-        (97u64, 0x03E3_D400_F000_3FFF),
-        (98, 0x0E0C_0A08_0604_0200),
-        (99, 0x1D1C_1A18_1614_1210),
-        (129, 0x0464_400F_FFFF_FFFF),
-        (130, 0x0F0D_0B09_0705_0301),
-        (131, 0x2120_1B19_1715_1311),
-        (2145, 0x3FFF),
-        (2177, 0x3FFF),
-        (2148, 28),
-        (2180, 42),
-        (2207, 155),
-    ] {
-        assert_eq!(rt; memory.word(at), value, "at {at}");
-    }
-    let mut op = StashOp::new(kept_in(&mut memory, 56)?);
-    assert!(rt; op.hands_on());
-    let kept = op.kept();
-    assert!(rt; kept.held.first.is_some() && kept.held.second.is_some());
-    assert_eq!(rt; op.want(), Want::Done);
-    let end = if op.wants_nothing() {
-        op.end()
-    } else {
-        StashEnd::Off
-    };
-    assert_eq!(rt; end, StashEnd::NeedSplit(0));
-    Ok(())
+    200
 }
 
 #[test]
 fn full_stash_is_handed_on(rt: HostRuntime) -> Result<(), Fail> {
     let mut memory = full_with(&[(2145, 0x3FFF), (2177, 0x3FFF), (2176, 8)])?;
     let mut op = StashOp::new(kept_in(&mut memory, 28)?);
-    for _ in 0..66u8 {
-        assert!(rt; !op.hands_on());
-        let want = op.want();
-        op.take(memory.answer(want));
-    }
-    assert!(rt; op.hands_on());
+    let events = events_until_handing_on(&mut op, &mut memory);
     let held = Held {
         home: Some(0),
         probing: Some(0),
@@ -239,45 +228,82 @@ fn full_stash_is_handed_on(rt: HostRuntime) -> Result<(), Fail> {
         ..Held::none()
     };
     assert_eq!(rt; op.kept().held, held);
-    assert_eq!(rt; op.kept().buckets.second[1], 0x3FFF);
-    for (lock, value) in [(96u64, 1), (128, 1), (2144, 1), (2176, 9)] {
-        assert_eq!(rt; memory.word(lock), value);
-    }
+    let words = [
+        u64::from(events),
+        op.kept().buckets.second[1],
+        memory.word(96),
+        memory.word(128),
+        memory.word(2144),
+        memory.word(2176),
+    ];
+    assert_eq!(rt; words, [66, 0x3FFF, 1, 1, 1, 9]);
     Ok(())
 }
 
-#[test]
-fn each_lock_is_another_s(rt: HostRuntime) -> Result<(), Fail> {
-    for (lock, look, first) in [(2144u64, 0u64, 0), (2176, 33, 0x3FFF)] {
-        let mut memory = full_with(&[(2145, first), (lock, 3)])?;
-        let busy = StashEnd::Again(Why::Busy {
-            word: lock,
-            seen: 3,
-        });
-        let (end, _) = run(&mut memory, 28)?;
-        assert_eq!(rt; end, busy);
-        for after in [3u64, 4] {
-            let mut memory = full_with(&[(2145, first)])?;
-            memory.other = (look.wrapping_add(1), lock, after);
-            let (end, _) = run(&mut memory, 28)?;
-            let moved = StashEnd::Again(Why::Moved {
-                word: lock,
-                before: 0,
-                after,
-            });
-            assert_eq!(rt; end, if after == 3 { busy } else { moved });
-            assert_eq!(rt; memory.word(lock), after);
-            for other in LOCKS {
-                if other < lock {
-                    assert_eq!(rt; memory.word(other), 2, "at {other}");
-                }
-            }
-        }
-        let mut memory = full_with(&[(2145, first), (lock, u64::MAX - 1), (2208, 6)])?;
-        let (end, _) = run(&mut memory, 28)?;
-        assert_eq!(rt; end, StashEnd::Replied(Reply::Spent, 6));
-        assert_eq!(rt; memory.word(lock), u64::MAX - 1);
-        assert_eq!(rt; memory.word(96), 2);
-    }
-    Ok(())
-}
+/// Records that come to the stash behind two full buckets, as `crate::rows` reads them.
+const ROWS: &str = "\
+# Into a bucket with a free note.
+on -
+do 28 -> Replied(Done, 0) in 47
+# The stash fills up, and then the segment is to be split: both stash buckets are locked, and handed on.
+on -
+do 28 -> Replied(Done, 0)
+do 29 -> Replied(Done, 1)
+do 30 -> Replied(Done, 2)
+do 31 -> Replied(Done, 3)
+do 32 -> Replied(Done, 4)
+do 33 -> Replied(Done, 5)
+do 34 -> Replied(Done, 6)
+do 35 -> Replied(Done, 7)
+do 36 -> Replied(Done, 8)
+do 37 -> Replied(Done, 9)
+do 38 -> Replied(Done, 10)
+do 39 -> Replied(Done, 11)
+do 40 -> Replied(Done, 12)
+do 41 -> Replied(Done, 13)
+do 42 -> Replied(Done, 14)
+do 43 -> Replied(Done, 15)
+do 44 -> Replied(Done, 16)
+do 45 -> Replied(Done, 17)
+do 46 -> Replied(Done, 18)
+do 47 -> Replied(Done, 19)
+do 48 -> Replied(Done, 20)
+do 49 -> Replied(Done, 21)
+do 50 -> Replied(Done, 22)
+do 51 -> Replied(Done, 23)
+do 52 -> Replied(Done, 24)
+do 53 -> Replied(Done, 25)
+do 54 -> Replied(Done, 26)
+do 55 -> Replied(Done, 27)
+has 97=0x3E3D400F0003FFF 98=0xE0C0A0806040200 99=0x1D1C1A1816141210 129=0x464400FFFFFFFFF 130=0xF0D0B0907050301 131=0x21201B1917151311
+has 2145=0x3FFF 2177=0x3FFF 2148=28 2180=42 2207=155
+do 56 -> NeedSplit(0) handing on true true in 0
+# Each stash bucket's lock is another's: at first; and it is taken, or has moved on, after it was looked at. Those before it are given back. And it has
+# its last version.
+on 2145=0x0 2144=3
+do 28 -> Again(Busy { word: 2144, seen: 3 })
+on 2145=0x0
+other 1 2144=3
+do 28 -> Again(Busy { word: 2144, seen: 3 })
+has 2144=3 96=2 128=2
+on 2145=0x0
+other 1 2144=4
+do 28 -> Again(Moved { word: 2144, before: 0, after: 4 })
+has 2144=4 96=2 128=2
+on 2145=0x0 2144=0xFFFFFFFFFFFFFFFE 2208=6
+do 28 -> Replied(Spent, 6)
+has 2144=0xFFFFFFFFFFFFFFFE 96=2
+on 2145=0x3FFF 2176=3
+do 28 -> Again(Busy { word: 2176, seen: 3 })
+on 2145=0x3FFF
+other 34 2176=3
+do 28 -> Again(Busy { word: 2176, seen: 3 })
+has 2176=3 96=2 128=2 2144=2
+on 2145=0x3FFF
+other 34 2176=4
+do 28 -> Again(Moved { word: 2176, before: 0, after: 4 })
+has 2176=4 96=2 128=2 2144=2
+on 2145=0x3FFF 2176=0xFFFFFFFFFFFFFFFE 2208=6
+do 28 -> Replied(Spent, 6)
+has 2176=0xFFFFFFFFFFFFFFFE 96=2
+";

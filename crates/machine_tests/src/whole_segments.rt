@@ -38,25 +38,27 @@ fn full_home(rt: &impl Abort, halves: bool) -> Loaded {
 fn halves_of_a_full_home(rt: HostRuntime) -> Result<(), Fail> {
     let geometry = Geometry::new(2, 1, 0)?;
     let loaded = full_home(&rt, true);
-    assert_eq!(rt; loaded.covered_slots(&geometry, 0, 1, 1), 0x3FFF);
-    assert_eq!(rt; loaded.covered_slots(&geometry, 1, 1, 1), 0);
-    assert_eq!(rt; loaded.covered_slots(&geometry, 64, 1, 1), 0x1555);
-    assert_eq!(rt; loaded.covered_slots(&geometry, 65, 1, 1), 0x1555);
-    assert_eq!(rt; loaded.covered_slots(&geometry, 65, 1, 0), 0x2AAA);
-    assert_eq!(rt; loaded.covered_slots(&geometry, 65, 0, 0), 0x3FFF);
+    let covered = [
+        loaded.covered_slots(&geometry, 0, 1, 1),
+        loaded.covered_slots(&geometry, 1, 1, 1),
+        loaded.covered_slots(&geometry, 64, 1, 1),
+        loaded.covered_slots(&geometry, 65, 1, 1),
+        loaded.covered_slots(&geometry, 65, 1, 0),
+        loaded.covered_slots(&geometry, 65, 0, 0),
+    ];
+    assert_eq!(rt; covered, [0x3FFF, 0, 0x1555, 0x1555, 0x2AAA, 0x3FFF]);
     let half = loaded.half(&geometry, 1, 1).first;
     let rest = loaded.without_half(&geometry, 1, 1).first;
-    for (bucket, moved, stayed) in [(0, 0x3FFF, 0), (1, 0, 0x0FFF_FFFF), (64, 0x1555, 0x2AAA)] {
-        let at: usize = bucket;
-        assert_eq!(rt; half[at], moved);
-        assert_eq!(rt; rest[at], stayed);
-    }
-    assert_eq!(rt; copied_mark(0x0464_400F_FFFF_FFFF, 0x0003), 0x0000_C003);
-    assert_eq!(rt;
-        cleared_mark(0x0464_400F_FFFF_FFFF, 0x0003),
-        0x0464_400F_FFFF_3FFC
-    );
+    assert_eq!(rt; [half[0], half[1], half[64]], [0x3FFF, 0, 0x1555]);
+    assert_eq!(rt; [rest[0], rest[1], rest[64]], [0, 0x0FFF_FFFF, 0x2AAA]);
     Ok(())
+}
+
+#[test]
+fn marks_of_a_copy_and_of_what_is_cleared(rt: HostRuntime) {
+    let mark = 0x0464_400F_FFFF_FFFF;
+    let marks = [copied_mark(mark, 0x0003), cleared_mark(mark, 0x0003)];
+    assert_eq!(rt; marks, [0x0000_C003, 0x0464_400F_FFFF_3FFC]);
 }
 
 #[test]
@@ -98,14 +100,15 @@ fn a_repair_keeps_the_first_of_a_key(rt: HostRuntime) -> Result<(), Fail> {
     loaded.set_first(1, 0x0001);
     loaded.set_first(2, 0x4001);
     loaded.set_first(65, 0x0018);
-    assert_eq!(rt; loaded.spoiled_slots(&geometry, 1, 0, 0), 0);
-    assert_eq!(rt; loaded.spoiled_slots(&geometry, 2, 0, 0), 1);
-    assert_eq!(rt; loaded.spoiled_slots(&geometry, 65, 0, 0), 0x0008);
-    assert_eq!(rt; loaded.spoiled_slots(&geometry, 65, 1, 0), 0x0018);
+    let spoiled = [
+        loaded.spoiled_slots(&geometry, 1, 0, 0),
+        loaded.spoiled_slots(&geometry, 2, 0, 0),
+        loaded.spoiled_slots(&geometry, 65, 0, 0),
+        loaded.spoiled_slots(&geometry, 65, 1, 0),
+    ];
+    assert_eq!(rt; spoiled, [0, 1, 0x0008, 0x0018]);
     let mended = loaded.mended(&geometry, 0, 0).first;
-    assert_eq!(rt; mended[1], 0x0001);
-    assert_eq!(rt; mended[2], 0);
-    assert_eq!(rt; mended[65], 0x0010);
+    assert_eq!(rt; [mended[1], mended[2], mended[65]], [0x0001, 0, 0x0010]);
     loaded.set_first(1, 0);
     assert_eq!(rt; loaded.spoiled_slots(&geometry, 2, 1, 0), 0);
     Ok(())
@@ -120,11 +123,11 @@ fn notes_of_a_full_stash(rt: HostRuntime) -> Result<(), Fail> {
     loaded.set_third(1, 0x0000_1B19_1715_1311);
     loaded.set_first(63, 0x03E3_D400_F000_0000);
     let notes = rebuilt_notes(&loaded, &geometry);
-    assert_eq!(rt; notes.first[0], 0x03E3_D400_F000_3FFF);
-    assert_eq!(rt; notes.third[0], 0x1D1C_1A18_1614_1210);
-    assert_eq!(rt; notes.first[1], 0x0464_400F_FFFF_FFFF);
-    assert_eq!(rt; notes.third[1], 0x2120_1B19_1715_1311);
-    assert_eq!(rt; notes.first[63], 0);
+    let (first, third) = (notes.first, notes.third);
+    let firsts = [first[0], first[1], first[63]];
+    assert_eq!(rt; firsts, [0x03E3_D400_F000_3FFF, 0x0464_400F_FFFF_FFFF, 0]);
+    let thirds = [third[0], third[1]];
+    assert_eq!(rt; thirds, [0x1D1C_1A18_1614_1210, 0x2120_1B19_1715_1311]);
     Ok(())
 }
 

@@ -10,33 +10,38 @@ fn reads_a_full_bucket(rt: HostRuntime) {
         0x1D1C_1A18_1614_1210,
     ];
     let meta = Meta::read(words);
-    assert_eq!(rt; meta.alloc, 0x3FFF);
-    assert_eq!(rt; meta.member, 0);
-    assert_eq!(rt; meta.used, 0xF);
-    assert_eq!(rt; meta.omember, 0);
-    assert_eq!(rt; meta.oindex, 0);
-    assert_eq!(rt; meta.ocount, 20);
+    let full = Meta {
+        alloc: 0x3FFF,
+        member: 0,
+        used: 0xF,
+        omember: 0,
+        oindex: 0,
+        ocount: 20,
+        fps: [0, 2, 4, 6, 8, 10, 12, 14, 16, 18, 20, 22, 24, 26],
+        ofps: [0x1C, 0x1D, 0x1E, 0x1F],
+    };
+    assert_eq!(rt; meta, full);
     assert_eq!(rt;
-        meta.fps,
-        [0, 2, 4, 6, 8, 10, 12, 14, 16, 18, 20, 22, 24, 26]
+        (meta.write(), meta.filled(), meta.free_slot()),
+        (words, 14, None)
     );
-    assert_eq!(rt; meta.ofps, [0x1C, 0x1D, 0x1E, 0x1F]);
-    assert_eq!(rt; meta.write(), words);
-    assert_eq!(rt; meta.filled(), 14);
-    assert_eq!(rt; meta.free_slot(), None);
 }
 
 #[test]
 fn reads_a_full_bucket_of_members(rt: HostRuntime) {
     let words = [0x0464_400F_FFFF_FFFF, 0, 0];
     let meta = Meta::read(words);
-    assert_eq!(rt; meta.alloc, 0x3FFF);
-    assert_eq!(rt; meta.member, 0x3FFF);
-    assert_eq!(rt; meta.used, 0xF);
-    assert_eq!(rt; meta.omember, 0xF);
-    assert_eq!(rt; meta.oindex, 0);
-    assert_eq!(rt; meta.ocount, 0);
-    assert_eq!(rt; meta.ofps, [0, 0, 0x22, 0x23]);
+    let full = Meta {
+        alloc: 0x3FFF,
+        member: 0x3FFF,
+        used: 0xF,
+        omember: 0xF,
+        oindex: 0,
+        ocount: 0,
+        fps: [0; 14],
+        ofps: [0, 0, 0x22, 0x23],
+    };
+    assert_eq!(rt; meta, full);
     assert_eq!(rt; written_of_read(words), words);
 }
 
@@ -59,11 +64,11 @@ fn writes_a_bucket_of_unlike_fields(rt: HostRuntime) {
         ],
         ofps: [0xA1, 0xB2, 0xC3, 0xD4],
     };
-    assert_eq!(rt; meta.write(), words);
-    assert_eq!(rt; Meta::read(words), meta);
-    assert_eq!(rt; read_of_written(&meta), meta);
-    assert_eq!(rt; meta.free_slot(), Some(2));
-    assert_eq!(rt; meta.filled(), 8);
+    assert_eq!(rt;
+        (meta.write(), meta.filled(), meta.free_slot()),
+        (words, 8, Some(2))
+    );
+    assert_eq!(rt; [Meta::read(words), read_of_written(&meta)], [meta, meta]);
 }
 
 #[test]
@@ -73,13 +78,12 @@ fn places_and_clears_a_member(rt: HostRuntime) {
     meta.place(0, 0xAB, true);
     let [first, second, third] = meta.write();
     assert_eq!(rt; first.to_le_bytes(), [0x01, 0x40, 0, 0, 0, 0, 0, 0]);
-    assert_eq!(rt; second, 0xAB);
-    assert_eq!(rt; third, 0);
+    assert_eq!(rt; [second, third], [0xAB, 0]);
     meta.place(0, 0xAB, false);
-    assert_eq!(rt; meta.write(), [1, 0xAB, 0]);
+    let placed = meta.write();
     meta.clear(0);
-    assert_eq!(rt; meta.write(), [0, 0xAB, 0]);
-    assert_eq!(rt; meta.free_slot(), Some(0));
+    let cleared = (placed, meta.write(), meta.free_slot());
+    assert_eq!(rt; cleared, ([1, 0xAB, 0], [0, 0xAB, 0], Some(0)));
 }
 
 #[test]
@@ -88,13 +92,20 @@ fn visits_the_stash_buckets_that_notes_name(rt: HostRuntime) {
     let w1 = (0x5 << 28) + (0x4 << 32) + (0x1 << 36) + (0xC3 << 45);
     let w3 = 0xA1 << 48;
     let counted = w1 + (1 << 40);
-    assert_eq!(rt; words::must_visit(w1, w3, 0, 0, 0xA1, 1), true);
-    assert_eq!(rt; words::must_visit(w1, w3, 0, 0, 0xA1, 0), false);
-    assert_eq!(rt; words::must_visit(w1, w3, 0, 0, 0xC3, 0), false);
-    assert_eq!(rt; words::must_visit(0, 0, w1, w3, 0xC3, 0), true);
-    assert_eq!(rt; words::must_visit(0, 0, w1, w3, 0xC3, 1), false);
-    assert_eq!(rt; words::must_visit(0, 0, w1, w3, 0xA1, 1), false);
-    assert_eq!(rt; words::must_visit(counted, w3, 0, 0, 0xEE, 0), true);
-    assert_eq!(rt; words::must_visit(counted, w3, 0, 0, 0xEE, 1), true);
-    assert_eq!(rt; words::must_visit(0, 0, counted, w3, 0xEE, 0), false);
+    let home = (w1, w3, 0, 0);
+    let probing = (0, 0, w1, w3);
+    for ((h1, h3, p1, p3), finger, index, visits) in [
+        (home, 0xA1, 1, true),
+        (home, 0xA1, 0, false),
+        (home, 0xC3, 0, false),
+        (probing, 0xC3, 0, true),
+        (probing, 0xC3, 1, false),
+        (probing, 0xA1, 1, false),
+        ((counted, w3, 0, 0), 0xEE, 0, true),
+        ((counted, w3, 0, 0), 0xEE, 1, true),
+        ((0, 0, counted, w3), 0xEE, 0, false),
+    ] {
+        let found = words::must_visit(h1, h3, p1, p3, finger, index);
+        assert_eq!(rt; found, visits, "{h1} {p1} {finger} {index}");
+    }
 }

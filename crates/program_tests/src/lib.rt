@@ -31,6 +31,8 @@ mod places;
 #[cfg(test)]
 mod plays;
 #[cfg(test)]
+mod rows;
+#[cfg(test)]
 mod runs;
 #[cfg(test)]
 mod scripts;

@@ -11,17 +11,17 @@ fn places_of_three_shapes(rt: HostRuntime) -> Result<(), Fail> {
     ];
     for (segments, depth, kind, words, head, bucket, stash, entry) in table {
         let geometry = Geometry::new(segments, depth, kind)?;
-        assert_eq!(rt; geometry.segments(), segments);
-        assert_eq!(rt; geometry.depth(), depth);
-        assert_eq!(rt; geometry.kind(), kind);
-        assert_eq!(rt; geometry.words(), words);
-        assert_eq!(rt; geometry.head_at(geometry.segments() - 1), head);
-        assert_eq!(rt; geometry.bucket_at(geometry.segments() - 1, 63), bucket);
-        assert_eq!(rt; geometry.stash_at(geometry.segments() - 1, 1), stash);
-        assert_eq!(rt;
+        let shape = [geometry.segments(), geometry.depth(), geometry.kind()];
+        assert_eq!(rt; shape, [segments, depth, kind]);
+        let last = geometry.segments() - 1;
+        let found = [
+            geometry.words(),
+            geometry.head_at(last),
+            geometry.bucket_at(last, 63),
+            geometry.stash_at(last, 1),
             geometry.entry_at(geometry.depth(), (1 << geometry.depth()) - 1),
-            entry
-        );
+        ];
+        assert_eq!(rt; found, [words, head, bucket, stash, entry], "{shape:?}");
     }
     let smallest = Geometry::new(1, 0, 0)?;
     assert_eq!(rt; smallest.bucket_at(0, 0), 96);
@@ -31,19 +31,27 @@ fn places_of_three_shapes(rt: HostRuntime) -> Result<(), Fail> {
 #[test]
 fn words_behind_the_image(rt: HostRuntime) -> Result<(), Fail> {
     let geometry = Geometry::new(256, 8, 1)?;
-    assert_eq!(rt; geometry.counter_word(), 549408);
-    assert_eq!(rt; geometry.power_word(), 549409);
-    assert_eq!(rt; geometry.allocation_guard(), 549410);
-    assert_eq!(rt; geometry.directory_guard(), 549411);
-    assert_eq!(rt; geometry.segment_guard(0), 549412);
-    assert_eq!(rt; geometry.segment_guard(255), 549667);
+    let words = [
+        geometry.counter_word(),
+        geometry.power_word(),
+        geometry.allocation_guard(),
+        geometry.directory_guard(),
+        geometry.segment_guard(0),
+        geometry.segment_guard(255),
+    ];
+    assert_eq!(rt; words, [549408, 549409, 549410, 549411, 549412, 549667]);
     Ok(())
 }
 
 #[test]
 fn numbers_out_of_range(rt: HostRuntime) {
-    assert_eq!(rt; Geometry::new(0, 17, 2).err(), Some(GeoFault::Segments));
-    assert_eq!(rt; Geometry::new(16385, 0, 0).err(), Some(GeoFault::Segments));
-    assert_eq!(rt; Geometry::new(1, 17, 2).err(), Some(GeoFault::Depth));
-    assert_eq!(rt; Geometry::new(1, 16, 2).err(), Some(GeoFault::Kind));
+    for (segments, depth, kind, fault) in [
+        (0, 17, 2, GeoFault::Segments),
+        (16385, 0, 0, GeoFault::Segments),
+        (1, 17, 2, GeoFault::Depth),
+        (1, 16, 2, GeoFault::Kind),
+    ] {
+        let said = Geometry::new(segments, depth, kind).err();
+        assert_eq!(rt; said, Some(fault), "{segments} {depth} {kind}");
+    }
 }

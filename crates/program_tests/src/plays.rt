@@ -38,6 +38,11 @@ fn not_zero(alloc: Global, words: &[u64]) -> Result<Vec<(usize, u64)>, Fail> {
     Ok(row)
 }
 
+// Whether the open call of a stop had begun, if there is one.
+fn begun(left: &Session, at: usize) -> Option<bool> {
+    left.stops.get(at).copied().flatten().map(|stop| stop.begun)
+}
+
 // A word of the image that is left.
 fn word_of(left: &Session, at: usize) -> Option<u64> {
     left.medium.words.as_slice().get(at).copied()
@@ -68,8 +73,7 @@ fn an_insert_and_a_get_to_the_close(rt: HostRuntime) -> Result<(), Fail> {
         not_zero(alloc, left.medium.words.as_slice())?.as_slice(),
         ROW.as_slice()
     );
-    assert!(rt; !left.cut);
-    assert_eq!(rt; left.stops[0], None);
+    assert_eq!(rt; (left.cut, left.stops[0]), (false, None));
     Ok(())
 }
 
@@ -80,10 +84,9 @@ fn a_cut_behind_the_second_flush(rt: HostRuntime) -> Result<(), Fail> {
         (1, "1 insert 5 7\nuntil 1 flush 2\ncut 1\n"),
     ] {
         let left = played(rt.alloc(), script)?;
-        assert!(rt; left.cut);
-        assert_eq!(rt; entries_of(&left, 1).len(), 0);
-        assert_eq!(rt; left.stops[0].map(|stop| stop.begun), Some(true));
-        assert_eq!(rt; word_of(&left, 97), Some(choice));
+        let told = (left.cut, entries_of(&left, 1).len(), begun(&left, 0));
+        assert_eq!(rt; told, (true, 0, Some(true)), "{script}");
+        assert_eq!(rt; word_of(&left, 97), Some(choice), "{script}");
     }
     Ok(())
 }
@@ -110,8 +113,7 @@ fn a_caller_that_finds_a_lock_tries_again(rt: HostRuntime) -> Result<(), Fail> {
     };
     assert_eq!(rt; entries_of(&left, 1), [first].as_slice());
     assert_eq!(rt; entries_of(&left, 2), [second].as_slice());
-    assert_eq!(rt; left.lists.callers(), 2);
-    assert_eq!(rt; left.stops[1], None);
+    assert_eq!(rt; (left.lists.callers(), left.stops[1]), (2, None));
     Ok(())
 }
 
@@ -120,20 +122,17 @@ fn a_line_stops_where_an_attempt_ends_in_again(rt: HostRuntime) -> Result<(), Fa
     let script = format!(in rt.alloc(); "{TWO_CALLERS}cut 1\n")?;
     let left = played(rt.alloc(), &script)?;
     assert_eq!(rt; entries_of(&left, 2).len(), 0);
-    assert_eq!(rt; left.stops[0].map(|stop| stop.begun), Some(true));
-    assert_eq!(rt; left.stops[1].map(|stop| stop.begun), Some(true));
-    assert_eq!(rt; left.stops[2], None);
+    let begun = [begun(&left, 0), begun(&left, 1), begun(&left, 2)];
+    assert_eq!(rt; begun, [Some(true), Some(true), None]);
     Ok(())
 }
 
 #[test]
 fn callers_without_calls_are_there(rt: HostRuntime) -> Result<(), Fail> {
     let left = played(rt.alloc(), "3 insert 5 7\nstep 2 9\nuntil 64 end 1\n")?;
-    assert_eq!(rt; left.lists.callers(), 3);
-    assert_eq!(rt; entries_of(&left, 1).len(), 0);
-    assert_eq!(rt; entries_of(&left, 3).len(), 1);
+    let lengths = (entries_of(&left, 1).len(), entries_of(&left, 3).len());
+    assert_eq!(rt; (left.lists.callers(), lengths), (3, (0, 1)));
     let left = played(rt.alloc(), "step 1 5\n")?;
-    assert_eq!(rt; left.lists.callers(), 0);
-    assert!(rt; !left.cut);
+    assert_eq!(rt; (left.lists.callers(), left.cut), (0, false));
     Ok(())
 }

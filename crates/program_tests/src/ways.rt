@@ -7,14 +7,20 @@ use way::{bucket_word, entry_word, head_word, is_covering, is_leading, key_hash}
 fn words_of_the_smallest_image(rt: HostRuntime) -> Result<(), Fail> {
     let geometry = Geometry::new(1, 0, 0)?;
     let hash = 0xE220A8397B1DCDAF;
-    assert_eq!(rt; ROOT_WORD, 8);
-    assert_eq!(rt; entry_word(&geometry, hash, 0), 32);
-    assert_eq!(rt; head_word(&geometry, 0), 65);
-    assert_eq!(rt; bucket_word(&geometry, 0, 0), 96);
-    assert_eq!(rt; bucket_word(&geometry, 0, 13), 512);
-    assert_eq!(rt; entry_word(&geometry, hash, 1), 8);
-    assert_eq!(rt; head_word(&geometry, 1), 8);
-    assert_eq!(rt; bucket_word(&geometry, 1, 13), 8);
+    let words = [
+        ROOT_WORD,
+        entry_word(&geometry, hash, 0),
+        head_word(&geometry, 0),
+        bucket_word(&geometry, 0, 0),
+        bucket_word(&geometry, 0, 13),
+    ];
+    assert_eq!(rt; words, [8, 32, 65, 96, 512]);
+    let amiss = [
+        entry_word(&geometry, hash, 1),
+        head_word(&geometry, 1),
+        bucket_word(&geometry, 1, 13),
+    ];
+    assert_eq!(rt; amiss, [8, 8, 8]);
     Ok(())
 }
 
@@ -22,14 +28,24 @@ fn words_of_the_smallest_image(rt: HostRuntime) -> Result<(), Fail> {
 fn hashes_and_covers(rt: HostRuntime) -> Result<(), Fail> {
     let identity = Geometry::new(1, 0, 0)?;
     let mixed = Geometry::new(16, 4, 1)?;
-    assert_eq!(rt; key_hash(&identity, 77), 77);
-    assert_eq!(rt; key_hash(&mixed, 0x9E3779B97F4A7C15), 0xE220A8397B1DCDAF);
-    assert_eq!(rt; entry_word(&mixed, 0xE220A8397B1DCDAF, 4), 61);
-    assert!(rt; is_covering(0x0000000E00040101, 0xE220A8397B1DCDAF));
-    assert!(rt; !is_covering(0x0000000F00040101, 0xE220A8397B1DCDAF));
-    assert!(rt; !is_covering(0x0000000E00410101, 0xE220A8397B1DCDAF));
-    assert!(rt; is_leading(0x0000000E00040101, 0xE220A8397B1DCDAF));
-    assert!(rt; !is_leading(0x0000000E00040201, 0xE220A8397B1DCDAF));
-    assert!(rt; !is_leading(0x0000000F00040101, 0xE220A8397B1DCDAF));
+    let hash = 0xE220A8397B1DCDAF;
+    let found = [
+        key_hash(&identity, 77),
+        key_hash(&mixed, 0x9E3779B97F4A7C15),
+        entry_word(&mixed, hash, 4),
+    ];
+    assert_eq!(rt; found, [77, hash, 61]);
+    let covering = [
+        is_covering(0x0000000E00040101, hash),
+        is_covering(0x0000000F00040101, hash),
+        is_covering(0x0000000E00410101, hash),
+    ];
+    assert_eq!(rt; covering, [true, false, false]);
+    let leading = [
+        is_leading(0x0000000E00040101, hash),
+        is_leading(0x0000000E00040201, hash),
+        is_leading(0x0000000F00040101, hash),
+    ];
+    assert_eq!(rt; leading, [true, false, false]);
     Ok(())
 }
