@@ -12,7 +12,7 @@ use Rattle.core_run.specs.declared.goal.Goal.TheVariants.{Turn}
 use Rattle.core_run.specs.State.{State}
 use Rattle.core_run.specs.Run.{drive, round, rounds, has_calls}
 use Rattle.core_run.specs.Running.{Setup, IsSetup}
-use Rattle.core_run.specs.Along.{all_behind}
+use Rattle.core_run.specs.Along.{behind, all_behind}
 use Rattle.core_run.specs.Ends.{IsRun, most_of}
 
 -- ---- how callers stand
@@ -45,10 +45,13 @@ pub record StaysOpen (before after : State) : Type 0 where
   pub still_open : after.keeper ≡ Open
   pub no_more : all_behind after.core.callers ≤ all_behind before.core.callers
 
--- ONE CALL has ended
-pub record HasAnswered (before after : State) : Type 0 where
+-- ONE CALL has ended, and it is one of the caller at place j, who was this
+pub record HasAnswered (j : ℕ) (c : Caller) (before after : State) : Type 0 where
   pub still_open : after.keeper ≡ Open
   pub fewer : all_behind after.core.callers + 1 ≡ all_behind before.core.callers
+  pub caller : Caller
+  pub there : slice_get after.core.callers j ≡ Some caller
+  pub own : behind caller + 1 ≡ behind c
 
 -- ALL CALLS have ended
 pub record HasRunOut (t : Setup) (most : ℕ) (s : State) : Type 0 where
@@ -71,7 +74,7 @@ SecondRoundRests = (t : Setup) (most : ℕ) (s : State) → IsSetup t → most_o
 -- WHERE ALL REST the turn of a caller that has a call left ends that call, and all rest after it
 abbrev pub TurnEndsCall : Type 0
 TurnEndsCall = (t : Setup) (most j : ℕ) (s : State) (c : Caller) (call : Call) → IsSetup t → most_of t ≤ most → IsRun t s → s.keeper ≡ Open → AllRest t s.core
-    → slice_get s.core.callers j ≡ Some c → current c ≡ Some call → HasAnswered s (turn_of t most (suc j) s) × AllRest t (turn_of t most (suc j) s).core
+    → slice_get s.core.callers j ≡ Some c → current c ≡ Some call → HasAnswered j c s (turn_of t most (suc j) s) × AllRest t (turn_of t most (suc j) s).core
 
 -- and that of one that has none changes nothing
 abbrev pub TurnOfNone : Type 0

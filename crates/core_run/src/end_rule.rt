@@ -5,8 +5,8 @@ ghost use Rattle.core_run.specs.Rounds.{FirstRoundRests, SecondRoundRests, TurnE
 use crate::{runs, states};
 
 /// By the end rule all calls run out: after its first round each caller rests between two attempts or waits for the guard of the directory,
-/// after its second all rest, and from then on each turn ends a call. So it takes two rounds more at the most than there are calls, which
-/// are no more than there are events.
+/// after its second all rest, and from then on each turn of a caller that has a call left ends that call. So it takes two rounds more at the
+/// most than there are calls, which are no more than there are events.
 pub fn calls_run_out()
     ensures first { FirstRoundRests }
     ensures second { SecondRoundRests }

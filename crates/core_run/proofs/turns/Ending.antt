@@ -23,13 +23,13 @@ use Rattle.core_run.specs.declared.goal.Goal.TheVariants.{Turn}
 use Rattle.core_run.specs.State.{State, end_by}
 use Rattle.core_run.specs.Run.{ends_call, ends_in_again, has_call, has_calls, rounds, all_calls}
 use Rattle.core_run.specs.Running.{Setup, IsSetup, site_in, IsOpen}
-use Rattle.core_run.specs.Along.{all_behind}
+use Rattle.core_run.specs.Along.{all_behind, behind as behind_of}
 use Rattle.core_run.specs.Ends.{IsRun, most_of}
 use Rattle.core_run.specs.Rounds.{AllRest, turn_of, one_round, HasAnswered, HasRunOut, TurnEndsCall, TurnOfNone, RoundsEnd, RoundsAreEnough}
 use Rattle.core_run.proofs.ends.Calls.{past_calls, has_none}
 use Rattle.core_run.proofs.ends.Stopping.{stays_there}
 use Rattle.core_run.proofs.ends.Working.{call_two, within_most}
-use Rattle.core_run.proofs.turns.Stepping.{at, at_is, HasEvent, Leads, EndsAt, event_or_idle, idle_none, next, after, core_after, its_deed, as_many, one_fewer, still_calls, is_next, leads_on}
+use Rattle.core_run.proofs.turns.Stepping.{at, at_is, HasEvent, Leads, EndsAt, event_or_idle, idle_none, next, after, core_after, its_deed, there_after, as_many, one_fewer, own_as_many, own_fewer, still_calls, is_next, leads_on}
 use Rattle.core_run.proofs.turns.Turning.{IsOver, over_told, over_again, over_waits, enough_events, turn_ends, round_ends}
 use Rattle.core_run.proofs.turns.Standing.{TurnLaws, scripts_are, rest_is_either, never_waits, other_rests, own_rests}
 use Rattle.core_run.proofs.turns.Resting.{open_of, as_many_callers, first_round_rests, second_round_rests}
@@ -79,18 +79,22 @@ module _ (laws : TurnLaws) (t : Setup) (is : IsSetup t) (most : ℕ) (low : most
     alone : IsAlone t.shape k w
     others : (i : ℕ) → i ≢ k → IsResting w i
 
-  -- while its call goes on, and once that has ended
-  record InCall (b k : ℕ) (core : Core) : Type 0 where
+  -- while its call goes on, and once that has ended: so many calls are behind, and so many of its caller's
+  record InCall (b n k : ℕ) (core : Core) : Type 0 where
     leads : Leads t core (StepsAlone k)
     behind : all_behind core.callers ≡ b
     caller : Caller
     there : slice_get core.callers k ≡ Some caller
+    own : behind_of caller ≡ n
     call : Call
     calls : current caller ≡ Some call
 
-  record HasEnded (b : ℕ) (core : Core) : Type 0 where
+  record HasEnded (b n k : ℕ) (core : Core) : Type 0 where
     leads : Leads t core AllResting
     fewer : all_behind core.callers + 1 ≡ b
+    caller : Caller
+    there : slice_get core.callers k ≡ Some caller
+    own : behind_of caller + 1 ≡ n
 
   module _ (k : ℕ) (core : Core) (v : HasEvent core k) (h : Leads t core (StepsAlone k)) where
     abbrev w : Watched
@@ -126,28 +130,40 @@ module _ (laws : TurnLaws) (t : Setup) (is : IsSetup t) (most : ℕ) (low : most
       others = λ i other. other_rests laws t is core k v (StepsAlone k) h i other (h.holds.others i other);
     })
 
-  call_over : (b k : ℕ) (core : Core) → InCall b k core → (v : HasEvent core k) → IsOver t k core v → HasEnded b (core_after t core k v)
-  call_over b k core g v (over_told done told) = record { leads = all_rest k core v g.leads done; fewer = one_fewer t core k v told ∙ g.behind }
-  call_over b k core g v (over_again done told) = absurd (not_again k core v g.leads done told)
-  call_over b k core g v (over_waits waits which) = absurd (not_waits k core v g.leads waits)
+  -- so many calls of who has the event
+  own_now : (b n k : ℕ) (core : Core) → InCall b n k core → (v : HasEvent core k) → behind_of v.caller ≡ n
+  own_now b n k core g v = ap behind_of (same_Some v.caller g.caller (sym v.there ∙ g.there)) ∙ g.own
 
-  call_on : (b k : ℕ) (core : Core) → InCall b k core → (v : HasEvent core k) → ends_call (its_deed t core k v).end ≡ false → InCall b k (core_after t core k v)
-  call_on b k core g v untold = record {
+  call_over : (b n k : ℕ) (core : Core) → InCall b n k core → (v : HasEvent core k) → IsOver t k core v → HasEnded b n k (core_after t core k v)
+  call_over b n k core g v (over_told done told) = record {
+    leads = all_rest k core v g.leads done;
+    fewer = one_fewer t core k v told ∙ g.behind;
+    caller = after t core k v;
+    there = there_after t core k v;
+    own = own_fewer t core k v told ∙ own_now b n k core g v;
+  }
+  call_over b n k core g v (over_again done told) = absurd (not_again k core v g.leads done told)
+  call_over b n k core g v (over_waits waits which) = absurd (not_waits k core v g.leads waits)
+
+  call_on : (b n k : ℕ) (core : Core) → InCall b n k core → (v : HasEvent core k) → ends_call (its_deed t core k v).end ≡ false → InCall b n k (core_after t core k v)
+  call_on b n k core g v untold = record {
     leads = still_alone k core v g.leads;
     behind = as_many t core k v untold ∙ g.behind;
     caller = after t core k v;
     there = (still_calls t core k v untold).0;
+    own = own_as_many t core k v untold ∙ own_now b n k core g v;
     call = v.call;
     calls = (still_calls t core k v untold).1;
   }
 
-  call_ends : (k : ℕ) (core : Core) → IsOpen t core → Leads t core AllResting → HasEvent core k → EndsAt t (HasEnded (all_behind core.callers)) (turn_of t most (suc k) (at core))
+  call_ends : (k : ℕ) (core : Core) → IsOpen t core → Leads t core AllResting → (v : HasEvent core k)
+      → EndsAt t (HasEnded (all_behind core.callers) (behind_of v.caller) k) (turn_of t most (suc k) (at core))
   call_ends k core o h v =
       let w : Watched = along t.shape t.first t.scripts h.turns in
-      turn_ends t k is laws.wells (InCall (all_behind core.callers) k) (HasEnded (all_behind core.callers))
+      turn_ends t k is laws.wells (InCall (all_behind core.callers) (behind_of v.caller) k) (HasEnded (all_behind core.callers) (behind_of v.caller) k)
       (λ x opened g idle. absurd (none-some g.call (sym (idle g.caller g.there).1 ∙ g.calls)))
-      (λ x opened g u over. call_over (all_behind core.callers) k x g u over)
-      (λ x opened g u untold. call_on (all_behind core.callers) k x g u untold)
+      (λ x opened g u over. call_over (all_behind core.callers) (behind_of v.caller) k x g u over)
+      (λ x opened g u untold. call_on (all_behind core.callers) (behind_of v.caller) k x g u untold)
       most core o
       (record {
         leads = record {
@@ -161,6 +177,7 @@ module _ (laws : TurnLaws) (t : Setup) (is : IsSetup t) (most : ℕ) (low : most
         behind = refl;
         caller = v.caller;
         there = v.there;
+        own = refl;
         call = v.call;
         calls = v.calls;
       })
@@ -250,17 +267,25 @@ module _ (laws : TurnLaws) (t : Setup) (is : IsSetup t) (most : ℕ) (low : most
   }
 
   answered_by : (j : ℕ) (core : Core) (c : Caller) (call : Call) → IsOpen t core → AllRest t core → slice_get core.callers j ≡ Some c → current c ≡ Some call
-      → HasAnswered (at core) (turn_of t most (suc j) (at core)) × AllRest t (turn_of t most (suc j) (at core)).core
+      → HasAnswered j c (at core) (turn_of t most (suc j) (at core)) × AllRest t (turn_of t most (suc j) (at core)).core
   answered_by j core c call o rest there calls = elim (event_or_idle t core o j) [
     | inl v ↦
-        let e = call_ends j core o (leads_of core rest) v in
-        (record { still_open = e.still_open; fewer = e.good.fewer }, rest_of (turn_of t most (suc j) (at core)).core e.good.leads)
+        let e = call_ends j core o (leads_of core rest) v in (
+          record {
+            still_open = e.still_open;
+            fewer = e.good.fewer;
+            caller = e.good.caller;
+            there = e.good.there;
+            own = e.good.own ∙ ap behind_of (same_Some v.caller c (sym v.there ∙ there));
+          },
+          rest_of (turn_of t most (suc j) (at core)).core e.good.leads,
+        )
     | inr idle ↦ absurd (none-some call (sym (idle c there).1 ∙ calls))
   ]
 
 pub turn_ends_call : TurnLaws → TurnEndsCall
 turn_ends_call laws t most j s c call is low r here rest there calls =
-    subst (λ x. HasAnswered x (turn_of t most (suc j) x) × AllRest t (turn_of t most (suc j) x).core) (at_is s here)
+    subst (λ x. HasAnswered j c x (turn_of t most (suc j) x) × AllRest t (turn_of t most (suc j) x).core) (at_is s here)
     (answered_by laws t is most low j s.core c call (open_of t s here r) rest there calls)
 
 pub turn_of_none : TurnOfNone

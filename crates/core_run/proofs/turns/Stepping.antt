@@ -155,7 +155,7 @@ module _ (t : Setup) where
     pub longer : length core_after.trace ≡ suc (length core.trace)
     longer = refl
 
-    there_after : slice_get core_after.callers j ≡ Some after
+    pub there_after : slice_get core_after.callers j ≡ Some after
     there_after = set_here core.callers j v.caller after v.there
 
     -- as many calls are behind as before, or one fewer
@@ -176,6 +176,13 @@ module _ (t : Setup) where
         let sums = behind_set core.callers j v.caller after v.there in
         let less = fewer_calls t.shape drawn v.call next (slice_get_within v.caller.calls (length v.caller.entries) v.call v.calls) (wanted next) told in
         omega (arith, sums, less)
+
+    -- and so it is of the caller's own
+    pub own_as_many : ends_call its_deed.end ≡ false → behind after ≡ behind v.caller
+    own_as_many untold = (same_call t.shape drawn v.call next (wanted next) untold).0
+
+    pub own_fewer : ends_call its_deed.end ≡ true → behind after + 1 ≡ behind v.caller
+    own_fewer told = fewer_calls t.shape drawn v.call next (slice_get_within v.caller.calls (length v.caller.entries) v.call v.calls) (wanted next) told
 
     -- and the call of the caller is the same, where it has no reply
     pub still_calls : ends_call its_deed.end ≡ false → (slice_get core_after.callers j ≡ Some after) × (current after ≡ Some v.call)
