@@ -1,111 +1,144 @@
-//! Words from outside, as the file format's own examples have them, and one change of a slot.
+//! The metadata of buckets, as the file format's own examples have it, and what is chosen by it: each edge, full, empty and mixed.
+use crate::rows::{Tells, first_word, numbers, walk};
+use balance::choose;
+use bucket_meta::Meta;
+use bucket_meta::words::must_visit;
+use displace::{backward, forward};
+use finger_scan::{scan, scan_plain};
+use std::alloc::Global;
+use std::test::Fail;
 
-use bucket_meta::{Meta, read_of_written, words, written_of_read};
+/// A bucket whose metadata word is this one.
+fn with_mark(mark: u64) -> Meta {
+    Meta::read([mark, 0, 0])
+}
 
-#[test]
-fn reads_a_full_bucket(rt: HostRuntime) {
-    let words = [
-        0x03E3_D400_F000_3FFF,
-        0x0E0C_0A08_0604_0200,
-        0x1D1C_1A18_1614_1210,
-    ];
+/// The metadata of these words, whether it is written as it was read, how many slots have a record, and which is the first that has none.
+fn meta_told(alloc: Global, words: [u64; 3]) -> Result<String, Fail> {
     let meta = Meta::read(words);
-    let full = Meta {
-        alloc: 0x3FFF,
-        member: 0,
-        used: 0xF,
-        omember: 0,
-        oindex: 0,
-        ocount: 20,
-        fps: [0, 2, 4, 6, 8, 10, 12, 14, 16, 18, 20, 22, 24, 26],
-        ofps: [0x1C, 0x1D, 0x1E, 0x1F],
-    };
-    assert_eq!(rt; meta, full);
-    assert_eq!(rt;
-        (meta.write(), meta.filled(), meta.free_slot()),
-        (words, 14, None)
-    );
+    let (same, filled, free) = (meta.write() == words, meta.filled(), meta.free_slot());
+    Ok(format!(in alloc; "{meta:?} {same} {filled} {free:?}")?)
 }
 
-#[test]
-fn reads_a_full_bucket_of_members(rt: HostRuntime) {
-    let words = [0x0464_400F_FFFF_FFFF, 0, 0];
-    let meta = Meta::read(words);
-    let full = Meta {
-        alloc: 0x3FFF,
-        member: 0x3FFF,
-        used: 0xF,
-        omember: 0xF,
-        oindex: 0,
-        ocount: 0,
-        fps: [0; 14],
-        ofps: [0, 0, 0x22, 0x23],
-    };
-    assert_eq!(rt; meta, full);
-    assert_eq!(rt; written_of_read(words), words);
+/// The slots with this fingerprint, by both scans.
+fn scans_told(alloc: Global, finger: u8, numbers: &[u64]) -> Result<String, Fail> {
+    let mut fingers = [0; 14];
+    for (place, number) in fingers.iter_mut().zip(numbers) {
+        *place = u8::try_from(*number)?;
+    }
+    let (lanes, plain) = (scan(fingers, finger), scan_plain(fingers, finger));
+    Ok(format!(in alloc; "{lanes:x} {plain:x}")?)
 }
 
-#[test]
-fn writes_a_bucket_of_unlike_fields(rt: HostRuntime) {
-    let words = [
-        0x1A98_6914_5284_AA5B,
-        0x8877_6655_4433_2211,
-        0xB2A1_EEDD_CCBB_AA99,
-    ];
-    let meta = Meta {
-        alloc: 0x2A5B,
-        member: 0x0A12,
-        used: 0x5,
-        omember: 0x4,
-        oindex: 0x1,
-        ocount: 9,
-        fps: [
-            0x11, 0x22, 0x33, 0x44, 0x55, 0x66, 0x77, 0x88, 0x99, 0xAA, 0xBB, 0xCC, 0xDD, 0xEE,
-        ],
-        ofps: [0xA1, 0xB2, 0xC3, 0xD4],
-    };
-    assert_eq!(rt;
-        (meta.write(), meta.filled(), meta.free_slot()),
-        (words, 8, Some(2))
-    );
-    assert_eq!(rt; [Meta::read(words), read_of_written(&meta)], [meta, meta]);
-}
+/// Buckets, by words of their metadata.
+#[derive(Drop)]
+struct Buckets;
 
-#[test]
-fn places_and_clears_a_member(rt: HostRuntime) {
-    let empty = Meta::read([0, 0, 0]);
-    let mut meta = empty;
-    meta.place(0, 0xAB, true);
-    let [first, second, third] = meta.write();
-    assert_eq!(rt; first.to_le_bytes(), [0x01, 0x40, 0, 0, 0, 0, 0, 0]);
-    assert_eq!(rt; [second, third], [0xAB, 0]);
-    meta.place(0, 0xAB, false);
-    let placed = meta.write();
-    meta.clear(0);
-    let cleared = (placed, meta.write(), meta.free_slot());
-    assert_eq!(rt; cleared, ([1, 0xAB, 0], [0, 0xAB, 0], Some(0)));
-}
-
-#[test]
-fn visits_the_stash_buckets_that_notes_name(rt: HostRuntime) {
-    // A note of the home's own with fingerprint 0xA1 in stash bucket 1, and one of the home before with 0xC3 in stash bucket 0.
-    let w1 = (0x5 << 28) + (0x4 << 32) + (0x1 << 36) + (0xC3 << 45);
-    let w3 = 0xA1 << 48;
-    let counted = w1 + (1 << 40);
-    let home = (w1, w3, 0, 0);
-    let probing = (0, 0, w1, w3);
-    for ((h1, h3, p1, p3), finger, index, visits) in [
-        (home, 0xA1, 1, true),
-        (home, 0xA1, 0, false),
-        (home, 0xC3, 0, false),
-        (probing, 0xC3, 0, true),
-        (probing, 0xC3, 1, false),
-        (probing, 0xA1, 1, false),
-        ((counted, w3, 0, 0), 0xEE, 0, true),
-        ((counted, w3, 0, 0), 0xEE, 1, true),
-        ((0, 0, counted, w3), 0xEE, 0, false),
-    ] {
-        let found = words::must_visit(h1, h3, p1, p3, finger, index);
-        assert_eq!(rt; found, visits, "{h1} {p1} {finger} {index}");
+impl Tells for Buckets {
+    fn told(&mut self, alloc: Global, asked: &str) -> Result<String, Fail> {
+        let (name, rest) = first_word(asked);
+        let numbers = numbers(alloc, rest)?;
+        match (name, numbers.as_slice()) {
+            ("read", [w1, w2, w3]) => meta_told(alloc, [*w1, *w2, *w3]),
+            ("visits", [h1, h3, p1, p3, finger, index]) => {
+                let (finger, index) = (u8::try_from(*finger)?, u8::try_from(*index)?);
+                let visits = must_visit(*h1, *h3, *p1, *p3, finger, index);
+                Ok(format!(in alloc; "{visits}")?)
+            }
+            ("choose", [home, probing]) => {
+                let choice = choose(&with_mark(*home), &with_mark(*probing));
+                Ok(format!(in alloc; "{choice:?}")?)
+            }
+            ("forward", [probing, next]) => {
+                let slot = forward(&with_mark(*probing), &with_mark(*next));
+                Ok(format!(in alloc; "{slot:?}")?)
+            }
+            ("backward", [home, previous]) => {
+                let slot = backward(&with_mark(*home), &with_mark(*previous));
+                Ok(format!(in alloc; "{slot:?}")?)
+            }
+            ("scan", [finger, fingers @ ..]) => {
+                scans_told(alloc, u8::try_from(*finger)?, fingers)
+            }
+            _ => Err(Fail::new(asked)),
+        }
     }
 }
+
+#[test]
+fn buckets_by_their_metadata(rt: HostRuntime) -> Result<(), Fail> {
+    walk(rt.alloc(), &mut Buckets, ROWS)
+}
+
+const ROWS: &str = "\
+# Words 1 to 3 of a full bucket, of one that is full of members, and of one with a number of its own in each field.
+read 0x03E3D400F0003FFF 0x0E0C0A0806040200 0x1D1C1A1816141210 -> Meta { alloc: 16383, member: 0, used: 15, omember: 0, oindex: 0, ocount: 20, fps: [0, 2, 4, 6, 8, 10, 12, 14, 16, 18, 20, 22, 24, 26], ofps: [28, 29, 30, 31] } true 14 None
+read 0x0464400FFFFFFFFF 0 0 -> Meta { alloc: 16383, member: 16383, used: 15, omember: 15, oindex: 0, ocount: 0, fps: [0, 0, 0, 0, 0, 0, 0, 0, 0, 0, 0, 0, 0, 0], ofps: [0, 0, 34, 35] } true 14 None
+read 0x1A9869145284AA5B 0x8877665544332211 0xB2A1EEDDCCBBAA99 -> Meta { alloc: 10843, member: 2578, used: 5, omember: 4, oindex: 1, ocount: 9, fps: [17, 34, 51, 68, 85, 102, 119, 136, 153, 170, 187, 204, 221, 238], ofps: [161, 178, 195, 212] } true 8 Some(2)
+# Words 1 and 3 of a home bucket and of its probing bucket, a fingerprint and a stash bucket. A note of the home's own has fingerprint 0xA1 and is of
+# stash bucket 1, and one of the home before has 0xC3 and is of stash bucket 0.
+visits 0x18601450000000 0xA1000000000000 0 0 0xA1 1 -> true
+visits 0x18601450000000 0xA1000000000000 0 0 0xA1 0 -> false
+visits 0x18601450000000 0xA1000000000000 0 0 0xC3 0 -> false
+visits 0 0 0x18601450000000 0xA1000000000000 0xC3 0 -> true
+visits 0 0 0x18601450000000 0xA1000000000000 0xC3 1 -> false
+visits 0 0 0x18601450000000 0xA1000000000000 0xA1 1 -> false
+# The home has a record without a note; and its probing bucket has one, as a home.
+visits 0x18611450000000 0xA1000000000000 0 0 0xEE 0 -> true
+visits 0x18611450000000 0xA1000000000000 0 0 0xEE 1 -> true
+visits 0 0 0x18611450000000 0xA1000000000000 0xEE 0 -> false
+# The bucket with fewer records, by the home bucket's metadata word and the probing bucket's.
+choose 0x0000 0x0000 -> Home
+choose 0x3FFF 0x3FFF -> Neither
+choose 0x1FFF 0x3FFF -> Home
+choose 0x3FFF 0x1FFF -> Probe
+choose 0x3FFF 0x0000 -> Probe
+choose 0x0000 0x3FFF -> Home
+choose 0x2000 0x0001 -> Home
+choose 0x2001 0x2000 -> Probe
+choose 0x2000 0x2001 -> Home
+choose 0x0001 0x0000 -> Probe
+choose 0x1FFF 0x3FFE -> Home
+# The record of the probing bucket that moves on to the next one: its own alone do. Allocation bits begin at bit 0, membership bits at bit 14.
+forward 0x0000000 0x0000 -> None
+forward 0xFFFFFFF 0x0000 -> None
+forward 0x0003FFF 0x0000 -> Some(0)
+forward 0x0003FFF 0x3FFF -> None
+forward 0xFFFFFFF 0x3FFF -> None
+forward 0x7FFFFFF 0x1FFF -> Some(13)
+forward 0x8003FFF 0x3FFE -> Some(0)
+forward 0x001FFFF 0x0000 -> Some(3)
+forward 0xFFE3FFF 0x0000 -> Some(0)
+forward 0x0002000 0x0000 -> Some(13)
+forward 0x8002000 0x0000 -> None
+forward 0x284AA5A 0x3FFE -> Some(3)
+forward 0x003C010 0x0000 -> Some(4)
+forward 0xFFFC000 0x0000 -> None
+# The record of the home bucket that moves back to the one before: members alone do.
+backward 0x0000000 0x0000 -> None
+backward 0xFFFFFFF 0x0000 -> Some(0)
+backward 0x0003FFF 0x0000 -> None
+backward 0x0003FFF 0x3FFF -> None
+backward 0xFFFFFFF 0x3FFF -> None
+backward 0x7FFFFFF 0x1FFF -> Some(0)
+backward 0x8003FFF 0x3FFE -> Some(13)
+backward 0x001FFFF 0x0000 -> Some(0)
+backward 0xFFE3FFF 0x0000 -> Some(3)
+backward 0x0002000 0x0000 -> None
+backward 0x8002000 0x0000 -> Some(13)
+backward 0x284AA5A 0x3FFE -> Some(1)
+backward 0x003C010 0x0000 -> None
+backward 0xFFFC000 0x0000 -> None
+# A fingerprint, those of the slots, and the set of slots that have it. Zero is what the two lanes past the slots hold.
+scan 0 0 0 0 0 0 0 0 0 0 0 0 0 0 0 -> 3fff 3fff
+scan 0 1 2 3 4 5 6 7 8 9 10 11 12 13 14 -> 0 0
+scan 255 255 255 255 255 255 255 255 255 255 255 255 255 255 255 -> 3fff 3fff
+scan 7 0 0 0 0 0 0 0 0 0 0 0 0 0 7 -> 2000 2000
+scan 7 7 0 0 0 0 0 0 0 0 0 0 0 0 0 -> 1 1
+scan 0 7 0 0 0 0 0 0 0 0 0 0 0 0 0 -> 3ffe 3ffe
+scan 2 1 2 1 2 1 2 1 2 1 2 1 2 1 2 -> 2aaa 2aaa
+scan 128 128 129 127 0 128 1 255 128 0 0 64 8 128 128 -> 3091 3091
+scan 13 0 1 2 3 4 5 6 7 8 9 10 11 12 13 -> 2000 2000
+scan 14 0 1 2 3 4 5 6 7 8 9 10 11 12 13 -> 0 0
+scan 15 16 16 16 16 16 16 16 16 16 16 16 16 16 16 -> 0 0
+";

@@ -1,30 +1,8 @@
-//! Lists of callers' entries, and whether calls woven by their places are a legal history.
-use map_model::{Call, Entry, Lists, NoMemory, Reply, weave_check};
+//! Whether calls woven by their places are a legal history, and lists for which there is no memory.
+use crate::rows::{Tells, first_word, numbers, walk};
+use map_model::{Call, Entry, Lists, Reply, weave_check};
+use std::alloc::Global;
 use std::test::Fail;
-
-#[test]
-fn callers_keep_their_own_entries(rt: HostRuntime) -> Result<(), Fail> {
-    let insert = Entry {
-        serial: 1,
-        call: Call::Insert(5, 7),
-        reply: Reply::Done,
-        place: 0,
-        drew: true,
-    };
-    let mut lists = Lists::new(rt.alloc(), &[0, 2])?;
-    assert_eq!(rt; lists.callers(), 2);
-    lists.push(2, insert);
-    assert_eq!(rt; lists.of(1).len(), 0);
-    assert_eq!(rt; lists.of(2), [insert].as_slice());
-    Ok(())
-}
-
-#[test]
-fn room_beyond_memory_is_refused(rt: HostRuntime) {
-    for room in [u64::MAX, 1 << 62] {
-        assert!(rt; Lists::new(rt.alloc(), &[room]).is_err());
-    }
-}
 
 /// The first call of a caller, an `insert` of 7 at key 5 that drew place 0.
 fn insert() -> Entry {
@@ -48,49 +26,74 @@ fn get(serial: u64, reply: Reply, place: u64) -> Entry {
     }
 }
 
-#[test]
-fn one_caller_sees_its_own_change(rt: HostRuntime) -> Result<(), Fail> {
-    for (reply, place, legal) in [
-        (Reply::Found(7), 1, true),
-        (Reply::Found(8), 1, false),
-        (Reply::Found(7), 0, false),
-    ] {
-        let mut lists = Lists::new(rt.alloc(), &[2])?;
-        lists.push(1, insert());
-        lists.push(1, get(2, reply, place));
-        assert_eq!(rt;
-            weave_check(rt.alloc(), &[], &lists)?,
-            legal,
-            "{reply:?} at {place}"
-        );
+/// Whether the caller that inserted may be told so then.
+fn is_legal_of_one(alloc: Global, reply: Reply, place: u64) -> Result<bool, Fail> {
+    let mut lists = Lists::new(alloc, &[2])?;
+    lists.push(1, insert());
+    lists.push(1, get(2, reply, place));
+    Ok(weave_check(alloc, &[], &lists)?)
+}
+
+/// Whether another caller may be told so, where these pairs were there at the start.
+fn is_legal_of_two(
+    alloc: Global,
+    start: &[(u64, u64)],
+    reply: Reply,
+    place: u64,
+) -> Result<bool, Fail> {
+    let mut lists = Lists::new(alloc, &[1, 1])?;
+    lists.push(1, insert());
+    lists.push(2, get(1, reply, place));
+    Ok(weave_check(alloc, start, &lists)?)
+}
+
+/// Whether there is memory for so many entries.
+fn has_room(alloc: Global, entries: u64) -> bool {
+    Lists::new(alloc, &[entries]).is_ok()
+}
+
+/// Histories of an insert of 7 at key 5 and a get.
+#[derive(Drop)]
+struct Histories;
+
+impl Tells for Histories {
+    fn told(&mut self, alloc: Global, asked: &str) -> Result<String, Fail> {
+        let (name, rest) = first_word(asked);
+        let numbers = numbers(alloc, rest)?;
+        let told = match (name, numbers.as_slice()) {
+            ("own", [value, place]) => is_legal_of_one(alloc, Reply::Found(*value), *place)?,
+            ("other", [value, place]) => {
+                is_legal_of_two(alloc, &[], Reply::Found(*value), *place)?
+            }
+            ("absent", [place]) => is_legal_of_two(alloc, &[], Reply::Absent, *place)?,
+            ("started", [start, value, place]) => {
+                is_legal_of_two(alloc, &[(5, *start)], Reply::Found(*value), *place)?
+            }
+            ("room", [entries]) => has_room(alloc, *entries),
+            _ => return Err(Fail::new(asked)),
+        };
+        Ok(format!(in alloc; "{told}")?)
     }
-    Ok(())
 }
 
 #[test]
-fn another_caller_may_look_before_the_change(rt: HostRuntime) -> Result<(), Fail> {
-    for (start, reply, place, legal) in [
-        ([].as_slice(), Reply::Absent, 0, true),
-        ([].as_slice(), Reply::Found(7), 1, true),
-        ([].as_slice(), Reply::Absent, 1, false),
-        ([].as_slice(), Reply::Absent, u64::MAX, false),
-        ([(5, 6)].as_slice(), Reply::Found(6), 0, false),
-    ] {
-        let mut lists = Lists::new(rt.alloc(), &[1, 1])?;
-        lists.push(1, insert());
-        lists.push(2, get(1, reply, place));
-        assert_eq!(rt;
-            weave_check(rt.alloc(), start, &lists)?,
-            legal,
-            "{reply:?} at {place}"
-        );
-    }
-    Ok(())
+fn histories_of_two_calls(rt: HostRuntime) -> Result<(), Fail> {
+    walk(rt.alloc(), &mut Histories, ROWS)
 }
 
-#[test]
-fn says_what_ran_out(rt: HostRuntime) -> Result<(), Fail> {
-    let text = format!(in rt.alloc(); "{NoMemory}")?;
-    assert_eq!(rt; text.as_str(), "out of memory");
-    Ok(())
-}
+const ROWS: &str = "\
+# The caller that inserted gets this value at this place.
+own 7 1 -> true
+own 8 1 -> false
+own 7 0 -> false
+# Another caller does, or finds nothing there.
+absent 0 -> true
+other 7 1 -> true
+absent 1 -> false
+absent 18446744073709551615 -> false
+# It gets the second value, where the map began with the first one.
+started 6 6 0 -> false
+# Lists of so many entries, for which there is no memory.
+room 18446744073709551615 -> false
+room 4611686018427387904 -> false
+";

@@ -5,19 +5,7 @@
 #![tactic(auto)]
 
 #[cfg(test)]
-mod balances;
-#[cfg(test)]
-mod bits;
-#[cfg(test)]
 mod buckets;
-#[cfg(test)]
-mod displacements;
-#[cfg(test)]
-mod fingers;
-#[cfg(test)]
-mod hashes;
-#[cfg(test)]
-mod heads;
 #[cfg(test)]
 mod histories;
 #[cfg(test)]
@@ -27,16 +15,10 @@ mod notes;
 #[cfg(test)]
 mod outsides;
 #[cfg(test)]
-mod places;
-#[cfg(test)]
-mod plays;
-#[cfg(test)]
 mod rows;
 #[cfg(test)]
 mod runs;
 #[cfg(test)]
 mod scripts;
 #[cfg(test)]
-mod transcripts;
-#[cfg(test)]
-mod ways;
+mod words;

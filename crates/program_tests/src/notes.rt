@@ -3,10 +3,12 @@
 ghost use Rattle.std.specs.Prelude.{All};
 ghost use Rattle.stash.specs.Segment.{IsStashed};
 
+use crate::rows::{Tells, first_word, numbers, walk};
 use bucket_meta::Meta;
 use image_layout::HOMES;
 use stash::{must_visit, note, rebuild, unnote};
-use std::process::Abort;
+use std::alloc::Global;
+use std::test::Fail;
 
 /// Keys 28 to 55, whose home is bucket 0 and whose fingerprint is the key: the first 14 stand in stash bucket 0
 /// and the others in stash bucket 1.
@@ -20,10 +22,22 @@ fn full_stash() -> [(u8, u8, u8); 28]
     stashed
 }
 
+/// The metadata of a home bucket and of its probing bucket.
+#[derive(Drop)]
+struct Notes {
+    home: Meta,
+    probe: Meta,
+}
+
+/// A bucket without records and notes.
+fn empty() -> Meta {
+    Meta::read([0, 0, 0])
+}
+
 /// A bucket that has the even keys below 28, and the next one, which has the odd ones as members.
 fn two_full_buckets() -> (Meta, Meta) {
-    let mut home = Meta::read([0, 0, 0]);
-    let mut probe = Meta::read([0, 0, 0]);
+    let mut home = empty();
+    let mut probe = empty();
     for slot in 0..14u8 {
         home.place(slot, 2 * slot, false);
         probe.place(slot, 2 * slot + 1, true);
@@ -31,133 +45,174 @@ fn two_full_buckets() -> (Meta, Meta) {
     (home, probe)
 }
 
-/// Notes a record where the home's count has room.
-fn add(rt: &impl Abort, home: &mut Meta, probe: &mut Meta, finger: u8, index: u8) {
-    assert!(rt; home.ocount < 31 && index < 2);
-    note(home, probe, finger, index);
-}
-
-/// Takes away a record of a home of which some record has no note.
-fn take(rt: &impl Abort, home: &mut Meta, probe: &mut Meta, finger: u8, index: u8) {
-    assert!(rt; home.ocount > 0);
-    unnote(home, probe, finger, index);
-}
-
-#[test]
-fn rebuilds_a_full_stash(rt: HostRuntime) {
-    let (home, probe) = two_full_buckets();
-    let mut metas = [Meta::read([0, 0, 0]); HOMES as usize];
-    metas[0] = home;
-    metas[1] = probe;
-    rebuild(&mut metas, &full_stash());
-    let first = [
-        0x03E3_D400_F000_3FFF,
-        0x0E0C_0A08_0604_0200,
-        0x1D1C_1A18_1614_1210,
-    ];
-    let second = [
-        0x0464_400F_FFFF_FFFF,
-        0x0F0D_0B09_0705_0301,
-        0x2120_1B19_1715_1311,
-    ];
-    assert_eq!(rt; metas[0].write(), first);
-    assert_eq!(rt; metas[1].write(), second);
-    assert_eq!(rt; metas[63].write(), [0, 0, 0]);
-    rebuild(&mut metas, &full_stash());
-    assert_eq!(rt;
-        metas[0].write(),
-        first,
-        "what was there before does not matter"
-    );
-    rebuild(&mut metas, &[]);
-    assert_eq!(rt;
-        metas[0].write(),
-        [0x3FFF, 0x0E0C_0A08_0604_0200, 0x1A18_1614_1210]
-    );
-    assert_eq!(rt;
-        metas[1].write(),
-        [0x0FFF_FFFF, 0x0F0D_0B09_0705_0301, 0x1B19_1715_1311]
-    );
-}
-
-#[test]
-fn notes_and_takes_away_one_by_one(rt: HostRuntime) {
-    let (mut home, mut probe) = two_full_buckets();
-    for (_, finger, index) in full_stash() {
-        add(&rt, &mut home, &mut probe, finger, index);
+impl Notes {
+    /// Both buckets become these.
+    fn put(&mut self, (home, probe): (Meta, Meta)) -> &'static str {
+        self.home = home;
+        self.probe = probe;
+        "done"
     }
-    assert_eq!(rt; home.write()[0], 0x03E3_D400_F000_3FFF);
-    assert_eq!(rt; probe.write()[0], 0x0464_400F_FFFF_FFFF);
-    take(&rt, &mut home, &mut probe, 55, 1);
-    assert_eq!(rt;
-        home.write()[0],
-        0x03E3_D300_F000_3FFF,
-        "key 55 was counted"
-    );
-    take(&rt, &mut home, &mut probe, 28, 0);
-    let first = [
-        0x03E3_D300_E000_3FFF,
-        0x0E0C_0A08_0604_0200,
-        0x1D00_1A18_1614_1210,
-    ];
-    assert_eq!(rt;
-        home.write(),
-        first,
-        "key 28 had note slot 0 of its home bucket"
-    );
-    take(&rt, &mut home, &mut probe, 32, 0);
-    let second = [
-        0x0464_400E_EFFF_FFFF,
-        0x0F0D_0B09_0705_0301,
-        0x2100_1B19_1715_1311,
-    ];
-    assert_eq!(rt;
-        probe.write(),
-        second,
-        "key 32 had note slot 0 of its probing bucket"
-    );
+
+    /// Makes the notes of their segment anew, and gives the words of its last bucket.
+    fn rebuild(&mut self, stashed: bool) -> [u64; 3] {
+        let mut metas = [empty(); HOMES as usize];
+        metas[0] = self.home;
+        metas[1] = self.probe;
+        if stashed {
+            rebuild(&mut metas, &full_stash());
+        } else {
+            rebuild(&mut metas, &[]);
+        }
+        self.home = metas[0];
+        self.probe = metas[1];
+        metas[63].write()
+    }
+
+    /// The stash buckets to be visited for a record of this home, of the home before, and of the next home.
+    fn visits_told(&self, alloc: Global, finger: u8) -> Result<String, Fail> {
+        let own = must_visit(&self.home, &self.probe, finger);
+        let before = must_visit(&empty(), &self.home, finger);
+        let after = must_visit(&self.probe, &empty(), finger);
+        Ok(format!(in alloc; "{own} {before} {after}")?)
+    }
+
+    /// Notes a record, where the home's count has room.
+    fn note(&mut self, finger: u8, index: u8) -> &'static str {
+        if self.home.ocount < 31 && index < 2 {
+            note(&mut self.home, &mut self.probe, finger, index);
+            "done"
+        } else {
+            "no room"
+        }
+    }
+
+    /// Takes a record away, where some record has no note.
+    fn take(&mut self, finger: u8, index: u8) -> &'static str {
+        if self.home.ocount > 0 {
+            unnote(&mut self.home, &mut self.probe, finger, index);
+            "done"
+        } else {
+            "none"
+        }
+    }
+}
+
+/// The words of a bucket's metadata.
+fn words_told(alloc: Global, meta: &Meta) -> Result<String, Fail> {
+    let [first, second, third] = meta.write();
+    Ok(format!(in alloc; "{first:x} {second:x} {third:x}")?)
+}
+
+impl Tells for Notes {
+    fn told(&mut self, alloc: Global, asked: &str) -> Result<String, Fail> {
+        let (name, rest) = first_word(asked);
+        let numbers = numbers(alloc, rest)?;
+        match (name, numbers.as_slice()) {
+            ("fill", []) => Ok(String::from_str(alloc, self.put(two_full_buckets()))?),
+            ("clear", []) => Ok(String::from_str(alloc, self.put((empty(), empty())))?),
+            ("rebuild", [count]) => Ok(format!(in alloc; "{:?}", self.rebuild(*count > 0))?),
+            ("note", [finger, index]) => {
+                let (finger, index) = (u8::try_from(*finger)?, u8::try_from(*index)?);
+                Ok(String::from_str(alloc, self.note(finger, index))?)
+            }
+            ("take", [finger, index]) => {
+                let (finger, index) = (u8::try_from(*finger)?, u8::try_from(*index)?);
+                Ok(String::from_str(alloc, self.take(finger, index))?)
+            }
+            ("visits", [finger]) => self.visits_told(alloc, u8::try_from(*finger)?),
+            ("home", []) => words_told(alloc, &self.home),
+            ("probe", []) => words_told(alloc, &self.probe),
+            ("counts", []) => {
+                let (count, members) = (self.home.ocount, self.probe.omember);
+                Ok(format!(in alloc; "{count} {members}")?)
+            }
+            _ => Err(Fail::new(asked)),
+        }
+    }
 }
 
 #[test]
-fn visits_what_notes_name(rt: HostRuntime) {
-    let empty = Meta::read([0, 0, 0]);
-    let (mut home, mut probe) = (empty, empty);
-    assert_eq!(rt;
-        must_visit(&home, &probe, 0),
-        0,
-        "unused note slots name nothing"
-    );
-    add(&rt, &mut home, &mut probe, 7, 1);
-    assert_eq!(rt; must_visit(&home, &probe, 7), 2);
-    assert_eq!(rt; must_visit(&home, &probe, 8), 0);
-    assert_eq!(rt;
-        must_visit(&empty, &home, 7),
-        0,
-        "the note is of the probing bucket's own home"
-    );
-    add(&rt, &mut home, &mut probe, 7, 0);
-    assert_eq!(rt; must_visit(&home, &probe, 7), 3);
-    add(&rt, &mut home, &mut probe, 5, 0);
-    add(&rt, &mut home, &mut probe, 5, 0);
-    add(&rt, &mut home, &mut probe, 9, 1);
-    assert_eq!(rt;
-        probe.omember,
-        1,
-        "the home bucket's note slots are used up"
-    );
-    assert_eq!(rt; must_visit(&home, &probe, 9), 2);
-    assert_eq!(rt;
-        must_visit(&probe, &empty, 9),
-        0,
-        "the note is of the home before"
-    );
-    for finger in 10..14 {
-        add(&rt, &mut home, &mut probe, finger, 0);
-    }
-    assert_eq!(rt; home.ocount, 1);
-    assert_eq!(rt;
-        must_visit(&home, &probe, 200),
-        3,
-        "some record has no note"
-    );
+fn notes_of_a_home(rt: HostRuntime) -> Result<(), Fail> {
+    let mut notes = Notes {
+        home: empty(),
+        probe: empty(),
+    };
+    walk(rt.alloc(), &mut notes, ROWS)
 }
+
+/// What is done, and what it comes to: `home` and `probe` tell the words of the metadata, and `counts` the home's count and the membership bits of
+/// the probing bucket's notes.
+const ROWS: &str = "\
+# The full stash, made anew: of a home without notes, of one with notes, which do not matter; and of an empty stash.
+fill -> done
+rebuild 28 -> [0, 0, 0]
+home -> 3e3d400f0003fff e0c0a0806040200 1d1c1a1816141210
+probe -> 464400fffffffff f0d0b0907050301 21201b1917151311
+rebuild 28 -> [0, 0, 0]
+home -> 3e3d400f0003fff e0c0a0806040200 1d1c1a1816141210
+probe -> 464400fffffffff f0d0b0907050301 21201b1917151311
+rebuild 0 -> [0, 0, 0]
+home -> 3fff e0c0a0806040200 1a1816141210
+probe -> fffffff f0d0b0907050301 1b1917151311
+# The same, record by record.
+fill -> done
+note 28 0 -> done
+note 29 0 -> done
+note 30 0 -> done
+note 31 0 -> done
+note 32 0 -> done
+note 33 0 -> done
+note 34 0 -> done
+note 35 0 -> done
+note 36 0 -> done
+note 37 0 -> done
+note 38 0 -> done
+note 39 0 -> done
+note 40 0 -> done
+note 41 0 -> done
+note 42 1 -> done
+note 43 1 -> done
+note 44 1 -> done
+note 45 1 -> done
+note 46 1 -> done
+note 47 1 -> done
+note 48 1 -> done
+note 49 1 -> done
+note 50 1 -> done
+note 51 1 -> done
+note 52 1 -> done
+note 53 1 -> done
+note 54 1 -> done
+note 55 1 -> done
+home -> 3e3d400f0003fff e0c0a0806040200 1d1c1a1816141210
+probe -> 464400fffffffff f0d0b0907050301 21201b1917151311
+# Key 55 is counted; key 28 has note slot 0 of its home bucket; and key 32 has note slot 0 of its probing bucket.
+take 55 1 -> done
+home -> 3e3d300f0003fff e0c0a0806040200 1d1c1a1816141210
+take 28 0 -> done
+home -> 3e3d300e0003fff e0c0a0806040200 1d001a1816141210
+take 32 0 -> done
+probe -> 464400eefffffff f0d0b0907050301 21001b1917151311
+# Unused note slots name nothing.
+clear -> done
+visits 0 -> 0 0 0
+# A note names its stash bucket for its fingerprint, and for its own home alone.
+note 7 1 -> done
+visits 7 -> 2 0 0
+visits 8 -> 0 0 0
+note 7 0 -> done
+visits 7 -> 3 0 0
+# The home bucket's note slots are used up, and the next note stands in the probing bucket.
+note 5 0 -> done
+note 5 0 -> done
+note 9 1 -> done
+counts -> 0 1
+visits 9 -> 2 0 0
+# Some record has no note.
+note 10 0 -> done
+note 11 0 -> done
+note 12 0 -> done
+note 13 0 -> done
+counts -> 1 15
+visits 200 -> 3 0 0
+";

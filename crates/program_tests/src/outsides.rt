@@ -1,92 +1,11 @@
-// Each fake on its happy path and at a failing call, pieces of any length, and each edge on a real file or reader.
+// Std's readers and writers as a source and a sink, which no clause can tell of: pieces of any length, interrupts, a reason that is kept, and a
+// real file.
 mod files;
 
-use outside::{
-    Failed, Fuse, Fuses, Gate, GateState, Gates, MemSink, MemSource, MemStore, Power, Sink, Source,
-    StdSink, StdSource, Store, StoreFault, put_all, take_all,
-};
+use outside::{Failed, StdSink, StdSource, StoreFault, put_all, take_all};
 use std::io::{BufWriter, ErrorKind, Read, Write};
 use std::test::Fail;
 use std::{fs, io};
-
-#[test]
-fn store_in_memory(rt: HostRuntime) -> Result<(), Fail> {
-    let alloc = rt.alloc();
-    let mut store = MemStore::new(alloc, b"abc", 4, &[2, 5])?;
-    assert_eq!(rt; store.read_all(alloc, 9)?.as_slice(), b"abc".as_slice());
-    assert_eq!(rt; store.write_all(b"xy"), Err(Failed));
-    assert_eq!(rt; store.write_all(b"defg"), Ok(()));
-    assert_eq!(rt; store.read_all(alloc, 1)?.as_slice(), b"de".as_slice());
-    assert!(rt; matches!(store.read_all(alloc, 9), Err(StoreFault::Failed)));
-    assert_eq!(rt; store.write_all(b"hijkl"), Err(Failed));
-    assert_eq!(rt; store.bytes.as_slice(), b"defg".as_slice());
-    assert_eq!(rt; store.faults, 3);
-    assert_eq!(rt; store.writes, 3);
-    Ok(())
-}
-
-#[test]
-fn source_in_memory(rt: HostRuntime) -> Result<(), Fail> {
-    let alloc = rt.alloc();
-    let fails = [1].to_vec(alloc)?;
-    let mut source = MemSource::new(b"abcdef".to_vec(alloc)?, fails);
-    let mut piece = [0; 2];
-    assert_eq!(rt; source.pull(&mut piece), Err(Failed));
-    assert_eq!(rt; source.faults, 1);
-    assert_eq!(rt; source.pull(&mut piece), Ok(2));
-    assert_eq!(rt; piece, *b"ab");
-    assert_eq!(rt;
-        take_all(alloc, &mut source, 2)?.as_slice(),
-        b"cde".as_slice()
-    );
-    assert_eq!(rt;
-        take_all(alloc, &mut source, 2)?.as_slice(),
-        b"f".as_slice()
-    );
-    Ok(())
-}
-
-#[test]
-fn sink_in_memory(rt: HostRuntime) -> Result<(), Fail> {
-    let alloc = rt.alloc();
-    let mut sink = MemSink::new(alloc, 5, [2].to_vec(alloc)?)?;
-    assert_eq!(rt; put_all(&mut sink, b"abc"), Ok(()));
-    assert_eq!(rt; put_all(&mut sink, b"d"), Err(Failed));
-    assert_eq!(rt; put_all(&mut sink, b"def"), Err(Failed));
-    assert_eq!(rt; sink.push(b"de"), Ok(2));
-    assert_eq!(rt; sink.bytes.as_slice(), b"abcde".as_slice());
-    assert_eq!(rt; sink.faults, 2);
-    Ok(())
-}
-
-#[test]
-fn fuse_blows_for_good(rt: HostRuntime) -> Result<(), Fail> {
-    let mut fuse = Fuse {
-        left: Some(2),
-        cut: false,
-    };
-    for power in [Power::On, Power::On, Power::Off, Power::Off] {
-        assert_eq!(rt; fuse.pass(), power);
-        fuse.told();
-    }
-    Ok(())
-}
-
-#[test]
-fn fuses_are_made_and_come_back(rt: HostRuntime) -> Result<(), Fail> {
-    let mut fuses = Fuses::new();
-    let mut first = fuses.make(1, Some(0));
-    let mut last = fuses.make(255, None);
-    assert_eq!(rt; first.pass(), Power::Off);
-    assert_eq!(rt; last.pass(), Power::On);
-    assert_eq!(rt; fuses.states[1], GateState::Made(Some(0)));
-    fuses.back(1, first);
-    fuses.back(255, last);
-    assert_eq!(rt; fuses.states[1], GateState::Back(Some(0), true));
-    assert_eq!(rt; fuses.states[255], GateState::Back(None, false));
-    assert_eq!(rt; fuses.states[2], GateState::Unmade);
-    Ok(())
-}
 
 // A reader that gives three bytes at a time, is interrupted before each, and fails where it meets an exclamation mark.
 #[derive(Drop)]
@@ -121,18 +40,17 @@ fn dripping(rest: &[u8]) -> Drip<'_> {
 
 #[test]
 fn source_over_a_reader(rt: HostRuntime) -> Result<(), Fail> {
-    let alloc = rt.alloc();
-    let mut source = StdSource::new(dripping(b"1 get 5\n"));
+    let mut whole = StdSource::new(dripping(b"1 get 5\n"));
+    let all = take_all(rt.alloc(), &mut whole, 99)?;
+    let mut broken = StdSource::new(dripping(b"1 get !"));
+    let fault = take_all(rt.alloc(), &mut broken, 99).err();
+    let reason = broken.trouble.map(|reason| reason.kind());
+    assert_eq!(rt; all.as_slice(), b"1 get 5\n".as_slice());
+    assert_eq!(rt; [whole.faults, broken.faults], [0, 1]);
     assert_eq!(rt;
-        take_all(alloc, &mut source, 99)?.as_slice(),
-        b"1 get 5\n".as_slice()
+        (fault, reason),
+        (Some(StoreFault::Failed), Some(ErrorKind::Other))
     );
-    assert_eq!(rt; source.faults, 0);
-    let mut source = StdSource::new(dripping(b"1 get !"));
-    assert!(rt; matches!(take_all(alloc, &mut source, 99), Err(StoreFault::Failed)));
-    assert_eq!(rt; source.faults, 1);
-    let reason = source.trouble.ok_or("no reason is kept")?;
-    assert_eq!(rt; reason.kind(), ErrorKind::Other);
     Ok(())
 }
 
@@ -181,18 +99,16 @@ fn interrupted_writes_are_made_again(rt: HostRuntime) -> Result<(), Fail> {
 
 #[test]
 fn sink_over_a_writer(rt: HostRuntime) -> Result<(), Fail> {
-    let alloc = rt.alloc();
     let file = fs::create(&rt, "sink.img")?;
-    let mut sink = StdSink::new(BufWriter::new(alloc, file)?);
-    assert_eq!(rt; put_all(&mut sink, b"1 1 ABSENT @0\n"), Ok(()));
-    assert_eq!(rt;
-        fs::read(&rt, "sink.img")?.as_slice(),
-        b"1 1 ABSENT @0\n".as_slice()
-    );
-    fs::remove_file(&rt, "sink.img")?;
+    let mut sink = StdSink::new(BufWriter::new(rt.alloc(), file)?);
+    let put = put_all(&mut sink, b"1 1 ABSENT @0\n");
+    let found = fs::read_to_string(&rt, "sink.img")?;
     let mut full = [0u8; 4];
-    let mut sink = StdSink::new(full.as_mut_slice());
-    assert_eq!(rt; put_all(&mut sink, b"12345"), Err(Failed));
-    assert_eq!(rt; sink.faults, 1);
+    let mut narrow = StdSink::new(full.as_mut_slice());
+    let refused = put_all(&mut narrow, b"12345");
+    assert_eq!(rt; (put, refused), (Ok(()), Err(Failed)));
+    assert_eq!(rt; found.as_str(), "1 1 ABSENT @0\n");
+    assert_eq!(rt; narrow.faults, 1);
+    fs::remove_file(&rt, "sink.img")?;
     Ok(())
 }

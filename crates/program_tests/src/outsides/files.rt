@@ -1,8 +1,9 @@
-// What no clause says of a file. The tests may start in one folder: each makes its files in a folder of its own there.
+//! What no clause says of a file. The tests may start in one folder: each makes its files in folders of its own there.
 ghost use Rattle.std.specs.Prelude.{◌≡◌, IfOk};
 
-use outside::{Failed, FileStore, Purpose, Store, StoreFault, Trouble};
-use std::alloc::AllocError;
+use crate::rows::{Tells, walk};
+use outside::{Failed, FileStore, Purpose, Store, Trouble};
+use std::alloc::{AllocError, Global};
 use std::fs::Permissions;
 use std::os::unix::fs::{MetadataExt, PermissionsExt, symlink};
 use std::test::Fail;
@@ -14,7 +15,7 @@ const CHOSEN: u64 = 7;
 // A store of the file of this name.
 fn store<'a>(
     rt: &'a HostRuntime,
-    path: &'a str,
+    path: &str,
     purpose: Purpose,
 ) -> Result<FileStore<'a, HostRuntime>, AllocError>
     ensures { IfOk result (λ image. image.writes ≡ 0) }
@@ -22,161 +23,252 @@ fn store<'a>(
     FileStore::new(rt, rt.alloc(), path, purpose, CHOSEN)
 }
 
+#[test]
+fn file_is_replaced(rt: HostRuntime) -> Result<(), Fail> {
+    let alloc = rt.alloc();
+    let mut bytes = Vec::new(alloc);
+    for number in 0..200_000u32 {
+        bytes.push((number % 251) as u8)?;
+    }
+    let mut image = store(&rt, "large.img", Purpose::Writing)?;
+    assert_eq!(rt; image.write_all(b"the old bytes"), Ok(()));
+    assert_eq!(rt; image.write_all(&bytes), Ok(()));
+    assert!(rt; image.read_all(alloc, 200_000)?.as_slice() == bytes.as_slice());
+    assert_eq!(rt; image.read_all(alloc, 99_999)?.len(), 100_000);
+    assert_eq!(rt; [image.faults, image.writes], [0, 2]);
+    Ok(())
+}
+
+// Why a call on a store failed.
+fn reason(alloc: Global, image: &FileStore<'_, HostRuntime>) -> Result<String, AllocError> {
+    match image.trouble() {
+        Some(Trouble::Refused(step, _)) => format!(in alloc; "{step:?} refused"),
+        Some(trouble) => format!(in alloc; "{trouble:?}"),
+        None => format!(in alloc; "none"),
+    }
+}
+
+// What has a name: nothing, a link, or a file with its bytes.
+fn found(rt: &HostRuntime, path: &str) -> io::Result<String> {
+    if !fs::exists(rt, path)? {
+        return Ok(format!(in rt.alloc(); "nothing")?);
+    }
+    if fs::symlink_metadata(rt, path)?.is_symlink() {
+        return Ok(format!(in rt.alloc(); "a link")?);
+    }
+    fs::read_to_string(rt, path)
+}
+
 // The bits of a file's mode, the set-id bits among them.
 fn mode_of(rt: &HostRuntime, path: &str) -> io::Result<u32> {
     Ok(fs::metadata(rt, path)?.mode() & 0o7777)
 }
 
-#[test]
-fn file_is_replaced(rt: HostRuntime) -> Result<(), Fail> {
-    let alloc = rt.alloc();
-    fs::create_dir(&rt, "replaced")?;
-    let mut bytes = Vec::new(alloc);
-    for number in 0..200_000u32 {
-        bytes.push((number % 251) as u8)?;
+// Makes or changes a folder or a file, and answers whether the words say so.
+fn change(rt: &HostRuntime, words: &[&str]) -> io::Result<bool> {
+    match *words {
+        ["folder", path] => fs::create_dir(rt, path)?,
+        ["file", path, text] => fs::write(rt, path, text.as_bytes())?,
+        ["link", path, to] => symlink(rt, to, path)?,
+        ["rename", path, to] => fs::rename(rt, path, to)?,
+        ["remove", path] => fs::remove_file(rt, path)?,
+        ["mode", path, mode] => match u32::from_str_radix(mode, 8) {
+            Ok(mode) => fs::set_permissions(rt, path, Permissions::from_mode(mode))?,
+            Err(_) => return Ok(false),
+        },
+        _ => return Ok(false),
     }
-    let mut image = store(&rt, "replaced/edge.img", Purpose::Writing)?;
-    assert_eq!(rt; image.write_all(b"the old bytes"), Ok(()));
-    assert_eq!(rt; image.write_all(&bytes), Ok(()));
-    assert!(rt; !fs::exists(&rt, "replaced/.dash-new-7")?);
-    assert!(rt; image.read_all(alloc, 200_000)?.as_slice() == bytes.as_slice());
-    assert_eq!(rt; image.read_all(alloc, 99_999)?.len(), 100_000);
-    assert_eq!(rt; image.faults, 0);
-    assert_eq!(rt; image.writes, 2);
-    Ok(())
+    Ok(true)
 }
 
-#[test]
-fn missing_file_is_a_fault(rt: HostRuntime) -> Result<(), Fail> {
-    let alloc = rt.alloc();
-    let mut image = FileStore::new(&rt, alloc, "nowhere/edge.img", Purpose::Writing, 7)?;
-    assert!(rt; matches!(image.read_all(alloc, 9), Err(StoreFault::Failed)));
-    assert!(rt; matches!(image.trouble(), Some(Trouble::Missing)));
-    assert_eq!(rt; image.write_all(b"new"), Err(Failed));
-    assert_eq!(rt; image.faults, 2);
-    assert_eq!(rt; image.writes, 1);
-    Ok(())
+// Stores of files, by their numbers from 0.
+#[derive(Drop)]
+struct Stores<'a> {
+    rt: &'a HostRuntime,
+    images: Vec<FileStore<'a, HostRuntime>>,
 }
 
-#[test]
-fn second_writer_is_told_and_a_reader_is_not_kept_out(rt: HostRuntime) -> Result<(), Fail> {
-    let alloc = rt.alloc();
-    fs::create_dir(&rt, "two")?;
-    fs::write(&rt, "two/edge.img", b"old")?;
-    let mut first = store(&rt, "two/edge.img", Purpose::Writing)?;
-    assert_eq!(rt; first.read_all(alloc, 9)?.as_slice(), b"old".as_slice());
-    let mut second = store(&rt, "two/edge.img", Purpose::Writing)?;
-    assert!(rt; matches!(second.read_all(alloc, 9), Err(StoreFault::Failed)));
-    assert!(rt; matches!(second.trouble(), Some(Trouble::Busy)));
-    let mut format = store(&rt, "two/edge.img", Purpose::Writing)?;
-    assert_eq!(rt; format.write_all(b"empty"), Err(Failed));
-    let mut reader = store(&rt, "two/edge.img", Purpose::Reading)?;
-    assert_eq!(rt; reader.read_all(alloc, 9)?.as_slice(), b"old".as_slice());
-    assert_eq!(rt; first.write_all(b"new"), Ok(()));
-    let mut third = store(&rt, "two/edge.img", Purpose::Writing)?;
-    assert_eq!(rt; third.read_all(alloc, 9)?.as_slice(), b"new".as_slice());
-    Ok(())
-}
-
-#[test]
-fn file_that_was_replaced_meanwhile_stays(rt: HostRuntime) -> Result<(), Fail> {
-    let alloc = rt.alloc();
-    fs::create_dir(&rt, "meanwhile")?;
-    fs::write(&rt, "meanwhile/edge.img", b"old")?;
-    fs::write(&rt, "meanwhile/other", b"other")?;
-    let mut image = store(&rt, "meanwhile/edge.img", Purpose::Writing)?;
-    assert_eq!(rt; image.read_all(alloc, 9)?.as_slice(), b"old".as_slice());
-    fs::rename(&rt, "meanwhile/other", "meanwhile/edge.img")?;
-    assert_eq!(rt; image.write_all(b"new"), Err(Failed));
-    assert!(rt; matches!(image.trouble(), Some(Trouble::Replaced)));
-    assert_eq!(rt;
-        fs::read(&rt, "meanwhile/edge.img")?.as_slice(),
-        b"other".as_slice()
-    );
-    assert!(rt; !fs::exists(&rt, "meanwhile/.dash-new-7")?);
-    Ok(())
-}
-
-#[test]
-fn what_has_the_name_of_the_second_file_stays(rt: HostRuntime) -> Result<(), Fail> {
-    fs::create_dir(&rt, "name")?;
-    fs::write(&rt, "name/edge.img", b"old")?;
-    fs::write(&rt, "name/notes", b"notes")?;
-    symlink(&rt, "notes", "name/.dash-new-7")?;
-    let mut first = store(&rt, "name/edge.img", Purpose::Writing)?;
-    assert_eq!(rt; first.write_all(b"new"), Err(Failed));
-    assert!(rt; fs::symlink_metadata(&rt, "name/.dash-new-7")?.is_symlink());
-    fs::remove_file(&rt, "name/.dash-new-7")?;
-    fs::create_dir(&rt, "name/.dash-new-7")?;
-    let mut second = store(&rt, "name/edge.img", Purpose::Writing)?;
-    assert_eq!(rt; second.write_all(b"new"), Err(Failed));
-    assert_eq!(rt;
-        fs::read(&rt, "name/notes")?.as_slice(),
-        b"notes".as_slice()
-    );
-    assert_eq!(rt;
-        fs::read(&rt, "name/edge.img")?.as_slice(),
-        b"old".as_slice()
-    );
-    Ok(())
-}
-
-#[test]
-fn mode_stays_and_a_file_that_nobody_may_write_stays(rt: HostRuntime) -> Result<(), Fail> {
-    fs::create_dir(&rt, "mode")?;
-    for mode in [0o600, 0o640, 0o666, 0o4755] {
-        fs::write(&rt, "mode/edge.img", b"old")?;
-        fs::set_permissions(&rt, "mode/edge.img", Permissions::from_mode(mode))?;
-        let mut image = store(&rt, "mode/edge.img", Purpose::Writing)?;
-        assert_eq!(rt; image.write_all(b"new"), Ok(()));
-        assert_eq!(rt; mode_of(&rt, "mode/edge.img")?, mode);
-        fs::remove_file(&rt, "mode/edge.img")?;
+impl<'a> Stores<'a> {
+    // Makes a store more, and tells its number.
+    fn open(&mut self, path: &str, purpose: Purpose) -> Result<usize, Fail> {
+        let number = self.images.len();
+        let image = store(self.rt, path, purpose)?;
+        if self.images.push(image).is_err() {
+            return Err(Fail::new("out of memory"));
+        }
+        Ok(number)
     }
-    fs::write(&rt, "mode/edge.img", b"old")?;
-    fs::set_permissions(&rt, "mode/edge.img", Permissions::from_mode(0o444))?;
-    let mut image = store(&rt, "mode/edge.img", Purpose::Writing)?;
-    assert_eq!(rt; image.write_all(b"new"), Err(Failed));
-    assert!(rt; matches!(image.trouble(), Some(Trouble::ReadOnly)));
-    assert_eq!(rt;
-        fs::read(&rt, "mode/edge.img")?.as_slice(),
-        b"old".as_slice()
-    );
-    Ok(())
+
+    // What is read, or why not.
+    fn read(&mut self, alloc: Global, number: usize) -> Result<String, Fail> {
+        let Some(image) = self.images.get_mut(number) else {
+            return Err(Fail::new("no store"));
+        };
+        match image.read_all(alloc, 9) {
+            Ok(bytes) => Ok(String::from_utf8(bytes)?),
+            Err(_) => Ok(reason(alloc, image)?),
+        }
+    }
+
+    // That bytes are written, or why not.
+    fn write(&mut self, alloc: Global, number: usize, text: &str) -> Result<String, Fail> {
+        let Some(image) = self.images.get_mut(number) else {
+            return Err(Fail::new("no store"));
+        };
+        if image.writes == u64::MAX {
+            return Err(Fail::new("no more writes are counted"));
+        }
+        match image.write_all(text.as_bytes()) {
+            Ok(()) => Ok(format!(in alloc; "done")?),
+            Err(Failed) => Ok(reason(alloc, image)?),
+        }
+    }
+
+    // How many calls failed, and how many were writes.
+    fn counts(&self, alloc: Global, number: usize) -> Result<String, Fail> {
+        match self.images.get(number) {
+            Some(image) => Ok(format!(in alloc; "{} {}", image.faults, image.writes)?),
+            None => Err(Fail::new("no store")),
+        }
+    }
+}
+
+impl<'a> Tells for Stores<'a> {
+    fn told(&mut self, alloc: Global, asked: &str) -> Result<String, Fail> {
+        let words: Vec<&str> = asked.split(' ').collect(alloc)?;
+        match *words.as_slice() {
+            ["reader", path] => Ok(format!(in alloc; "{}", self.open(path, Purpose::Reading)?)?),
+            ["writer", path] => Ok(format!(in alloc; "{}", self.open(path, Purpose::Writing)?)?),
+            ["read", number] => self.read(alloc, number.parse()?),
+            ["write", number, text] => self.write(alloc, number.parse()?, text),
+            ["counts", number] => self.counts(alloc, number.parse()?),
+            ["at", path] => Ok(found(self.rt, path)?),
+            ["mode", path] => Ok(format!(in alloc; "{:o}", mode_of(self.rt, path)?)?),
+            ["close"] => {
+                self.images.clear();
+                Ok(format!(in alloc; "done")?)
+            }
+            _ => Ok(format!(in alloc; "{}", change(self.rt, &words)?)?),
+        }
+    }
 }
 
 #[test]
-fn link_is_followed(rt: HostRuntime) -> Result<(), Fail> {
-    fs::create_dir(&rt, "link")?;
-    fs::create_dir(&rt, "link/folder")?;
-    fs::write(&rt, "link/folder/real.img", b"old")?;
-    symlink(&rt, "folder/real.img", "link/edge.img")?;
-    let mut image = store(&rt, "link/edge.img", Purpose::Writing)?;
-    assert_eq!(rt; image.write_all(b"new"), Ok(()));
-    assert!(rt; fs::symlink_metadata(&rt, "link/edge.img")?.is_symlink());
-    assert_eq!(rt;
-        fs::read(&rt, "link/folder/real.img")?.as_slice(),
-        b"new".as_slice()
-    );
-    fs::remove_file(&rt, "link/folder/real.img")?;
-    let mut nowhere = store(&rt, "link/edge.img", Purpose::Writing)?;
-    assert_eq!(rt; nowhere.write_all(b"new"), Err(Failed));
-    assert!(rt; matches!(nowhere.trouble(), Some(Trouble::LeadsNowhere)));
-    let mut reader = store(&rt, "link/edge.img", Purpose::Reading)?;
-    assert!(rt; matches!(reader.read_all(rt.alloc(), 9), Err(StoreFault::Failed)));
-    assert!(rt; matches!(reader.trouble(), Some(Trouble::LeadsNowhere)));
-    Ok(())
+fn stores_of_files(rt: HostRuntime) -> Result<(), Fail> {
+    let mut stores = Stores {
+        rt: &rt,
+        images: Vec::new(rt.alloc()),
+    };
+    walk(rt.alloc(), &mut stores, ROWS)
 }
 
-#[test]
-fn folder_is_no_file(rt: HostRuntime) -> Result<(), Fail> {
-    let alloc = rt.alloc();
-    fs::create_dir(&rt, "folder")?;
-    fs::create_dir(&rt, "folder/edge.img")?;
-    let mut reader = store(&rt, "folder/edge.img", Purpose::Reading)?;
-    assert!(rt; matches!(reader.read_all(alloc, 9), Err(StoreFault::Failed)));
-    assert!(rt; matches!(reader.trouble(), Some(Trouble::NoFile)));
-    let mut writer = store(&rt, "folder/edge.img", Purpose::Writing)?;
-    assert_eq!(rt; writer.write_all(b"new"), Err(Failed));
-    assert!(rt; matches!(writer.trouble(), Some(Trouble::NoFile)));
-    Ok(())
-}
+/// What is done, and what it comes to: `reader` and `writer` make a store and tell its number, and a change of a folder or a file is told by `true`.
+const ROWS: &str = "\
+# A file that is not there: so it is told, and each later call fails.
+writer nowhere/edge.img -> 0
+read 0 -> Missing
+write 0 new -> Missing
+counts 0 -> 2 1
+close -> done
+# A second writer is told, and so is one that writes alone. A reader is not kept out.
+folder two -> true
+file two/edge.img old -> true
+writer two/edge.img -> 0
+read 0 -> old
+writer two/edge.img -> 1
+read 1 -> Busy
+writer two/edge.img -> 2
+write 2 empty -> Busy
+reader two/edge.img -> 3
+read 3 -> old
+write 0 new -> done
+at two/.dash-new-7 -> nothing
+writer two/edge.img -> 4
+read 4 -> new
+close -> done
+# A file that was replaced meanwhile stays.
+folder meanwhile -> true
+file meanwhile/edge.img old -> true
+file meanwhile/other other -> true
+writer meanwhile/edge.img -> 0
+read 0 -> old
+rename meanwhile/other meanwhile/edge.img -> true
+write 0 new -> Replaced
+at meanwhile/edge.img -> other
+at meanwhile/.dash-new-7 -> nothing
+close -> done
+# What has the name of the second file stays: a link, and a folder.
+folder name -> true
+file name/edge.img old -> true
+file name/notes notes -> true
+link name/.dash-new-7 notes -> true
+writer name/edge.img -> 0
+write 0 new -> Make refused
+at name/.dash-new-7 -> a link
+remove name/.dash-new-7 -> true
+folder name/.dash-new-7 -> true
+writer name/edge.img -> 1
+write 1 new -> Make refused
+at name/notes -> notes
+at name/edge.img -> old
+close -> done
+# The mode stays; and so does a file that nobody may write.
+folder mode -> true
+file mode/edge.img old -> true
+mode mode/edge.img 600 -> true
+writer mode/edge.img -> 0
+write 0 new -> done
+mode mode/edge.img -> 600
+close -> done
+remove mode/edge.img -> true
+file mode/edge.img old -> true
+mode mode/edge.img 640 -> true
+writer mode/edge.img -> 0
+write 0 new -> done
+mode mode/edge.img -> 640
+close -> done
+remove mode/edge.img -> true
+file mode/edge.img old -> true
+mode mode/edge.img 666 -> true
+writer mode/edge.img -> 0
+write 0 new -> done
+mode mode/edge.img -> 666
+close -> done
+remove mode/edge.img -> true
+file mode/edge.img old -> true
+mode mode/edge.img 4755 -> true
+writer mode/edge.img -> 0
+write 0 new -> done
+mode mode/edge.img -> 4755
+close -> done
+remove mode/edge.img -> true
+file mode/edge.img old -> true
+mode mode/edge.img 444 -> true
+writer mode/edge.img -> 0
+write 0 new -> ReadOnly
+at mode/edge.img -> old
+close -> done
+# A link is followed, where it leads to a file.
+folder link -> true
+folder link/folder -> true
+file link/folder/real.img old -> true
+link link/edge.img folder/real.img -> true
+writer link/edge.img -> 0
+write 0 new -> done
+at link/edge.img -> a link
+at link/folder/real.img -> new
+remove link/folder/real.img -> true
+writer link/edge.img -> 1
+write 1 new -> LeadsNowhere
+reader link/edge.img -> 2
+read 2 -> LeadsNowhere
+close -> done
+# A folder is no file.
+folder folder -> true
+folder folder/edge.img -> true
+reader folder/edge.img -> 0
+read 0 -> NoFile
+writer folder/edge.img -> 1
+write 1 new -> NoFile
+close -> done
+";
