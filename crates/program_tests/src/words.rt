@@ -88,13 +88,14 @@ fn shape_told(alloc: Global, geometry: &Geometry) -> Result<String, Fail> {
 
 /// The words behind an image.
 fn guards_told(alloc: Global, geometry: &Geometry) -> Result<String, Fail> {
+    let last = geometry.segments() - 1;
     let words = [
         geometry.counter_word(),
         geometry.power_word(),
         geometry.allocation_guard(),
         geometry.directory_guard(),
         geometry.segment_guard(0),
-        geometry.segment_guard(geometry.segments() - 1),
+        geometry.segment_guard(last),
     ];
     Ok(format!(in alloc; "{words:?}")?)
 }

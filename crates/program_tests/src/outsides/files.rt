@@ -115,7 +115,7 @@ impl<'a> Stores<'a> {
         let Some(image) = self.images.get_mut(number) else {
             return Err(Fail::new("no store"));
         };
-        if image.writes == u64::MAX {
+        if image.writes >= u64::MAX {
             return Err(Fail::new("no more writes are counted"));
         }
         match image.write_all(text.as_bytes()) {
