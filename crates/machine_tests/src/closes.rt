@@ -1,45 +1,116 @@
 //! A close of the smallest image, event for event: it has 2208 words, which are 276 lines.
-use image_layout::Geometry;
-use op_core::{Ans, Machine, Want};
+use crate::memory::Memory;
+use crate::rows::Follows;
+use op_core::{Machine, Want};
 use restart_op::{CloseOp, CloseStep, Closed};
 use std::test::Fail;
 
-#[test]
-fn close_of_the_smallest_image(rt: HostRuntime) -> Result<(), Fail> {
-    let mut op = CloseOp::new(Geometry::new(1, 0, 0)?);
-    for line in 0..276 {
-        assert_eq!(rt; op.want(), Want::Flush(line));
-        op.take(Ans::Passed);
-        if line % 8 == 7 || line == 275 {
-            assert_eq!(rt; op.want(), Want::Fence);
-            op.take(Ans::Passed);
+impl Follows for CloseOp {
+    /// What it leaves.
+    type Stand = Option<Closed>;
+
+    fn begun(memory: &mut Memory, case: &str) -> Result<CloseOp, Fail> {
+        let mut op = CloseOp::new(memory.site.geometry);
+        if case == "load" {
+            op.step = CloseStep::Load;
+        }
+        Ok(op)
+    }
+
+    fn stands(&self) -> Self::Stand {
+        match self.want() {
+            Want::Done => Some(self.end()),
+            _ => None,
         }
     }
-    assert_eq!(rt; op.want(), Want::Load(16));
-    op.take(Ans::Value(3));
-    assert_eq!(rt; op.want(), Want::Store(16, 259));
-    op.take(Ans::Passed);
-    assert_eq!(rt; op.want(), Want::Flush(2));
-    op.take(Ans::Passed);
-    assert_eq!(rt; op.want(), Want::Fence);
-    op.take(Ans::Passed);
-    let closed = match op.want() {
-        Want::Done => Some(op.end()),
-        _ => None,
-    };
-    assert_eq!(rt; closed, Some(Closed));
-    Ok(())
 }
 
-#[test]
-fn close_takes_answers_of_its_kind_alone(rt: HostRuntime) -> Result<(), Fail> {
-    let mut op = CloseOp::new(Geometry::new(1, 0, 0)?);
-    op.take(Ans::Won);
-    assert_eq!(rt; op.want(), Want::Flush(0));
-    op.step = CloseStep::Load;
-    op.take(Ans::Passed);
-    assert_eq!(rt; op.want(), Want::Load(16));
-    op.take(Ans::Value(0x1FE));
-    assert_eq!(rt; op.want(), Want::Store(16, 0x1FE));
-    Ok(())
-}
+/// Closes, of which `load` is one that has all lines behind it.
+pub const ROWS: &str = "\
+# All its events: 34 rounds of eight lines, and one of four; and the marker is set in the state word.
+begin all
+for 0 8 1 1: Flush(#) = Passed
+Fence = Passed
+for 8 8 1 1: Flush(#) = Passed
+Fence = Passed
+for 16 8 1 1: Flush(#) = Passed
+Fence = Passed
+for 24 8 1 1: Flush(#) = Passed
+Fence = Passed
+for 32 8 1 1: Flush(#) = Passed
+Fence = Passed
+for 40 8 1 1: Flush(#) = Passed
+Fence = Passed
+for 48 8 1 1: Flush(#) = Passed
+Fence = Passed
+for 56 8 1 1: Flush(#) = Passed
+Fence = Passed
+for 64 8 1 1: Flush(#) = Passed
+Fence = Passed
+for 72 8 1 1: Flush(#) = Passed
+Fence = Passed
+for 80 8 1 1: Flush(#) = Passed
+Fence = Passed
+for 88 8 1 1: Flush(#) = Passed
+Fence = Passed
+for 96 8 1 1: Flush(#) = Passed
+Fence = Passed
+for 104 8 1 1: Flush(#) = Passed
+Fence = Passed
+for 112 8 1 1: Flush(#) = Passed
+Fence = Passed
+for 120 8 1 1: Flush(#) = Passed
+Fence = Passed
+for 128 8 1 1: Flush(#) = Passed
+Fence = Passed
+for 136 8 1 1: Flush(#) = Passed
+Fence = Passed
+for 144 8 1 1: Flush(#) = Passed
+Fence = Passed
+for 152 8 1 1: Flush(#) = Passed
+Fence = Passed
+for 160 8 1 1: Flush(#) = Passed
+Fence = Passed
+for 168 8 1 1: Flush(#) = Passed
+Fence = Passed
+for 176 8 1 1: Flush(#) = Passed
+Fence = Passed
+for 184 8 1 1: Flush(#) = Passed
+Fence = Passed
+for 192 8 1 1: Flush(#) = Passed
+Fence = Passed
+for 200 8 1 1: Flush(#) = Passed
+Fence = Passed
+for 208 8 1 1: Flush(#) = Passed
+Fence = Passed
+for 216 8 1 1: Flush(#) = Passed
+Fence = Passed
+for 224 8 1 1: Flush(#) = Passed
+Fence = Passed
+for 232 8 1 1: Flush(#) = Passed
+Fence = Passed
+for 240 8 1 1: Flush(#) = Passed
+Fence = Passed
+for 248 8 1 1: Flush(#) = Passed
+Fence = Passed
+for 256 8 1 1: Flush(#) = Passed
+Fence = Passed
+for 264 8 1 1: Flush(#) = Passed
+Fence = Passed
+for 272 4 1 1: Flush(#) = Passed
+Fence = Passed
+Load(16) = Value 3
+Store(16, 259) = Passed
+Flush(2) = Passed
+Fence = Passed
+Done
+stands Some(Closed)
+# Answers of another kind change nothing; and a marker that is set stays so.
+begin all
+keeps Won
+Flush(0) = Passed
+begin load
+keeps Passed
+Load(16) = Value 0x1FE
+Store(16, 510) = Passed
+";

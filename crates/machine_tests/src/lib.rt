@@ -42,4 +42,6 @@ mod stashes;
 #[cfg(test)]
 mod store_rounds;
 #[cfg(test)]
+mod texts;
+#[cfg(test)]
 mod whole_segments;

@@ -1,25 +1,21 @@
-//! A small memory on which a machine steps, and where its caller runs.
-use image_layout::Geometry;
-use op_core::{Ans, Machine, Want};
-use std::test::Fail;
+//! A small memory on which a machine steps, and what its caller has found there before.
+use enclose_op::Enclosed;
+use image_layout::{BUCKETS, WORDS_OF_BUCKETS};
+use map_model::Change;
+use op_core::{Ans, Want};
+use phase::{Buckets, Held, Kept};
 use world::Site;
 
 /// How many words there are: those of an image of two slots, and those behind it.
 const WORDS: u64 = 4358;
 
-/// Caller 1, in an image of so many slots and of this greatest depth, which has version 1.
-pub fn site(slots: u64, depth: u64) -> Result<Site, Fail> {
-    Ok(Site {
-        geometry: Geometry::new(slots, depth, 0)?,
-        version: 1,
-        caller: 1,
-    })
-}
-
 /// The words of an image of one slot or two and those behind it, and a word that another caller stores before an event.
 #[derive(Drop)]
 pub struct Memory {
-    geometry: Geometry,
+    /// Where a caller runs on it.
+    pub site: Site,
+    /// The words with which each case begins.
+    table: [u64; WORDS as usize],
     words: [u64; WORDS as usize],
     /// How many events were done.
     pub events: u64,
@@ -28,26 +24,27 @@ pub struct Memory {
 }
 
 impl Memory {
-    /// A memory for an image of so many slots and of this greatest depth, with these words and 0 in all others, to which no other caller
-    /// stores.
-    pub fn of(slots: u64, depth: u64, pairs: &[(u64, u64)]) -> Result<Memory, Fail> {
-        let mut memory = Memory {
-            geometry: Geometry::new(slots, depth, 0)?,
+    /// A memory with 0 in each word, on which a caller runs there.
+    pub fn new(site: Site) -> Memory {
+        Memory {
+            site,
+            table: [0; WORDS as usize],
             words: [0; WORDS as usize],
             events: 0,
             other: (u64::MAX, 0, 0),
-        };
-        memory.set_all(pairs);
-        Ok(memory)
+        }
     }
 
-    /// Where caller 1 runs on it.
-    pub fn site(&self) -> Site {
-        Site {
-            geometry: self.geometry,
-            version: 1,
-            caller: 1,
-        }
+    /// Begins a case: its words are those with which each case begins, and no other caller stores.
+    pub fn begin(&mut self) {
+        self.words = self.table;
+        self.events = 0;
+        self.other = (u64::MAX, 0, 0);
+    }
+
+    /// Has each later case begin with the words as they are.
+    pub fn keep(&mut self) {
+        self.table = self.words;
     }
 
     /// The value of a word, 0 of one that is not there.
@@ -66,11 +63,15 @@ impl Memory {
         }
     }
 
-    /// Gives each of these words its value.
-    pub fn set_all(&mut self, pairs: &[(u64, u64)]) {
-        for (at, value) in pairs {
-            self.set(*at, *value);
+    /// How many locks of the segment in slot 0 are taken.
+    pub fn locks(&self) -> u64 {
+        let mut taken = 0u64;
+        for bucket in 0..66u64 {
+            if self.word(96 + 32 * bucket) % 2 == 1 {
+                taken = taken.wrapping_add(1);
+            }
         }
+        taken
     }
 
     /// The words of the bucket of this lock word, with 0 for that.
@@ -80,6 +81,42 @@ impl Memory {
             words[usize::from(number)] = self.word(lock.wrapping_add(u64::from(number)));
         }
         words
+    }
+
+    /// What an insert keeps that found no room in slot 0, whose hashes are the keys, with these locks and the words of their buckets.
+    pub fn kept(&self, change: Change, held: Held, buckets: Buckets) -> Kept {
+        Kept {
+            site: self.site,
+            change,
+            hash: change.key,
+            segment: 0,
+            head: 257,
+            held,
+            buckets,
+        }
+    }
+
+    /// The segment in slot 0 as who makes this change has enclosed it: of each lock word the free value that it had, and the other words.
+    pub fn enclosed(&self, change: Change) -> Enclosed {
+        let mut locks = [0; BUCKETS as usize];
+        for bucket in 0..BUCKETS {
+            locks[usize::from(bucket)] = self.word(96 + 32 * u64::from(bucket));
+        }
+        let mut buckets = [0; WORDS_OF_BUCKETS as usize];
+        for number in 0..2112u16 {
+            if number % 32 != 0 {
+                buckets[usize::from(number)] = self.word(96 + u64::from(number));
+            }
+        }
+        Enclosed {
+            site: self.site,
+            change,
+            hash: change.key,
+            segment: 0,
+            head: self.word(65),
+            locks,
+            buckets,
+        }
     }
 
     /// Does an event.
@@ -97,26 +134,9 @@ impl Memory {
             }
             Want::Exchange(at, old, new) => self.exchange(at, old, new),
             Want::Draw => self.draw(),
-            Want::Power => Ans::Value(self.word(self.geometry.power_word())),
+            Want::Power => Ans::Value(self.word(self.site.geometry.power_word())),
             Want::Flush(_) | Want::Fence | Want::Done => Ans::Passed,
         }
-    }
-
-    /// The first event that a machine wants in the place of the loads of these words, which it does; none where it wants all of them.
-    pub fn departs_from_loads(
-        &mut self,
-        op: &mut impl Machine,
-        from: u64,
-        to: u64,
-    ) -> Option<Want> {
-        for at in from..to {
-            let want = op.want();
-            if want != Want::Load(at) {
-                return Some(want);
-            }
-            op.take(self.answer(want));
-        }
-        None
     }
 
     fn exchange(&mut self, at: u64, old: u64, new: u64) -> Ans {
@@ -130,33 +150,9 @@ impl Memory {
     }
 
     fn draw(&mut self) -> Ans {
-        let counter = self.geometry.counter_word();
+        let counter = self.site.geometry.counter_word();
         let place = self.word(counter);
         self.set(counter, place.wrapping_add(1));
         Ans::Drawn(place)
     }
-
-    /// Does the events of a machine until it wants nothing more, 3000 at the most, and counts them.
-    pub fn run(&mut self, op: &mut impl Machine) {
-        self.events = 0;
-        for _ in 0..3000u16 {
-            let want = op.want();
-            if want == Want::Done {
-                return;
-            }
-            op.take(self.answer(want));
-        }
-    }
-}
-
-/// The first event that a machine wants in the place of one of these, which the memory does; none where it wants all of them.
-pub fn departs(op: &mut impl Machine, memory: &mut Memory, events: &[Want]) -> Option<Want> {
-    for event in events {
-        let want = op.want();
-        if want != *event {
-            return Some(want);
-        }
-        op.take(memory.answer(want));
-    }
-    None
 }

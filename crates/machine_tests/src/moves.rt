@@ -1,343 +1,185 @@
-//! Inserts that found home and probing bucket full, on the words of an image with one segment and the identity as its hash.
-use crate::memory::{Memory, departs, site};
-use crate::rows::{Deeds, number, walk};
+//! Inserts that found home and probing bucket full, on the words of an image with one segment and the identity as its hash. Each is told
+//! by its key and the lock word of its home bucket.
+use crate::memory::Memory;
+use crate::rows::{Follows, numbers};
 use map_model::{Change, Effect};
 use move_op::{MoveEnd, MoveOp};
 use op_core::{Machine, Want};
-use phase::{Buckets, Held, Kept};
-use std::alloc::Global;
+use phase::{Buckets, Held};
 use std::test::Fail;
 
-/// The header of a normal segment of version 1 and depth 0.
-const HEAD: u64 = 257;
-/// The allocation bits of all slots.
-const FULL: u64 = 0x3FFF;
-/// The membership bits of all slots.
-const MEMBERS: u64 = 0x3FFF << 14;
-/// The lock words of the buckets around home 1: the one before it, it, its probing bucket, and the one after that.
-const LOCKS: [u64; 4] = [96, 128, 160, 192];
+impl Follows for MoveOp {
+    /// Its end, and where it hands on the locks that it keeps, the change, and the words of the next bucket and of the one before.
+    type Stand = (
+        Option<MoveEnd>,
+        Option<(Held, Change, [u64; 32], [u64; 32])>,
+    );
 
-/// Puts a record in a slot of the bucket of this lock word, all but its bits; its value is the key and 1000 more.
-fn put(memory: &mut Memory, lock: u64, slot: u8, key: u64) {
-    let at = u64::from(slot).wrapping_mul(2).wrapping_add(lock);
-    memory.set(at.wrapping_add(4), key);
-    memory.set(at.wrapping_add(5), key.wrapping_add(1000));
-    let fingers = lock.wrapping_add(if slot < 8 { 2 } else { 3 });
-    let shift = 8u64.wrapping_mul(u64::from(slot % 8));
-    let more = (key % 256).wrapping_mul(1u64.wrapping_shl(shift as u32));
-    memory.set(fingers, memory.word(fingers).wrapping_add(more));
-}
-
-/// Puts records in the slots from this one on, whose keys are two apart.
-fn fill(memory: &mut Memory, lock: u64, first: u8, key: u64) {
-    for slot in first..14u8 {
-        let more = u64::from(slot.wrapping_sub(first)).wrapping_mul(2);
-        put(memory, lock, slot, key.wrapping_add(more));
-    }
-}
-
-/// What an insert of this key keeps, with the locks of its home and probing bucket taken.
-fn kept_in(memory: &mut Memory, key: u64, home: u64) -> Result<Kept, Fail> {
-    let probing = home.wrapping_add(32);
-    memory.set(home, 1);
-    memory.set(probing, 1);
-    Ok(Kept {
-        site: site(1, 0)?,
-        change: Change {
-            key,
-            effect: Effect::Insert(7),
-        },
-        hash: key,
-        segment: 0,
-        head: HEAD,
-        held: Held {
+    fn begun(memory: &mut Memory, case: &str) -> Result<MoveOp, Fail> {
+        let [key, home, _, _] = numbers(case)?;
+        let probing = home.wrapping_add(32);
+        memory.set(home, 1);
+        memory.set(probing, 1);
+        let held = Held {
             home: Some(0),
             probing: Some(0),
             ..Held::none()
-        },
-        buckets: Buckets {
+        };
+        let buckets = Buckets {
             home: memory.bucket(home),
             probing: memory.bucket(probing),
             ..Buckets::none()
-        },
-    })
-}
-
-/// Key 256 in bucket 1, and then keys 0 to 26: home 0 has 0 and the odd ones, its probing bucket the others as members.
-fn moving_on(memory: &mut Memory) {
-    put(memory, 96, 0, 0);
-    fill(memory, 96, 1, 1);
-    memory.set(97, FULL);
-    put(memory, 128, 0, 256);
-    fill(memory, 128, 1, 2);
-    memory.set(129, FULL + (0x3FFE << 14));
-}
-
-/// Key 0 in bucket 0, key 1 in bucket 1 as a member, and then keys 256 to 282: home 1 has the odd ones, its probing bucket the
-/// others as members.
-fn moving_back(memory: &mut Memory) {
-    put(memory, 96, 0, 0);
-    memory.set(97, 1);
-    put(memory, 128, 0, 1);
-    fill(memory, 128, 1, 257);
-    memory.set(129, FULL + (1 << 14));
-    fill(memory, 160, 0, 256);
-    memory.set(161, FULL + MEMBERS);
-}
-
-/// Keys 256 to 283 in home 1 and its probing bucket, where none can move.
-fn not_moving(memory: &mut Memory) {
-    fill(memory, 128, 0, 257);
-    memory.set(129, FULL);
-    fill(memory, 160, 0, 256);
-    memory.set(161, FULL + MEMBERS);
-}
-
-/// Displacements, each of which is told by its key and the lock word of its home bucket; `lay` puts records where they stand before.
-#[derive(Drop)]
-struct Moves;
-
-impl Deeds for Moves {
-    fn memory(&self) -> Result<Memory, Fail> {
-        Memory::of(1, 0, &[])
-    }
-
-    fn told(&mut self, alloc: Global, memory: &mut Memory, deed: &str) -> Result<String, Fail> {
-        if deed == "lay moving_on" {
-            moving_on(memory);
-            return Ok(format!(in alloc; "laid")?);
-        }
-        if deed == "lay not_moving" {
-            not_moving(memory);
-            return Ok(format!(in alloc; "laid")?);
-        }
-        let Some((key, home)) = deed.split_once(' ') else {
-            return Err(Fail::new("no key"));
         };
-        let mut op = MoveOp::new(kept_in(memory, number(key)?, number(home)?)?);
-        memory.run(&mut op);
-        if op.hands_on() || !op.wants_nothing() || op.want() != Want::Done {
-            return Err(Fail::new("it is handed on"));
+        let effect = Effect::Insert(7);
+        Ok(MoveOp::new(memory.kept(Change { key, effect }, held, buckets)))
+    }
+
+    fn stands(&self) -> Self::Stand {
+        let end = match self.want() {
+            Want::Done => Some(self.end()),
+            _ => None,
+        };
+        if !self.hands_on() {
+            return (end, None);
         }
-        let end = op.end();
-        Ok(format!(in alloc; "{end:?}")?)
+        let kept = self.kept();
+        let (next, previous) = (kept.buckets.next, kept.buckets.previous);
+        (end, Some((kept.held, kept.change, next, previous)))
     }
 }
 
-#[test]
-fn moves_and_locks(rt: HostRuntime) -> Result<(), Fail> {
-    walk(rt.alloc(), &mut Moves, ROWS)
-}
-
-/// Where a displacement departs from the events by which it locks and loads a bucket.
-fn departs_from_lock(op: &mut MoveOp, memory: &mut Memory, lock: u64) -> Option<Want> {
-    let locking = [Want::Load(lock), Want::Exchange(lock, 0, 1)];
-    let locking = departs(op, memory, &locking);
-    locking.or(memory.departs_from_loads(op, lock.wrapping_add(1), lock.wrapping_add(32)))
-}
-
-/// The fingerprints of the bucket of lock word 128, that a record leaves and another comes to.
-fn stored_fingers(memory: &Memory, more: u64) -> Want {
-    Want::Store(130, memory.word(130).wrapping_add(more))
-}
-
-#[test]
-fn events_of_a_move_forward(rt: HostRuntime) -> Result<(), Fail> {
-    let mut memory = Memory::of(1, 0, &[])?;
-    moving_on(&mut memory);
-    let mut op = MoveOp::new(kept_in(&mut memory, 27, 96)?);
-    let locking = departs_from_lock(&mut op, &mut memory, 160);
-    let moving = departs(&mut op, &mut memory, &MOVING_ON);
-    let fingers = [stored_fingers(&memory, 27)];
-    let storing = departs(&mut op, &mut memory, &fingers);
-    let ending = departs(&mut op, &mut memory, &ENDING_ON);
-    assert_eq!(rt; locking.or(moving).or(storing).or(ending), None);
-    let words = [
-        memory.word(164),
-        memory.word(161),
-        memory.word(132),
-        memory.word(2208),
-    ];
-    assert_eq!(rt; words, [256, 16385, 27, 1]);
-    Ok(())
-}
-
-/// What such a displacement stores before the fingerprint of the new record, and after it.
-const MOVING_ON: [Want; 13] = [
-    Want::Store(164, 256),
-    Want::Store(165, 1256),
-    Want::Store(162, 0),
-    Want::Flush(20),
-    Want::Fence,
-    Want::Store(161, 16385),
-    Want::Flush(20),
-    Want::Fence,
-    Want::Store(129, 0x3FFE + (0x3FFE << 14)),
-    Want::Flush(16),
-    Want::Fence,
-    Want::Store(132, 27),
-    Want::Store(133, 7),
-];
-
-const ENDING_ON: [Want; 10] = [
-    Want::Flush(16),
-    Want::Fence,
-    Want::Store(129, FULL + MEMBERS),
-    Want::Flush(16),
-    Want::Fence,
-    Want::Draw,
-    Want::Store(96, 2),
-    Want::Store(128, 2),
-    Want::Store(160, 2),
-    Want::Done,
-];
-
-#[test]
-fn events_of_a_move_back(rt: HostRuntime) -> Result<(), Fail> {
-    let mut memory = Memory::of(1, 0, &[])?;
-    moving_back(&mut memory);
-    let mut op = MoveOp::new(kept_in(&mut memory, 283, 128)?);
-    let next = departs_from_lock(&mut op, &mut memory, 192);
-    let previous = departs_from_lock(&mut op, &mut memory, 96);
-    let moving = departs(&mut op, &mut memory, &MOVING_BACK);
-    let fingers = [stored_fingers(&memory, 26)];
-    let storing = departs(&mut op, &mut memory, &fingers);
-    let ending = departs(&mut op, &mut memory, &ENDING_BACK);
-    let departed = next.or(previous).or(moving).or(storing).or(ending);
-    assert_eq!(rt; departed, None);
-    let words = [
-        memory.word(97),
-        memory.word(102),
-        memory.word(129),
-        memory.word(132),
-    ];
-    assert_eq!(rt; words, [3, 1, 16383, 283]);
-    Ok(())
-}
-
-/// The same of one that moves a record back.
-const MOVING_BACK: [Want; 13] = [
-    Want::Store(102, 1),
-    Want::Store(103, 1001),
-    Want::Store(98, 256),
-    Want::Flush(12),
-    Want::Fence,
-    Want::Store(97, 3),
-    Want::Flush(12),
-    Want::Fence,
-    Want::Store(129, 0x3FFE),
-    Want::Flush(16),
-    Want::Fence,
-    Want::Store(132, 283),
-    Want::Store(133, 7),
-];
-
-const ENDING_BACK: [Want; 11] = [
-    Want::Flush(16),
-    Want::Fence,
-    Want::Store(129, FULL),
-    Want::Flush(16),
-    Want::Fence,
-    Want::Draw,
-    Want::Store(128, 2),
-    Want::Store(160, 2),
-    Want::Store(192, 2),
-    Want::Store(96, 2),
-    Want::Done,
-];
-
-/// Whether an insert of key 284 moves nothing there, keeps four locks and the words of their buckets, and hands all that on, after 66 events.
-fn hands_on(memory: &mut Memory) -> Result<bool, Fail> {
-    let kept = kept_in(memory, 284, 128)?;
-    let mut op = MoveOp::new(kept);
-    memory.run(&mut op);
-    let held = Held {
-        next: Some(0),
-        previous: Some(0),
-        ..kept.held
-    };
-    let left = op.kept();
-    let buckets = left.buckets.next == memory.bucket(192)
-        && left.buckets.previous == memory.bucket(96)
-        && left.change == kept.change;
-    let mut locked = true;
-    for lock in LOCKS {
-        locked = locked && memory.word(lock) == 1;
-    }
-    let ended = op.want() == Want::Done && op.end() == MoveEnd::NoMove && op.hands_on();
-    Ok(ended && left.held == held && buckets && locked && memory.events == 66)
-}
-
-#[test]
-fn no_record_can_move(rt: HostRuntime) -> Result<(), Fail> {
-    let mut memory = Memory::of(1, 0, &[])?;
-    not_moving(&mut memory);
-    assert!(rt; hands_on(&mut memory)?, "where no record can move");
-    let mut memory = Memory::of(1, 0, &[])?;
-    not_moving(&mut memory);
-    memory.set(193, FULL);
-    assert!(rt;
-        hands_on(&mut memory)?,
-        "where the next bucket is full, too"
-    );
-    let mut memory = Memory::of(1, 0, &[])?;
-    moving_back(&mut memory);
-    memory.set(97, FULL);
-    assert!(rt; hands_on(&mut memory)?, "where the bucket before is full");
-    Ok(())
-}
-
-/// Displacements, as `crate::rows` reads them.
-const ROWS: &str = "\
+/// Displacements.
+pub const ROWS: &str = "\
+# Key 256 in bucket 1, and then keys 0 to 26: home 0 has 0 and the odd ones, its probing bucket the others as members.
+table 97=16383 98=0xD0B090705030100 99=0x19171513110F 101=1000 102=1 103=1001 104=3 105=1003 106=5 107=1005 108=7 109=1007 110=9 111=1009
+table 112=11 113=1011 114=13 115=1013 116=15 117=1015 118=17 119=1017 120=19 121=1019 122=21 123=1021 124=23 125=1023 126=25 127=1025
+table 129=0xFFFBFFF 130=0xE0C0A0806040200 131=0x1A1816141210 132=256 133=1256 134=2 135=1002 136=4 137=1004 138=6 139=1006 140=8 141=1008
+table 142=10 143=1010 144=12 145=1012 146=14 147=1014 148=16 149=1016 150=18 151=1018 152=20 153=1020 154=22 155=1022 156=24 157=1024 158=26
+table 159=1026
 # A record moves on to the next bucket, and there into a slot of another line.
 on -
-do lay moving_on -> laid
-do 27 96 -> Replied(Done, 0) in 56
-on -
-do lay moving_on -> laid
-set 161=0x1FF
-do 27 96 -> Replied(Done, 0) in 57
+do 27 96 -> (Some(Replied(Done, 0)), None) in 56
+on 161=0x1FF
+do 27 96 -> (Some(Replied(Done, 0)), None) in 57
 has 161=0x8003FF 182=256 183=1256
+# All its events.
+on -
+begin 27 96
+Load(160)
+Exchange(160, 0, 1)
+for 161 1 0 31: Load(#)
+Store(164, 256)
+Store(165, 1256)
+Store(162, 0)
+Flush(20)
+Fence
+Store(161, 16385)
+Flush(20)
+Fence
+Store(129, 268419070)
+Flush(16)
+Fence
+Store(132, 27)
+Store(133, 7)
+Store(130, 1012195045828461083)
+Flush(16)
+Fence
+Store(129, 268435455)
+Flush(16)
+Fence
+Draw
+Store(96, 2)
+Store(128, 2)
+Store(160, 2)
+Done
+has 164=256 161=16385 132=27 2208=1
+# Key 0 in bucket 0, key 1 in bucket 1 as a member, and then keys 256 to 282: home 1 has the odd ones, its probing bucket the others as members.
+# A record moves back to the bucket before.
+site 1 0 1 1
+table 97=1 101=1000 129=32767 130=0xD0B090705030101 131=0x19171513110F 132=1 133=1001 134=257 135=1257 136=259 137=1259 138=261 139=1261
+table 140=263 141=1263 142=265 143=1265 144=267 145=1267 146=269 147=1269 148=271 149=1271 150=273 151=1273 152=275 153=1275 154=277
+table 155=1277 156=279 157=1279 158=281 159=1281 161=0xFFFFFFF 162=0xE0C0A0806040200 163=0x1A1816141210 164=256 165=1256 166=258 167=1258
+table 168=260 169=1260 170=262 171=1262 172=264 173=1264 174=266 175=1266 176=268 177=1268 178=270 179=1270 180=272 181=1272 182=274
+table 183=1274 184=276 185=1276 186=278 187=1278 188=280 189=1280 190=282 191=1282
+on -
+begin 283 128
+Load(192)
+Exchange(192, 0, 1)
+for 193 1 0 31: Load(#)
+Load(96)
+Exchange(96, 0, 1)
+for 97 1 0 31: Load(#)
+Store(102, 1)
+Store(103, 1001)
+Store(98, 256)
+Flush(12)
+Fence
+Store(97, 3)
+Flush(12)
+Fence
+Store(129, 16382)
+Flush(16)
+Fence
+Store(132, 283)
+Store(133, 7)
+Store(130, 939854872990384411)
+Flush(16)
+Fence
+Store(129, 16383)
+Flush(16)
+Fence
+Draw
+Store(128, 2)
+Store(160, 2)
+Store(192, 2)
+Store(96, 2)
+Done
+has 97=3 102=1 129=16383 132=283
+# Where the bucket before is full, none can move: four locks are kept, with the words of their buckets.
+on 97=0x3FFF
+do 284 128 -> (Some(NoMove), Some((Held { home: Some(0), probing: Some(0), first: None, second: None, next: Some(0), previous: Some(0) }, Change { key: 284, effect: Insert(7) }, [0, 0, 0, 0, 0, 0, 0, 0, 0, 0, 0, 0, 0, 0, 0, 0, 0, 0, 0, 0, 0, 0, 0, 0, 0, 0, 0, 0, 0, 0, 0, 0], [0, 16383, 0, 0, 0, 1000, 0, 0, 0, 0, 0, 0, 0, 0, 0, 0, 0, 0, 0, 0, 0, 0, 0, 0, 0, 0, 0, 0, 0, 0, 0, 0]))) in 66
+has 96=1 128=1 160=1 192=1
+# Keys 256 to 283 in home 1 and its probing bucket, where none can move; and where the next bucket is full, too.
+site 1 0 1 1
+table 129=16383 130=0xF0D0B0907050301 131=0x1B1917151311 132=257 133=1257 134=259 135=1259 136=261 137=1261 138=263 139=1263 140=265
+table 141=1265 142=267 143=1267 144=269 145=1269 146=271 147=1271 148=273 149=1273 150=275 151=1275 152=277 153=1277 154=279 155=1279
+table 156=281 157=1281 158=283 159=1283 161=0xFFFFFFF 162=0xE0C0A0806040200 163=0x1A1816141210 164=256 165=1256 166=258 167=1258 168=260
+table 169=1260 170=262 171=1262 172=264 173=1264 174=266 175=1266 176=268 177=1268 178=270 179=1270 180=272 181=1272 182=274 183=1274
+table 184=276 185=1276 186=278 187=1278 188=280 189=1280 190=282 191=1282
+on -
+do 284 128 -> (Some(NoMove), Some((Held { home: Some(0), probing: Some(0), first: None, second: None, next: Some(0), previous: Some(0) }, Change { key: 284, effect: Insert(7) }, [0, 0, 0, 0, 0, 0, 0, 0, 0, 0, 0, 0, 0, 0, 0, 0, 0, 0, 0, 0, 0, 0, 0, 0, 0, 0, 0, 0, 0, 0, 0, 0], [0, 0, 0, 0, 0, 0, 0, 0, 0, 0, 0, 0, 0, 0, 0, 0, 0, 0, 0, 0, 0, 0, 0, 0, 0, 0, 0, 0, 0, 0, 0, 0]))) in 66
+has 96=1 128=1 160=1 192=1
+on 193=0x3FFF
+do 284 128 -> (Some(NoMove), Some((Held { home: Some(0), probing: Some(0), first: None, second: None, next: Some(0), previous: Some(0) }, Change { key: 284, effect: Insert(7) }, [0, 16383, 0, 0, 0, 0, 0, 0, 0, 0, 0, 0, 0, 0, 0, 0, 0, 0, 0, 0, 0, 0, 0, 0, 0, 0, 0, 0, 0, 0, 0, 0], [0, 0, 0, 0, 0, 0, 0, 0, 0, 0, 0, 0, 0, 0, 0, 0, 0, 0, 0, 0, 0, 0, 0, 0, 0, 0, 0, 0, 0, 0, 0, 0]))) in 66
+has 96=1 128=1 160=1 192=1
 # The lock of the next bucket, and that of the bucket before, is another's: at first; and it is taken, or has moved on, after it was looked at. Those
 # before it are given back. And it has its last version.
-on -
-do lay not_moving -> laid
-set 192=3
-do 284 128 -> Again(Busy { word: 192, seen: 3 })
+on 192=3
+do 284 128 -> (Some(Again(Busy { word: 192, seen: 3 })), None)
 has 192=3
 on -
-do lay not_moving -> laid
-other 1 192=3
-do 284 128 -> Again(Busy { word: 192, seen: 3 })
+other 1 192 3
+do 284 128 -> (Some(Again(Busy { word: 192, seen: 3 })), None)
 has 192=3 128=2 160=2
 on -
-do lay not_moving -> laid
-other 1 192=4
-do 284 128 -> Again(Moved { word: 192, before: 0, after: 4 })
+other 1 192 4
+do 284 128 -> (Some(Again(Moved { word: 192, before: 0, after: 4 })), None)
 has 192=4 128=2 160=2
-on -
-do lay not_moving -> laid
-set 192=0xFFFFFFFFFFFFFFFE 2208=6
-do 284 128 -> Replied(Spent, 6)
+on 192=0xFFFFFFFFFFFFFFFE 2208=6
+do 284 128 -> (Some(Replied(Spent, 6)), None)
 has 192=0xFFFFFFFFFFFFFFFE 128=2 160=2
-on -
-do lay not_moving -> laid
-set 96=3
-do 284 128 -> Again(Busy { word: 96, seen: 3 })
+on 96=3
+do 284 128 -> (Some(Again(Busy { word: 96, seen: 3 })), None)
 has 96=3
 on -
-do lay not_moving -> laid
-other 34 96=3
-do 284 128 -> Again(Busy { word: 96, seen: 3 })
+other 34 96 3
+do 284 128 -> (Some(Again(Busy { word: 96, seen: 3 })), None)
 has 96=3 128=2 160=2 192=2
 on -
-do lay not_moving -> laid
-other 34 96=4
-do 284 128 -> Again(Moved { word: 96, before: 0, after: 4 })
+other 34 96 4
+do 284 128 -> (Some(Again(Moved { word: 96, before: 0, after: 4 })), None)
 has 96=4 128=2 160=2 192=2
-on -
-do lay not_moving -> laid
-set 96=0xFFFFFFFFFFFFFFFE 2208=6
-do 284 128 -> Replied(Spent, 6)
+on 96=0xFFFFFFFFFFFFFFFE 2208=6
+do 284 128 -> (Some(Replied(Spent, 6)), None)
 has 96=0xFFFFFFFFFFFFFFFE 128=2 160=2
 ";

@@ -1,109 +1,73 @@
 //! Repairs of slot 0 of an image of two slots, of version 2, up to where another machine goes on: their events, what is handed on, and their
 //! ends.
-use crate::memory::site;
-use crate::rows::{Follows, follow};
-use op_core::{Ans, Machine, Want};
-use repair_op::RepairOp;
-use std::alloc::Global;
+use crate::memory::Memory;
+use crate::rows::Follows;
+use repair_op::{RepairEnd, RepairOp};
 use std::test::Fail;
-use world::Site;
-
-/// A repair by caller 1.
-fn begun() -> Result<RepairOp, Fail> {
-    let site = Site {
-        version: 2,
-        ..site(2, 2)?
-    };
-    Ok(RepairOp::new(site, 0))
-}
 
 impl Follows for RepairOp {
-    fn begun(_case: &str) -> Result<RepairOp, Fail> {
-        begun()
+    /// Whether it wants nothing more, its end, and where it hands on the header of the segment and its ready side.
+    type Stand = (bool, Option<RepairEnd>, Option<(u64, Option<u64>)>);
+
+    fn begun(memory: &mut Memory, _case: &str) -> Result<RepairOp, Fail> {
+        Ok(RepairOp::new(memory.site, 0))
     }
 
-    fn told(&self, alloc: Global, what: &str) -> Result<String, Fail> {
-        let told = match what {
-            "nothing" => format!(in alloc; "{}", self.wants_nothing())?,
-            "hands" => format!(in alloc; "{}", self.hands_on())?,
-            "end" => format!(in alloc; "{:?}", self.end())?,
-            _ => format!(in alloc; "{} {:?}", self.guarded.head, self.guarded.side)?,
+    fn stands(&self) -> Self::Stand {
+        let on = if self.hands_on() {
+            Some((self.guarded.head, self.guarded.side))
+        } else {
+            None
         };
-        Ok(told)
+        (self.wants_nothing(), self.end(), on)
     }
 }
 
-// In words: the headers of slots 0 and 1 are 65 and 2209, the link of slot 0 is 66, the guard of free slots 4354, and that of the segment 4356.
-#[test]
-fn events_and_ends_of_repairs(rt: HostRuntime) -> Result<(), Fail> {
-    follow(rt.alloc(), begun()?, ROWS)
-}
-
-#[test]
-fn other_answers_change_nothing(rt: HostRuntime) -> Result<(), Fail> {
-    let mut op = begun()?;
-    let same = op;
-    op.take(Ans::Passed);
-    op.take(Ans::Value(1));
-    assert_eq!(rt; op, same);
-    op.take(Ans::Won);
-    op.take(Ans::Passed);
-    assert_eq!(rt; op.want(), Want::Load(65));
-    Ok(())
-}
-
-/// Repairs: of a segment whose header is 257 where it is normal, 513 where it is splitting.
-const ROWS: &str = "\
+/// Repairs: of a segment whose header is 257 where it is normal, 513 where it is splitting. The headers of slots 0 and 1 are words 65 and 2209, the link
+/// of slot 0 is 66, the guard of free slots 4354, and that of the segment 4356.
+pub const ROWS: &str = "\
+site 2 2 2 1
 # A normal segment is handed on.
-on -
+begin -
 Exchange(4356, 0, 1) = Won
 Load(65) = Value 257
-nothing true
-hands true
-end Some(Guarded)
-guarded 257 None
+stands (true, Some(Guarded), Some((257, None)))
 # A segment of the image's version is given back.
-on -
+begin -
 Exchange(4356, 0, 1) = Won
 Load(65) = Value 258
-nothing false
+stands (false, None, None)
 Store(4356, 0) = Passed
-nothing true
-hands false
-end Some(Current)
+stands (true, Some(Current), None)
 # The guard is another's.
-on -
+begin -
 Exchange(4356, 0, 1) = Lost 7
-nothing true
-end Some(Again(Busy { word: 4356, seen: 7 }))
+stands (true, Some(Again(Busy { word: 4356, seen: 7 })), None)
 # Ready sides are handed on: one deeper; and two deeper, with a 0 behind the pattern of the 1-side.
-on -
+begin -
 Exchange(4356, 0, 1) = Won
 Load(65) = Value 513
 Load(66) = Value 2
 Load(2209) = Value 0x100010102
-hands true
-guarded 513 Some(1)
-on -
+stands (true, Some(Guarded), Some((513, Some(1))))
+begin -
 Exchange(4356, 0, 1) = Won
 Load(65) = Value 513
 Load(66) = Value 2
 Load(2209) = Value 0x200020202
-hands true
-guarded 513 Some(1)
+stands (true, Some(Guarded), Some((513, Some(1))))
 # A split that links nothing is taken back.
-on -
+begin -
 Exchange(4356, 0, 1) = Won
 Load(65) = Value 513
 Load(66) = Value 0
 Store(65, 257) = Passed
 Flush(8) = Passed
 Fence = Passed
-hands true
-guarded 257 None
+stands (true, Some(Guarded), Some((257, None)))
 # Other sides are left: a free slot, a new side and a live one of the 0-side, a live one with a 1 behind the pattern of the 1-side, one of the
 # segment's own region, and a new side that is two deeper.
-on -
+begin -
 Exchange(4356, 0, 1) = Won
 Load(65) = Value 513
 Load(66) = Value 2
@@ -111,9 +75,8 @@ Load(2209) = Value 0x100010001
 Store(65, 257) = Passed
 Flush(8) = Passed
 Fence = Passed
-hands true
-guarded 257 None
-on -
+stands (true, Some(Guarded), Some((257, None)))
+begin -
 Exchange(4356, 0, 1) = Won
 Load(65) = Value 513
 Load(66) = Value 2
@@ -121,9 +84,8 @@ Load(2209) = Value 0x10301
 Store(65, 257) = Passed
 Flush(8) = Passed
 Fence = Passed
-hands true
-guarded 257 None
-on -
+stands (true, Some(Guarded), Some((257, None)))
+begin -
 Exchange(4356, 0, 1) = Won
 Load(65) = Value 513
 Load(66) = Value 2
@@ -131,9 +93,8 @@ Load(2209) = Value 0x10101
 Store(65, 257) = Passed
 Flush(8) = Passed
 Fence = Passed
-hands true
-guarded 257 None
-on -
+stands (true, Some(Guarded), Some((257, None)))
+begin -
 Exchange(4356, 0, 1) = Won
 Load(65) = Value 513
 Load(66) = Value 2
@@ -141,9 +102,8 @@ Load(2209) = Value 0x300020101
 Store(65, 257) = Passed
 Flush(8) = Passed
 Fence = Passed
-hands true
-guarded 257 None
-on -
+stands (true, Some(Guarded), Some((257, None)))
+begin -
 Exchange(4356, 0, 1) = Won
 Load(65) = Value 513
 Load(66) = Value 2
@@ -151,9 +111,8 @@ Load(2209) = Value 0x101
 Store(65, 257) = Passed
 Flush(8) = Passed
 Fence = Passed
-hands true
-guarded 257 None
-on -
+stands (true, Some(Guarded), Some((257, None)))
+begin -
 Exchange(4356, 0, 1) = Won
 Load(65) = Value 513
 Load(66) = Value 2
@@ -161,10 +120,9 @@ Load(2209) = Value 0x200020301
 Store(65, 257) = Passed
 Flush(8) = Passed
 Fence = Passed
-hands true
-guarded 257 None
+stands (true, Some(Guarded), Some((257, None)))
 # A new side becomes free.
-on -
+begin -
 Exchange(4356, 0, 1) = Won
 Load(65) = Value 513
 Load(66) = Value 2
@@ -177,16 +135,21 @@ Store(4354, 0) = Passed
 Store(65, 257) = Passed
 Flush(8) = Passed
 Fence = Passed
-hands true
-guarded 257 None
+stands (true, Some(Guarded), Some((257, None)))
 # The guard of free slots is another's.
-on -
+begin -
 Exchange(4356, 0, 1) = Won
 Load(65) = Value 513
 Load(66) = Value 2
 Load(2209) = Value 0x100010301
 Exchange(4354, 0, 1) = Lost 3
 Store(4356, 0) = Passed
-nothing true
-end Some(Again(Busy { word: 4354, seen: 3 }))
+stands (true, Some(Again(Busy { word: 4354, seen: 3 })), None)
+# Other answers than those of the event that is wanted change nothing.
+begin -
+keeps Passed
+keeps Value 1
+Exchange(4356, 0, 1) = Won
+keeps Passed
+Load(65) = Value 257
 ";

@@ -1,68 +1,62 @@
-//! Restarts of images of one slot and of nine, event for event. Bit 8 of the state word is the marker.
-use crate::rows::{Follows, follow, number};
+//! Restarts of images of one slot and of nine, event for event. Each is told by the number of slots. Bit 8 of the state word is the marker.
+use crate::memory::Memory;
+use crate::rows::{Follows, number};
 use image_layout::Geometry;
 use op_core::{Machine, Want};
-use restart_op::RestartOp;
-use std::alloc::Global;
+use restart_op::{RestartOp, Started};
 use std::test::Fail;
 
 impl Follows for RestartOp {
-    fn begun(case: &str) -> Result<RestartOp, Fail> {
+    /// What it leaves.
+    type Stand = Option<Started>;
+
+    fn begun(_memory: &mut Memory, case: &str) -> Result<RestartOp, Fail> {
         Ok(RestartOp::new(Geometry::new(number(case)?, 0, 0)?))
     }
 
-    fn told(&self, alloc: Global, what: &str) -> Result<String, Fail> {
-        if what == "step" {
-            return Ok(format!(in alloc; "{:?}", self.step)?);
-        }
-        let left = match self.want() {
+    fn stands(&self) -> Self::Stand {
+        match self.want() {
             Want::Done => Some(self.end()),
             _ => None,
-        };
-        Ok(format!(in alloc; "{left:?}")?)
+        }
     }
 }
 
-#[test]
-fn restarts_and_sweeps(rt: HostRuntime) -> Result<(), Fail> {
-    follow(rt.alloc(), RestartOp::begun("1")?, ROWS)
-}
-
 /// Restarts, each on an image with so many slots for segments.
-const ROWS: &str = "\
+pub const ROWS: &str = "\
 # Clean ones keep their version, and unclean ones get the next.
-on 1
+begin 1
 Load(16) = Value 259
 Store(16, 3) = Passed
 Flush(2) = Passed
 Fence = Passed
-end Some(Started { version: 3, swept: false })
-on 1
+stands Some(Started { version: 3, swept: false })
+begin 1
 Load(16) = Value 511
 Store(16, 255) = Passed
 Flush(2) = Passed
 Fence = Passed
-end Some(Started { version: 255, swept: false })
-on 1
+stands Some(Started { version: 255, swept: false })
+begin 1
 Load(16) = Value 3
 Store(16, 4) = Passed
 Flush(2) = Passed
 Fence = Passed
-end Some(Started { version: 4, swept: false })
-on 1
+stands Some(Started { version: 4, swept: false })
+begin 1
 Load(16) = Value 254
 Store(16, 255) = Passed
 Flush(2) = Passed
 Fence = Passed
-end Some(Started { version: 255, swept: false })
-on 1
+stands Some(Started { version: 255, swept: false })
+begin 1
 Load(16) = Value 65027
 Store(16, 4) = Passed
 Flush(2) = Passed
 Fence = Passed
-end Some(Started { version: 4, swept: false })
+stands Some(Started { version: 4, swept: false })
 # A sweep of one slot.
-on 1
+begin 1
 ? = Value 255
 Load(65) = Value 511
 Store(65, 256) = Passed
@@ -71,9 +65,9 @@ Fence = Passed
 Store(16, 1) = Passed
 Flush(2) = Passed
 Fence = Passed
-end Some(Started { version: 1, swept: true })
+stands Some(Started { version: 1, swept: true })
 # A sweep of nine slots takes two rounds. Their headers stand in words 65, 2209 and so on: 2144 words and 268 lines apart.
-on 9
+begin 9
 ? = Value 255
 Load(65) = Value 0xFF000001FF000200
 Store(65, 18374686488244781568) = Passed
@@ -107,12 +101,14 @@ Fence = Passed
 Store(16, 1) = Passed
 Flush(2) = Passed
 Fence = Passed
-end Some(Started { version: 1, swept: true })
+stands Some(Started { version: 1, swept: true })
 # Answers of another kind change nothing.
-on 1
-? = Passed
-step Load
-? = Value 511
-? = Won
-step Store(Started { version: 255, swept: false })
+begin 1
+keeps Passed
+Load(16) = Value 511
+keeps Won
+Store(16, 255) = Passed
+Flush(2) = Passed
+Fence = Passed
+stands Some(Started { version: 255, swept: false })
 ";

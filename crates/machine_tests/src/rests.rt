@@ -1,62 +1,46 @@
 //! The rest of a split of a segment with three records: one went to the side, and one stands in the stash.
-use crate::memory::site;
-use enclose_op::Enclosed;
-use image_layout::{BUCKETS, WORDS_OF_BUCKETS};
+use crate::memory::Memory;
+use crate::rows::Follows;
 use map_model::{Change, Effect};
-use op_core::{Ans, Machine, Want};
 use rest_op::{RestEnd, RestOp};
 use std::test::Fail;
 
-/// Its words: two records of home 0, of which the first has a hash with top bit 1, and one of home 0 in the first stash bucket.
-fn whole() -> Result<Enclosed, Fail> {
-    let mut buckets = [0; WORDS_OF_BUCKETS as usize];
-    buckets[1] = 3;
-    buckets[4] = 1 << 63;
-    buckets[6] = 5;
-    buckets[2049] = 1;
-    buckets[2052] = 7;
-    let mut locks = [0; BUCKETS as usize];
-    locks[65] = 8;
-    Ok(Enclosed {
-        site: site(2, 1)?,
-        change: Change {
-            key: 9,
-            effect: Effect::Insert(1),
-        },
-        hash: 9,
-        segment: 0,
-        head: 257,
-        locks,
-        buckets,
-    })
+impl Follows for RestOp {
+    /// Its end, which is `Off` before.
+    type Stand = RestEnd;
+
+    fn begun(memory: &mut Memory, _case: &str) -> Result<RestOp, Fail> {
+        let effect = Effect::Insert(1);
+        Ok(RestOp::new(memory.enclosed(Change { key: 9, effect })))
+    }
+
+    fn stands(&self) -> Self::Stand {
+        self.end()
+    }
 }
 
-#[test]
-fn a_record_leaves_and_a_note_comes(rt: HostRuntime) -> Result<(), Fail> {
-    let mut op = RestOp::new(whole()?);
-    for want in [
-        Want::Store(97, 2),
-        Want::Flush(12),
-        Want::Fence,
-        Want::Store(65, 0x1_0101),
-        Want::Flush(8),
-        Want::Fence,
-        Want::Store(97, 0x1000_0002),
-        Want::Store(99, 7 << 48),
-    ] {
-        assert_eq!(rt; op.want(), want);
-        op.take(Ans::Passed);
-    }
-    for bucket in 0..66u64 {
-        let next = if bucket == 65 { 10 } else { 2 };
-        assert_eq!(rt; op.want(), Want::Store(96 + 32 * bucket, next));
-        op.take(Ans::Passed);
-    }
-    assert_eq!(rt; op.want(), Want::Store(4356, 0));
-    op.take(Ans::Won);
-    assert!(rt; !op.wants_nothing(), "another answer changes nothing");
-    op.take(Ans::Passed);
-    assert!(rt; op.wants_nothing());
-    assert_eq!(rt; op.end(), RestEnd::Split);
-    Ok(())
-}
+/// The rest of one: two records of home 0, of which the first has a hash with top bit 1, and one of home 0 in the first stash bucket. The lock of the
+/// last bucket had the value 8.
+pub const ROWS: &str = "\
+site 2 1 1 1
+table 65=257 97=3 100=0x8000000000000000 102=5 2145=1 2148=7 2176=8
+begin -
+stands Off
+Store(97, 2) = Passed
+Flush(12) = Passed
+Fence = Passed
+Store(65, 65793) = Passed
+Flush(8) = Passed
+Fence = Passed
+Store(97, 268435458) = Passed
+Store(99, 1970324836974592) = Passed
+for 96 65 32 1: Store(#, 2) = Passed
+Store(2176, 10) = Passed
+# Another answer changes nothing.
+keeps Won
+Store(4356, 0) = Won
+stands Off
+Store(4356, 0) = Passed
+Done
+stands Split
+";

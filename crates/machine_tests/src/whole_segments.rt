@@ -1,31 +1,37 @@
 //! The file format's own examples: a stash full of notes, a key that stands twice after a cut, and segments without room.
+use crate::memory::Memory;
+use crate::rows::{Deeds, numbers};
 use image_layout::Geometry;
-use std::process::Abort;
+use op_core::{Ans, Want};
+use std::alloc::Global;
 use std::test::Fail;
-use whole_segment::{Loaded, Round, cleared_mark, copied_mark, rebuilt_notes};
+use whole_segment::{Loaded, cleared_mark, copied_mark, rebuilt_notes};
 
-/// Puts a key into a slot that is taken.
-fn put(rt: &impl Abort, loaded: &mut Loaded, bucket: u8, slot: u8, key: u64) {
-    assert!(rt; bucket < 66 && slot < 14);
-    loaded.set_key(bucket, slot, key);
+/// A segment that is laid as it is told, and what was answered of it last.
+#[derive(Drop)]
+pub struct Segments {
+    loaded: Loaded,
+    answer: [u64; 3],
+}
+
+/// Key `n`, or, in halves, each second one is `n / 2` above 2^63 and the others are `n / 2`.
+fn key_of(n: u8, halves: bool) -> u64 {
+    match (halves, n % 2) {
+        (false, _) => u64::from(n),
+        (true, 0) => u64::from(n / 2) + (1 << 63),
+        (true, _) => u64::from(n / 2),
+    }
 }
 
 /// Home 0 with 28 records in its two buckets and 28 in the stash: keys are put in turn into bucket 0 and bucket 1, slots ascending, and then into
-/// the stash. A key is `n`, or, in halves, each second one is `n / 2` above 2^63 and the others are `n / 2`.
-fn full_home(rt: &impl Abort, halves: bool) -> Loaded {
+/// the stash.
+fn full_home(halves: bool) -> Loaded {
     let mut loaded = Loaded::blank();
-    for n in 0..56u8 {
-        let key = u64::from(if halves { n / 2 } else { n });
-        let key = if halves && n % 2 == 0 {
-            key + (1 << 63)
-        } else {
-            key
-        };
-        if n < 28 {
-            put(rt, &mut loaded, n % 2, n / 2, key);
-        } else {
-            put(rt, &mut loaded, 64 + (n - 28) / 14, n % 14, key);
-        }
+    for slot in 0..14u8 {
+        loaded.set_key(0, slot, key_of(2 * slot, halves));
+        loaded.set_key(1, slot, key_of(2 * slot + 1, halves));
+        loaded.set_key(64, slot, key_of(28 + slot, halves));
+        loaded.set_key(65, slot, key_of(42 + slot, halves));
     }
     loaded.set_first(0, 0x3FFF);
     loaded.set_first(1, 0x0FFF_FFFF);
@@ -34,119 +40,150 @@ fn full_home(rt: &impl Abort, halves: bool) -> Loaded {
     loaded
 }
 
-#[test]
-fn halves_of_a_full_home(rt: HostRuntime) -> Result<(), Fail> {
-    let geometry = Geometry::new(2, 1, 0)?;
-    let loaded = full_home(&rt, true);
-    let covered = [
-        loaded.covered_slots(&geometry, 0, 1, 1),
-        loaded.covered_slots(&geometry, 1, 1, 1),
-        loaded.covered_slots(&geometry, 64, 1, 1),
-        loaded.covered_slots(&geometry, 65, 1, 1),
-        loaded.covered_slots(&geometry, 65, 1, 0),
-        loaded.covered_slots(&geometry, 65, 0, 0),
-    ];
-    assert_eq!(rt; covered, [0x3FFF, 0, 0x1555, 0x1555, 0x2AAA, 0x3FFF]);
-    let half = loaded.half(&geometry, 1, 1).first;
-    let rest = loaded.without_half(&geometry, 1, 1).first;
-    assert_eq!(rt; [half[0], half[1], half[64]], [0x3FFF, 0, 0x1555]);
-    assert_eq!(rt; [rest[0], rest[1], rest[64]], [0, 0x0FFF_FFFF, 0x2AAA]);
-    Ok(())
-}
-
-#[test]
-fn marks_of_a_copy_and_of_what_is_cleared(rt: HostRuntime) {
-    let mark = 0x0464_400F_FFFF_FFFF;
-    let marks = [copied_mark(mark, 0x0003), cleared_mark(mark, 0x0003)];
-    assert_eq!(rt; marks, [0x0000_C003, 0x0464_400F_FFFF_3FFC]);
-}
-
-#[test]
-fn a_full_home_has_no_room(rt: HostRuntime) {
-    let mut loaded = full_home(&rt, false);
-    assert!(rt; loaded.has_no_room(56));
-    assert!(rt;
-        !loaded.has_no_room(256),
-        "home 1 has bucket 2 for its probing bucket"
-    );
-    loaded.set_first(0, 0x0000_7FFF);
-    assert!(rt;
-        !loaded.has_no_room(56),
-        "a member can move back from bucket 0"
-    );
-    loaded.set_first(0, 0x3FFF);
-    loaded.set_first(1, 0x07FF_FFFF);
-    assert!(rt;
-        !loaded.has_no_room(56),
-        "a record of home 1 can move on to bucket 2"
-    );
-    loaded.set_first(2, 0x3FFF);
-    assert!(rt; loaded.has_no_room(56));
-    loaded.set_first(65, 0x1FFF);
-    assert!(rt;
-        !loaded.has_no_room(56),
-        "the last slot of the stash is free"
-    );
-}
-
-#[test]
-fn a_repair_keeps_the_first_of_a_key(rt: HostRuntime) -> Result<(), Fail> {
-    let geometry = Geometry::new(2, 1, 0)?;
-    let mut loaded = Loaded::blank();
-    loaded.set_key(1, 0, 256);
-    loaded.set_key(2, 0, 256);
-    loaded.set_key(65, 3, 256);
-    loaded.set_key(65, 4, (1 << 63) + 256);
-    loaded.set_first(1, 0x0001);
-    loaded.set_first(2, 0x4001);
-    loaded.set_first(65, 0x0018);
-    let spoiled = [
-        loaded.spoiled_slots(&geometry, 1, 0, 0),
-        loaded.spoiled_slots(&geometry, 2, 0, 0),
-        loaded.spoiled_slots(&geometry, 65, 0, 0),
-        loaded.spoiled_slots(&geometry, 65, 1, 0),
-    ];
-    assert_eq!(rt; spoiled, [0, 1, 0x0008, 0x0018]);
-    let mended = loaded.mended(&geometry, 0, 0).first;
-    assert_eq!(rt; [mended[1], mended[2], mended[65]], [0x0001, 0, 0x0010]);
-    loaded.set_first(1, 0);
-    assert_eq!(rt; loaded.spoiled_slots(&geometry, 2, 1, 0), 0);
-    Ok(())
-}
-
-#[test]
-fn notes_of_a_full_stash(rt: HostRuntime) -> Result<(), Fail> {
-    let geometry = Geometry::new(1, 0, 0)?;
-    let mut loaded = full_home(&rt, false);
-    loaded.set_first(0, 0x1234_5670_0000_3FFF);
-    loaded.set_third(0, 0xFFFF_1A18_1614_1210);
-    loaded.set_third(1, 0x0000_1B19_1715_1311);
-    loaded.set_first(63, 0x03E3_D400_F000_0000);
-    let notes = rebuilt_notes(&loaded, &geometry);
-    let (first, third) = (notes.first, notes.third);
-    let firsts = [first[0], first[1], first[63]];
-    assert_eq!(rt; firsts, [0x03E3_D400_F000_3FFF, 0x0464_400F_FFFF_FFFF, 0]);
-    let thirds = [third[0], third[1]];
-    assert_eq!(rt; thirds, [0x1D1C_1A18_1614_1210, 0x2120_1B19_1715_1311]);
-    Ok(())
-}
-
-#[test]
-fn a_round_takes_eight_lines(rt: HostRuntime) {
-    let mut round = Round::begun();
-    for line in 10..18 {
-        for _ in 0..3 {
-            let takes = round.takes(line);
-            assert!(rt; takes);
-            round.touch(line);
+impl Segments {
+    /// An empty one.
+    pub fn blank() -> Segments {
+        Segments {
+            loaded: Loaded::blank(),
+            answer: [0; 3],
         }
     }
-    assert_eq!(rt; round.count(), 8);
-    assert!(rt; round.takes(17), "the last line is one of the eight");
-    assert!(rt; !round.takes(18));
-    for i in 0..8 {
-        let is_one = i < round.count();
-        assert!(rt; is_one);
-        assert_eq!(rt; round.line(i), 10 + u64::from(i));
+
+    /// Lays what a word tells of a bucket, a slot and a key, or of a bucket and a word of it, and says whether it is such a word.
+    fn lays(&mut self, word: &str, told: &[u64; 4]) -> bool {
+        let bucket = (told[0] % 66) as u8;
+        match word {
+            "blank" => self.loaded = Loaded::blank(),
+            "full" => self.loaded = full_home(false),
+            "halves" => self.loaded = full_home(true),
+            "key" => self.loaded.set_key(bucket, (told[1] % 14) as u8, told[2]),
+            "first" => self.loaded.set_first(bucket, told[1]),
+            "third" => self.loaded.set_third(bucket, told[1]),
+            _ => return false,
+        }
+        true
+    }
+
+    /// What is answered of a bucket, a depth and a pattern, of a hash, or of a word and some slots.
+    fn answered(&self, geometry: &Geometry, word: &str, told: &[u64; 4]) -> [u64; 3] {
+        let loaded = &self.loaded;
+        let bucket = (told[0] % 66) as u8;
+        let depth = (told[1] % 65) as u8;
+        let pattern = (told[2] % 2) as u32;
+        let slots = told[1] % 16384;
+        match word {
+            "covered" => [loaded.covered_slots(geometry, bucket, depth, pattern), 0, 0],
+            "spoiled" => [loaded.spoiled_slots(geometry, bucket, depth, pattern), 0, 0],
+            "half" => {
+                let first = loaded.half(geometry, depth, pattern).first;
+                [first[0], first[1], first[64]]
+            }
+            "rest" => {
+                let first = loaded.without_half(geometry, depth, pattern).first;
+                [first[0], first[1], first[64]]
+            }
+            "mended" => {
+                let first = loaded.mended(geometry, depth, pattern).first;
+                [first[1], first[2], first[65]]
+            }
+            "room" => [u64::from(loaded.has_no_room(told[0])), 0, 0],
+            "copied" => [copied_mark(told[0], slots), 0, 0],
+            "cleared" => [cleared_mark(told[0], slots), 0, 0],
+            _ => {
+                let notes = rebuilt_notes(loaded, geometry);
+                if told[0] == 1 {
+                    [notes.first[0], notes.first[1], notes.first[63]]
+                } else {
+                    [notes.third[0], notes.third[1], 0]
+                }
+            }
+        }
     }
 }
+
+impl Deeds for Segments {
+    fn begin(&mut self, memory: &mut Memory, case: &str) -> Result<(), Fail> {
+        let (word, rest) = match case.split_once(' ') {
+            Some((word, rest)) => (word, rest),
+            None => (case, ""),
+        };
+        let told = numbers(rest)?;
+        if !self.lays(word, &told) {
+            self.answer = self.answered(&memory.site.geometry, word, &told);
+        }
+        Ok(())
+    }
+
+    fn event(&mut self, _memory: &mut Memory, _ans: Option<Ans>) -> Want {
+        Want::Done
+    }
+
+    fn keeps(&mut self, _ans: Ans) -> bool {
+        false
+    }
+
+    fn told(&mut self, alloc: Global, _what: &str) -> Result<String, Fail> {
+        let answer = self.answer;
+        Ok(format!(in alloc; "{answer:?}")?)
+    }
+}
+
+/// Segments that are laid, and what is asked of them: which slots are covered or spoiled, words 1 of a half, of the rest and of what is mended, whether
+/// there is no room for a hash, the marks of a copy and of what is cleared, and words 1 or 3 of the notes.
+pub const ROWS: &str = "\
+# Halves of a full home.
+site 2 1 1 1
+begin halves
+do covered 0 1 1 -> [16383, 0, 0]
+do covered 1 1 1 -> [0, 0, 0]
+do covered 64 1 1 -> [5461, 0, 0]
+do covered 65 1 1 -> [5461, 0, 0]
+do covered 65 1 0 -> [10922, 0, 0]
+do covered 65 0 0 -> [16383, 0, 0]
+do half 0 1 1 -> [16383, 0, 5461]
+do rest 0 1 1 -> [0, 268435455, 10922]
+# Marks of a copy of two slots, and of what is cleared.
+do copied 0x0464400FFFFFFFFF 3 -> [49155, 0, 0]
+do cleared 0x0464400FFFFFFFFF 3 -> [316448311286382588, 0, 0]
+# A full home has no room; but home 1 has bucket 2 for its probing bucket.
+begin full
+do room 56 -> [1, 0, 0]
+do room 256 -> [0, 0, 0]
+# A member can move back from bucket 0.
+begin first 0 0x7FFF
+do room 56 -> [0, 0, 0]
+# A record of home 1 can move on to bucket 2, unless that is full.
+begin first 0 0x3FFF
+begin first 1 0x07FFFFFF
+do room 56 -> [0, 0, 0]
+begin first 2 0x3FFF
+do room 56 -> [1, 0, 0]
+# The last slot of the stash is free.
+begin first 65 0x1FFF
+do room 56 -> [0, 0, 0]
+# A repair keeps the first of a key: 256 stands in buckets 1, 2 and 65, and a key of the other half in bucket 65.
+begin blank
+begin key 1 0 256
+begin key 2 0 256
+begin key 65 3 256
+begin key 65 4 0x8000000000000100
+begin first 1 0x0001
+begin first 2 0x4001
+begin first 65 0x0018
+do spoiled 1 0 0 -> [0, 0, 0]
+do spoiled 2 0 0 -> [1, 0, 0]
+do spoiled 65 0 0 -> [8, 0, 0]
+do spoiled 65 1 0 -> [24, 0, 0]
+do mended 0 0 0 -> [1, 0, 16]
+begin first 1 0
+do spoiled 2 1 0 -> [0, 0, 0]
+# Notes of a full stash, made anew.
+site 1 0 1 1
+begin full
+begin first 0 0x1234567000003FFF
+begin third 0 0xFFFF1A1816141210
+begin third 1 0x00001B1917151311
+begin first 63 0x03E3D400F0000000
+do notes 1 -> [280300702318739455, 316448311286431743, 0]
+do notes 3 -> [2097580217199759888, 2386937597081752337, 0]
+";
