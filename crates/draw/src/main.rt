@@ -1,13 +1,10 @@
 //! The program `draw IMAGE [--text]`: prints a picture of the image that a file holds, for people who would rather look. It is an SVG,
-//! or text with `--text`. What it counts of each bucket, and where, is what the contracts of `counts` say.
+//! or text with `--text`. What it counts of each bucket, and where, is what the contracts of `picture` say.
 #![tactic(auto)]
 
 ghost use Rattle.std.specs.Prelude.{IfOk};
 ghost use Rattle.sound_image.specs.Image.{IsSoundImage};
 
-mod counts;
-mod directory;
-mod header;
 mod svg;
 mod text;
 

@@ -6,12 +6,10 @@ ghost use Rattle.std.specs.Prelude.{◌≡◌, ◌+◌, ◌^◌, ◌<◌, ◌≤
 ghost use Rattle.image_layout.specs.Places.{buckets, words_of};
 ghost use Rattle.sound_image.specs.Image.{IsSoundImage};
 
-use crate::counts::{filled, stashed};
-use crate::directory::{entries, entry, root_depth};
-use crate::header::header_of;
 use anyhow::Result;
 use image_file::Medium;
 use image_layout::{BUCKETS, Geometry, HOMES};
+use picture::{entries, entry, filled, header_of, root_depth, stashed};
 use std::io::Print;
 
 /// The edge of a square and the height of a row.
@@ -41,23 +39,22 @@ fn print_entry<R: Print>(rt: &R, i: u64, slot: u64) -> Result<()>
 }
 
 /// The directory: a square for each entry.
-fn print_directory<R: Print>(rt: &R, medium: &Medium) -> Result<()>
-    requires { IsSoundImage medium.now.geometry medium.now.words }
+fn print_directory<R: Print>(rt: &R, geometry: &Geometry, words: &[u64]) -> Result<()>
+    requires { IsSoundImage geometry.now words.now }
 {
-    let depth = root_depth(medium);
+    let depth = root_depth(geometry, words);
     for i in 0..entries(depth) {
-        let slot = entry(&medium.geometry, medium.words.as_slice(), depth, i);
-        print_entry(rt, i, slot)?;
+        print_entry(rt, i, entry(geometry, words, depth, i))?;
     }
     Ok(())
 }
 
 /// How high the directory is.
-fn directory_height(medium: &Medium) -> u64
-    requires { IsSoundImage medium.now.geometry medium.now.words }
+fn directory_height(geometry: &Geometry, words: &[u64]) -> u64
+    requires { IsSoundImage geometry.now words.now }
     ensures { result ≤ 20000 }
 {
-    EDGE * (entries(root_depth(medium)) / BESIDE + 1) + 8
+    EDGE * (entries(root_depth(geometry, words)) / BESIDE + 1) + 8
 }
 
 /// The left edge of bucket `b`: behind the home buckets there is room of one.
@@ -114,12 +111,12 @@ pub fn print<R: Print>(rt: &R, medium: &Medium) -> Result<()>
 {
     let geometry = &medium.geometry;
     let words = medium.words.as_slice();
-    let above = directory_height(medium);
+    let above = directory_height(geometry, words);
     let height = above + ROW * (geometry.segments() + 1);
     println!(rt;
         "<svg xmlns='http://www.w3.org/2000/svg' width='840' height='{height}' font-family='monospace' font-size='11'>"
     )?;
-    print_directory(rt, medium)?;
+    print_directory(rt, geometry, words)?;
     for s in 0..geometry.segments() {
         print_row(rt, geometry, words, s, above + ROW * s + 20)?;
     }

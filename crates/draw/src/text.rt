@@ -5,12 +5,10 @@ ghost use Rattle.std.specs.Prelude.{◌≡◌, ◌<◌, length};
 ghost use Rattle.image_layout.specs.Places.{words_of};
 ghost use Rattle.sound_image.specs.Image.{IsSoundImage};
 
-use crate::counts::{filled, sign, stashed};
-use crate::directory::{entries, entry, root_depth};
-use crate::header::header_of;
 use anyhow::Result;
 use image_file::{Medium, check};
 use image_layout::{BUCKETS, Geometry, HOMES};
+use picture::{all_stashed, entries, entry, filled, header_of, root_depth, sign};
 use std::io::Print;
 
 /// The line of an image: what `check` counts.
@@ -31,13 +29,13 @@ fn print_image<R: Print>(rt: &R, medium: &Medium) -> Result<()>
 }
 
 /// The line of the directory: its depth, and the slot that each entry names.
-fn print_directory<R: Print>(rt: &R, medium: &Medium) -> Result<()>
-    requires { IsSoundImage medium.now.geometry medium.now.words }
+fn print_directory<R: Print>(rt: &R, geometry: &Geometry, words: &[u64]) -> Result<()>
+    requires { IsSoundImage geometry.now words.now }
 {
-    let depth = root_depth(medium);
+    let depth = root_depth(geometry, words);
     print!(rt; "directory of depth {depth}:")?;
     for i in 0..entries(depth) {
-        let slot = entry(&medium.geometry, medium.words.as_slice(), depth, i);
+        let slot = entry(geometry, words, depth, i);
         print!(rt; " {slot}")?;
     }
     println!(rt; "")?;
@@ -61,18 +59,6 @@ fn print_signs<R: Print>(rt: &R, geometry: &Geometry, words: &[u64], s: u64) -> 
     Ok(())
 }
 
-/// How many records the stash has for the home buckets of a segment, as they say.
-fn all_stashed(geometry: &Geometry, words: &[u64], s: u64) -> u64
-    requires whole { length words.now ≡ words_of geometry.now }
-    requires slot { s < geometry.now.segments }
-{
-    let mut count = 0;
-    for b in 0..HOMES {
-        count += u64::from(stashed(geometry, words, s, b));
-    }
-    count
-}
-
 /// The lines of the segment in slot `s`.
 fn print_segment<R: Print>(rt: &R, geometry: &Geometry, words: &[u64], s: u64) -> Result<()>
     requires whole { length words.now ≡ words_of geometry.now }
@@ -91,10 +77,12 @@ fn print_segment<R: Print>(rt: &R, geometry: &Geometry, words: &[u64], s: u64) -
 pub fn print<R: Print>(rt: &R, medium: &Medium) -> Result<()>
     requires sound { IsSoundImage medium.now.geometry medium.now.words }
 {
+    let geometry = &medium.geometry;
+    let words = medium.words.as_slice();
     print_image(rt, medium)?;
-    print_directory(rt, medium)?;
-    for s in 0..medium.geometry.segments() {
-        print_segment(rt, &medium.geometry, medium.words.as_slice(), s)?;
+    print_directory(rt, geometry, words)?;
+    for s in 0..geometry.segments() {
+        print_segment(rt, geometry, words, s)?;
     }
     Ok(())
 }

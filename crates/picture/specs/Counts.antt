@@ -1,6 +1,6 @@
--- What a picture of an image counts: the records of each bucket, and the records of a home bucket that its notes and its count say
--- stand in the stash.
-use Rattle.std.specs.Prelude.{ℕ, ◌+◌, ◌==◌, nat_lt, length, filter, if◌then◌else◌}
+-- What a picture of an image counts: the records of each bucket, and the records that a home bucket says stand in the stash, by its notes
+-- and its count.
+use Rattle.std.specs.Prelude.{ℕ, zero, suc, ◌+◌, ◌==◌, nat_lt, length, filter, if◌then◌else◌}
 use Rattle.bucket_meta.specs.Bucket.{record_slots, note_slots, note_used, overflow_count}
 use Rattle.bucket_meta.specs.Search.{is_taken}
 use Rattle.bucket_meta.specs.Notes.{numbers_below}
@@ -23,6 +23,11 @@ module _ (shape : Shape) (word : ImageWords) (s b : ℕ) where
   -- how many it says that the stash has for it: one a note, and those that are only counted
   abbrev pub stashed : ℕ
   stashed = notes_below note_slots (word (bucket_at shape s b + 1)) + overflow_count (word (bucket_at shape s b + 1))
+
+-- how many the first n buckets of segment s say that the stash has for them, together
+abbrev pub stashed_below : ℕ → Shape → ImageWords → ℕ → ℕ
+stashed_below zero shape word s = 0
+stashed_below (suc n) shape word s = stashed_below n shape word s + stashed shape word s n
 
 -- the sign of a bucket with so many records: a dot for none, then 1 to 9 and a to e
 abbrev pub sign : ℕ → ℕ

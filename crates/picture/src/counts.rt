@@ -2,11 +2,11 @@
 
 ghost use Rattle.std.specs.Prelude.{◌≡◌, ℕ, ◌+◌, ◌<◌, ◌≤◌, length, slice_index};
 ghost use Rattle.bucket_meta.specs.Bucket.{record_slots, note_slots};
-ghost use Rattle.image_layout.specs.Places.{bucket_at, buckets, words_of};
-ghost use Rattle.draw.specs.Counts.{taken_below, notes_below, filled, stashed, sign};
+ghost use Rattle.image_layout.specs.Places.{bucket_at, buckets, homes, words_of};
+ghost use Rattle.picture.specs.Counts.{taken_below, notes_below, filled, stashed, stashed_below, sign};
 
 use bucket_meta::words::{NOTE_SLOTS, SLOTS, has_note, is_taken, overflow_count_of};
-use image_layout::Geometry;
+use image_layout::{Geometry, HOMES};
 
 /// The metadata word of a bucket.
 fn metadata_of(geometry: &Geometry, words: &[u64], s: u64, b: u8) -> u64
@@ -68,6 +68,20 @@ pub fn stashed(geometry: &Geometry, words: &[u64], s: u64, b: u8) -> u8
 {
     let w1 = metadata_of(geometry, words, s, b);
     notes_in(w1) + overflow_count_of(w1)
+}
+
+/// How many records the stash has for the home buckets of the segment in slot `s`, as they say.
+#[tactic(auto, using(crate::proofs::Totals::one_bucket))]
+pub fn all_stashed(geometry: &Geometry, words: &[u64], s: u64) -> u64
+    requires whole { length words.now ≡ words_of geometry.now }
+    requires slot { s < geometry.now.segments }
+    ensures { result ≡ stashed_below homes geometry.now (slice_index words.now) s }
+{
+    let mut count = 0;
+    for b in 0..HOMES {
+        count += u64::from(stashed(geometry, words, s, b));
+    }
+    count
 }
 
 /// The sign of a bucket with so many records: a dot for none, then `1` to `9` and `a` to `e`.

@@ -4,17 +4,16 @@ ghost use Rattle.std.specs.Prelude.{◌≡◌, ◌^◌, ◌<◌, ◌≤◌, leng
 ghost use Rattle.image_layout.specs.Places.{entry_at, most_depth, root_word, words_of};
 ghost use Rattle.sound_image.specs.Image.{IsSoundImage};
 
-use image_file::Medium;
 use image_layout::{Geometry, ROOT_WORD};
 
-/// How many top bits of a hash choose an entry.
-pub fn root_depth(medium: &Medium) -> u64
-    requires sound { IsSoundImage medium.now.geometry medium.now.words }
-    ensures is { result ≡ slice_index medium.now.words root_word }
-    ensures fits { result ≤ medium.now.geometry.depth }
+/// How many top bits of a hash choose an entry, by the words of a sound image.
+pub fn root_depth(geometry: &Geometry, words: &[u64]) -> u64
+    requires sound { IsSoundImage geometry.now words.now }
+    ensures is { result ≡ slice_index words.now root_word }
+    ensures fits { result ≤ geometry.now.depth }
     ensures most { result ≤ most_depth }
 {
-    let words = medium.words.as_slice();
+    let _ = geometry;
     words[ROOT_WORD as usize]
 }
 

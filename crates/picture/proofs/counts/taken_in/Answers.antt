@@ -1,9 +1,9 @@
 -- A slot more counts one where it is taken.
 use Rattle.std.proofs.Common.{sym, arith}
 use Rattle.bucket_meta.specs.Search.{is_taken}
-use Rattle.draw.proofs.Filters.{one_more, no_more}
-use Rattle.draw.proofs.counts.taken_in.Goals as goal
-use Rattle.draw.proofs.counts.taken_in.Goals.{then-is_taken, else-is_taken}
+use Rattle.picture.proofs.Filters.{one_more, no_more}
+use Rattle.picture.proofs.counts.taken_in.Goals as goal
+use Rattle.picture.proofs.counts.taken_in.Goals.{then-is_taken, else-is_taken}
 
 pub loop-slot-preserved : goal.loop-slot-preserved
 loop-slot-preserved c =

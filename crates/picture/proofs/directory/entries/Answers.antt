@@ -2,7 +2,7 @@
 use Rattle.std.proofs.Common.{arith}
 use Rattle.std.proofs.lemmas.Nat.{one_shl}
 use Rattle.image_layout.proofs.Areas.{power_le}
-use Rattle.draw.proofs.directory.entries.Goals as goal
+use Rattle.picture.proofs.directory.entries.Goals as goal
 
 pub returns-clause-is : goal.returns-clause-is
 returns-clause-is c = one_shl c.args.depth 64 (omega arith)

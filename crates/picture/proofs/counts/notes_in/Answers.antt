@@ -2,9 +2,9 @@
 use Rattle.std.proofs.Common.{sym, arith}
 use Rattle.std.specs.Prelude.{◌==◌}
 use Rattle.bucket_meta.specs.Bucket.{note_used}
-use Rattle.draw.proofs.Filters.{one_more, no_more}
-use Rattle.draw.proofs.counts.notes_in.Goals as goal
-use Rattle.draw.proofs.counts.notes_in.Goals.{then-has_note, else-has_note}
+use Rattle.picture.proofs.Filters.{one_more, no_more}
+use Rattle.picture.proofs.counts.notes_in.Goals as goal
+use Rattle.picture.proofs.counts.notes_in.Goals.{then-has_note, else-has_note}
 
 pub loop-note_slot-preserved : goal.loop-note_slot-preserved
 loop-note_slot-preserved c =
