@@ -3,15 +3,11 @@
 //! differs. The status is 0 where all hold, 1 where one differs, and 2 where a file is not read, or is none of rows.
 #![tactic(auto)]
 
-mod comparison;
-mod line;
-mod reading;
 mod row;
-mod text;
 
 use anyhow::{Context, Result};
-use reading::{File, file_of};
 use row::difference_of;
+use row_file::{File, file_of};
 use std::io::Print;
 use std::marker::Sync;
 use std::process::ExitCode;

@@ -2,40 +2,8 @@
 
 ghost use Rattle.std.specs.Prelude.{◌≡◌, IfOk, IsNone};
 
-use crate::line::{Others, Word};
+use row_file::{Others, WORD_BYTES, Word, word_at};
 use std::alloc::{AllocError, Global};
-
-/// The bytes of a word.
-const WORD: u64 = 8;
-
-/// The word of an image with this number; none where the image ends before.
-pub fn word_at(image: &[u8], number: u64) -> Option<u64> {
-    let first = number.checked_mul(WORD)?;
-    let behind = first.checked_add(WORD)?;
-    let bytes = image.get(first as usize..behind as usize)?;
-    let mut word: u64 = 0;
-    for byte in bytes.iter().rev() {
-        word = word << 8 | u64::from(*byte);
-    }
-    Some(word)
-}
-
-/// Sets the word of an image with this number, and answers whether the image has it.
-pub fn set_word(image: &mut [u8], word: Word) -> bool {
-    let Some(first) = word.number.checked_mul(WORD) else {
-        return false;
-    };
-    let Some(behind) = first.checked_add(WORD) else {
-        return false;
-    };
-    let Some(place) = image.get_mut(first as usize..behind as usize) else {
-        return false;
-    };
-    for (to, byte) in place.iter_mut().zip(word.value.to_le_bytes()) {
-        *to = byte;
-    }
-    true
-}
 
 /// That a line is this, and not that; none where a text ends before.
 fn line_told(
@@ -121,7 +89,7 @@ pub fn word_difference(
     if others == Others::Any {
         return Ok(None);
     }
-    for number in 0..after.len() as u64 / WORD {
+    for number in 0..after.len() as u64 / WORD_BYTES {
         if left.iter().any(|word| word.number == number) {
             continue;
         }

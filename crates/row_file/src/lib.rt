@@ -1,0 +1,15 @@
+//! Files of rows: a row is a whole run of the table as text, with what must come out of it.
+//! [`file_of`] reads the rows of a text, each a name and its [`Line`]s. [`change`] does to a store what a line says of it, and a [`Step`]
+//! takes the lines that say what is run and what must come out.
+#![tactic(auto)]
+
+mod line;
+mod reading;
+mod step;
+mod store;
+mod text;
+
+pub use line::{Line, Lines, Others, Word};
+pub use reading::{File, Row, file_of};
+pub use step::{DONE, Step};
+pub use store::{ROOM, WORD_BYTES, change, word_at};

@@ -1,0 +1,65 @@
+//! What a run left, and what differs from what must come out of it.
+
+ghost use Rattle.std.specs.Prelude.{◌≡◌, ◌≢◌, IfOk, IsNone, IsTrue, string_bytes};
+
+use crate::comparison::{line_difference, word_difference};
+use anyhow::Result;
+use row_file::{DONE, Step};
+use std::alloc::Global;
+
+/// What a run left.
+#[derive(Drop)]
+pub struct Outcome {
+    /// The status with which it ended.
+    pub status: u8,
+    /// What it wrote.
+    pub written: Vec<u8>,
+    /// The store.
+    pub image: Vec<u8>,
+}
+
+/// Whether a run of this command that ended with this status must leave the store as it was.
+fn must_keep(command: &str, status: u8) -> bool
+    ensures { status ≢ 0 → IsTrue result }
+{
+    status != DONE || command == "check" || command == "list"
+}
+
+impl Outcome {
+    /// What differs after a run of one command of this step on a store that was `before`, in words; none where all is as it must be.
+    ///
+    /// # Errors
+    ///
+    /// If there is no memory.
+    pub fn difference(
+        &self,
+        alloc: Global,
+        command: &str,
+        before: &[u8],
+        step: &Step,
+    ) -> Result<Option<String>>
+        ensures status { IfOk result (λ difference. IsNone difference → self.now.status ≡ step.now.status) }
+        ensures written { IfOk result (λ difference. IsNone difference → self.now.written.items ≡ string_bytes step.now.written) }
+        ensures kept { IfOk result (λ difference. IsNone difference → self.now.status ≢ 0 → self.now.image.items ≡ before.now) }
+    {
+        if u64::from(self.status) != step.status {
+            let (came, wanted) = (self.status, step.status);
+            return Ok(Some(format!(in alloc; "the status is {came}, and not {wanted}")?));
+        }
+        let Ok(written) = str::from_utf8(&self.written) else {
+            return Ok(Some(format!(in alloc; "what is written is no text")?));
+        };
+        if let Some(difference) = line_difference(alloc, written, step.written.as_str())? {
+            return Ok(Some(difference));
+        }
+        if must_keep(command, self.status) && self.image.as_slice() != before {
+            return Ok(Some(format!(in alloc; "the store was changed")?));
+        }
+        let count = self.image.len() as u64;
+        if step.bytes.is_some_and(|bytes| bytes != count) {
+            return Ok(Some(format!(in alloc; "{count} bytes are left")?));
+        }
+        let left = word_difference(alloc, before, &self.image, &step.left, step.others)?;
+        Ok(left)
+    }
+}
