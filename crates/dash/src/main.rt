@@ -3,16 +3,13 @@
 //! Where that status is not 0, a line on standard error says what to do about it.
 #![tactic(auto)]
 
-mod arguments;
-mod heard;
 mod image_words;
 mod number;
 mod refusal;
 mod script_words;
 
-use arguments::{parted, program_of, purpose_of, received};
+use command_line::{Heard, parted, program_of, purpose_of, received};
 use dash_top::{DONE, NO_MEMORY, dash_run};
-use heard::Heard;
 use outside::{FileStore, Fuses, StdSink, StdSource};
 use refusal::Refusal;
 use std::process::ExitCode;
