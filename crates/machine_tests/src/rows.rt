@@ -18,7 +18,8 @@
 //! | `keeps Passed` | an answer that changes nothing |
 //! | `has 97=0 98=5` | words that are so |
 //! | `locks 66` | how many locks of slot 0 are taken |
-//! | any other | what is asked of how it stands, and that |
+//! | `stands STAND` | how it stands; the type `Stand` of a machine says what that is |
+//! | `reply REPLY` | how the last attempt is answered |
 use crate::memory::Memory;
 use image_layout::Geometry;
 use op_core::{Ans, Machine, Want};
