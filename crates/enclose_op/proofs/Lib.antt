@@ -8,5 +8,4 @@ pub mod Owning
 pub mod Stepping
 pub mod EncloseIsPart
 pub mod Rooms
-pub mod Saying
 pub mod causes

@@ -3,3 +3,4 @@ pub mod Causing
 pub mod Found
 pub mod Recalling
 pub mod ByCause
+pub mod Saying

@@ -8,5 +8,4 @@ mod Falling
 mod Flushing
 mod Plain
 mod RedirectIsPart
-mod ByCause
-mod Old
+mod causes

@@ -26,7 +26,7 @@ use Rattle.repair_op.specs.Stands.{SuitsStep}
 use Rattle.repair_op.specs.Finishing.{HasImageVersion, FinishesCurrent}
 use Rattle.repair_op.specs.RepairPart.{outcome_at, repair_part, segment_of}
 use Rattle.repair_op.proofs.Words.{head_is}
-use Rattle.repair_op.proofs.ByCause.{none_some, some_same, side_none}
+use Rattle.repair_op.proofs.causes.ByCause.{none_some, some_same, side_none}
 
 module _ (site : Ground) (here : Site) (call : Call) (words : Words) (op : RepairOp) (runs : RunsHere site here op.guarded) (v : View) where
   abbrev g : Guarded

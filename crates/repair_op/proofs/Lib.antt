@@ -7,6 +7,5 @@ pub mod Unmarking
 pub mod Giving
 pub mod RepairIsPart
 pub mod Recalling
-pub mod ByCause
+pub mod causes
 pub mod Current
-pub mod Old

@@ -1,7 +1,7 @@
 -- By its steps, and by the words that it loaded.
 use Rattle.enclose_op.proofs.EncloseIsPart.{enclose_is_part, begins_as_part, begins_undecided, hands_on_whole}
 use Rattle.enclose_op.proofs.Rooms.{finds_room, keeps_room}
-use Rattle.enclose_op.proofs.Saying.{says_of_held}
+use Rattle.enclose_op.proofs.causes.Saying.{says_of_held}
 use Rattle.enclose_op.proofs.laws.enclosings_are_parts.Goals as goal
 
 pub returns-clause-part : goal.returns-clause-part

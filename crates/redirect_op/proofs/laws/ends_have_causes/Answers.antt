@@ -1,7 +1,7 @@
 -- By what its event at the guard of the directory decides.
 use Rattle.redirect_op.proofs.laws.ends_have_causes.Goals as goal
-use Rattle.redirect_op.proofs.ByCause.{ends_by_repair_cause, begins_remembering}
-use Rattle.redirect_op.proofs.Old.{stays_old}
+use Rattle.redirect_op.proofs.causes.ByCause.{ends_by_repair_cause, begins_remembering}
+use Rattle.redirect_op.proofs.causes.Old.{stays_old}
 
 pub returns-clause-causes : goal.returns-clause-causes
 returns-clause-causes c = ends_by_repair_cause

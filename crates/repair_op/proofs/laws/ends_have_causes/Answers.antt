@@ -1,7 +1,7 @@
 -- By what each event decides, and what is remembered after it.
-use Rattle.repair_op.proofs.ByCause.{ends_by_repair_cause}
+use Rattle.repair_op.proofs.causes.ByCause.{ends_by_repair_cause}
 use Rattle.repair_op.proofs.Current.{finishes_current}
-use Rattle.repair_op.proofs.Old.{stays_old}
+use Rattle.repair_op.proofs.causes.Old.{stays_old}
 use Rattle.repair_op.proofs.Recalling.{begins_remembering, hands_on_remembered}
 use Rattle.repair_op.proofs.laws.ends_have_causes.Goals as goal
 

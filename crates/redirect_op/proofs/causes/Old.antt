@@ -11,7 +11,7 @@ use Rattle.world.specs.areas.Asking.{MayBeNewest}
 use Rattle.world.proofs.moving.Known.{known_is_so}
 use Rattle.part.specs.Outcomes.{again}
 use Rattle.repair_op.specs.Finishing.{HasImageVersion, StaysOld}
-use Rattle.repair_op.proofs.Old.{known_as_old}
+use Rattle.repair_op.proofs.causes.Old.{known_as_old}
 use Rattle.redirect_op.specs.declared.step.RedirectStep.{RedirectStep}
 use Rattle.redirect_op.specs.declared.step.RedirectStep.TheVariants.{Guard, Root, Entry, Head, Store, Settle, Fence, GiveDirectory, Give, Ended}
 use Rattle.redirect_op.specs.declared.op.RedirectOp.{RedirectOp}
@@ -19,7 +19,7 @@ use Rattle.redirect_op.specs.Steps.{wanted_in, next_in}
 use Rattle.redirect_op.specs.Stands.{SuitsStep}
 use Rattle.redirect_op.specs.Ends.{outcome_at}
 use Rattle.redirect_op.specs.RedirectPart.{redirect_part, segment_of}
-use Rattle.redirect_op.proofs.ByCause.{none_some, head_is, store_is, settle_to_is}
+use Rattle.redirect_op.proofs.causes.ByCause.{none_some, head_is, store_is, settle_to_is}
 
 module _ (site : Ground) (here : Site) (call : Call) (words : Words) (op : RedirectOp) (v : View) (new : MayBeNewest site v words) (word value : ℕ) (current : HasImageVersion site words op.guarded.segment) where
   abbrev found : RedirectStep → ℕ

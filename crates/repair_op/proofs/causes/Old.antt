@@ -29,7 +29,7 @@ use Rattle.repair_op.specs.Finishing.{HasImageVersion, StaysOld}
 use Rattle.repair_op.specs.RepairPart.{outcome_at, repair_part, segment_of}
 use Rattle.repair_op.proofs.Words.{guard_is}
 use Rattle.repair_op.proofs.RepairIsPart.{within_by}
-use Rattle.repair_op.proofs.ByCause.{none_some, some_same, side_none}
+use Rattle.repair_op.proofs.causes.ByCause.{none_some, some_same, side_none}
 
 -- A SEGMENT WHOSE HEADER IS KNOWN AS OLD has not the image's version in the newest words
 pub known_as_old : (site : Ground) (g : Guarded) (v : View) (words : Words) → MayBeNewest site v words → IsOld site g → Has (header_word site.shape g.segment, g.head) v.known
