@@ -1,11 +1,64 @@
-// Std's readers and writers as a source and a sink, which no clause can tell of: pieces of any length, interrupts, a reason that is kept, and a
-// real file.
+// The outside in memory at the end of its room and at failing calls; and std's readers and writers as a source and a sink, which no clause can
+// tell of: pieces of any length, interrupts, a reason that is kept, and a real file.
 mod files;
 
-use outside::{Failed, StdSink, StdSource, StoreFault, put_all, take_all};
+use outside::{
+    Failed, MemSink, MemSource, MemStore, Sink, Source, StdSink, StdSource, Store, StoreFault,
+    put_all, take_all,
+};
 use std::io::{BufWriter, ErrorKind, Read, Write};
 use std::test::Fail;
 use std::{fs, io};
+
+#[test]
+fn store_in_memory(rt: HostRuntime) -> Result<(), Fail> {
+    let alloc = rt.alloc();
+    let mut store = MemStore::new(alloc, b"abc", 4, &[2, 5])?;
+    assert_eq!(rt; store.read_all(alloc, 9)?.as_slice(), b"abc".as_slice());
+    assert_eq!(rt; store.write_all(b"xy"), Err(Failed));
+    assert_eq!(rt; store.write_all(b"defg"), Ok(()));
+    assert_eq!(rt; store.read_all(alloc, 1)?.as_slice(), b"de".as_slice());
+    assert!(rt; matches!(store.read_all(alloc, 9), Err(StoreFault::Failed)));
+    assert_eq!(rt; store.write_all(b"hijkl"), Err(Failed));
+    assert_eq!(rt; store.bytes.as_slice(), b"defg".as_slice());
+    assert_eq!(rt; store.faults, 3);
+    assert_eq!(rt; store.writes, 3);
+    Ok(())
+}
+
+#[test]
+fn source_in_memory(rt: HostRuntime) -> Result<(), Fail> {
+    let alloc = rt.alloc();
+    let fails = [1].to_vec(alloc)?;
+    let mut source = MemSource::new(b"abcdef".to_vec(alloc)?, fails);
+    let mut piece = [0; 2];
+    assert_eq!(rt; source.pull(&mut piece), Err(Failed));
+    assert_eq!(rt; source.faults, 1);
+    assert_eq!(rt; source.pull(&mut piece), Ok(2));
+    assert_eq!(rt; piece, *b"ab");
+    assert_eq!(rt;
+        take_all(alloc, &mut source, 2)?.as_slice(),
+        b"cde".as_slice()
+    );
+    assert_eq!(rt;
+        take_all(alloc, &mut source, 2)?.as_slice(),
+        b"f".as_slice()
+    );
+    Ok(())
+}
+
+#[test]
+fn sink_in_memory(rt: HostRuntime) -> Result<(), Fail> {
+    let alloc = rt.alloc();
+    let mut sink = MemSink::new(alloc, 5, [2].to_vec(alloc)?)?;
+    assert_eq!(rt; put_all(&mut sink, b"abc"), Ok(()));
+    assert_eq!(rt; put_all(&mut sink, b"d"), Err(Failed));
+    assert_eq!(rt; put_all(&mut sink, b"def"), Err(Failed));
+    assert_eq!(rt; sink.push(b"de"), Ok(2));
+    assert_eq!(rt; sink.bytes.as_slice(), b"abcde".as_slice());
+    assert_eq!(rt; sink.faults, 2);
+    Ok(())
+}
 
 // A reader that gives three bytes at a time, is interrupted before each, and fails where it meets an exclamation mark.
 #[derive(Drop)]

@@ -56,6 +56,7 @@ play 1 get 00000000000000000005; -> [Call(1, Get(5))]
 serve 1 get 00000000000000000005; -> [Call(1, Get(5))]
 # No lines; and lines of all forms, as they are read.
 play  -> []
+serve  -> []
 play 1 insert 0 18446744073709551615;;1 get 5;# end;1 insert 7 8 -> [Call(1, Insert(0, 18446744073709551615)), Call(1, Get(5)), Call(1, Insert(7, 8))]
 play 64 get 5;2 remove 5;64 insert 5 6;step 64 3;until 2 end 1;step 63 0; -> [Call(64, Get(5)), Call(2, Remove(5)), Call(64, Insert(5, 6)), Step(64, 3), Until(2, End, 1), Step(63, 0)]
 play 1 get 5;1 insert 6 7;# calls;1 update 6 8;1 remove 5;step 1 3;until 0 store 1;until 1 exchange 2;until 1 flush 18446744073709551615;until 1 fence 4;until 1 draw 0;until 1 end 6;until 1 at 100;;close;step 0 9;until 0 at 0;#; cut 77 ;;# end; -> [Call(1, Get(5)), Call(1, Insert(6, 7)), Call(1, Update(6, 8)), Call(1, Remove(5)), Step(1, 3), Until(0, Store, 1), Until(1, Exchange, 2), Until(1, Flush, 18446744073709551615), Until(1, Fence, 4), Until(1, Draw, 0), Until(1, End, 6), At(1, 100), Close, Step(0, 9), At(0, 0), Cut(77)]

@@ -1,4 +1,4 @@
-//! What no clause says of a file. The tests may start in one folder: each makes its files in folders of its own there.
+//! What no clause says of a file. The tests may start in one folder: each makes files of its own there, most of them in folders of their own.
 ghost use Rattle.std.specs.Prelude.{◌≡◌, IfOk};
 
 use crate::rows::{Tells, walk};
