@@ -1,5 +1,6 @@
 -- The end rule: callers take turns, round after round, till no call is left. After the first round each caller stands between two attempts or waits
--- for the guard of the directory; after the second all stand between two attempts; and from then on each turn ends a call.
+-- for the guard of the directory; after the second all stand between two attempts; and from then on each turn of a caller that has a call left
+-- ends that call.
 use Rattle.std.specs.Prelude.{◌≡◌, ℕ, suc, ◌+◌, ◌≤◌, ◌⊎◌, true, false, None, Some, List, slice_get}
 use Rattle.map_model.specs.declared.call.Call.{Call}
 use Rattle.engine.specs.declared.engine.Engine.{Engine}
