@@ -4,7 +4,7 @@ use engine::End;
 use op_core::Want;
 
 /// An event that was done: what was wanted, how its attempt ended if it did, and whether it tried in vain for the guard of the directory.
-#[derive(Clone, Copy, Debug, PartialEq, Eq)]
+#[derive(Clone, Copy)]
 pub struct Deed {
     /// What was wanted.
     pub want: Want,

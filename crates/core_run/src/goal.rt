@@ -3,7 +3,7 @@
 use script_text::Counted;
 
 /// What a line of a schedule counts of a caller's events.
-#[derive(Clone, Copy, Debug, PartialEq, Eq)]
+#[derive(Clone, Copy)]
 pub enum Goal {
     /// Each event.
     AnyEvent,

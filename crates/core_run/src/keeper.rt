@@ -3,7 +3,7 @@
 use restart_op::{CloseOp, RestartOp};
 
 /// Caller 0, the keeper of the image: it restarts it, leaves it to the callers, and closes it.
-#[derive(Clone, Copy, Debug, PartialEq, Eq)]
+#[derive(Clone, Copy)]
 pub enum Keeper {
     /// It restarts the image.
     Restarting(RestartOp),

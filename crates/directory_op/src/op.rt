@@ -14,7 +14,7 @@ use split_op::Copied;
 use way::head_word;
 
 /// How it ends.
-#[derive(Clone, Copy, Debug, PartialEq, Eq)]
+#[derive(Clone, Copy, Debug)]
 pub enum DirectoryEnd {
     /// The side is live, and all its entries name it.
     Published,
@@ -23,7 +23,7 @@ pub enum DirectoryEnd {
 }
 
 /// Which store comes next, or what is to be settled before more is stored.
-#[derive(Clone, Copy, Debug, PartialEq, Eq)]
+#[derive(Clone, Copy, Debug)]
 pub enum Stage {
     /// The entry of this number, in the area that is one deeper, gets this value.
     Fill(u64, u64),
@@ -44,7 +44,7 @@ pub enum Stage {
 }
 
 /// Which event comes next.
-#[derive(Clone, Copy, Debug, PartialEq, Eq)]
+#[derive(Clone, Copy, Debug)]
 pub enum DirectoryStep {
     /// The header of the segment is to be loaded.
     LoadHead,
@@ -68,7 +68,7 @@ pub enum DirectoryStep {
 }
 
 /// The doubling of the directory, where that is needed, and the publishing of a side.
-#[derive(Clone, Copy, Debug, PartialEq, Eq)]
+#[derive(Clone, Copy)]
 pub struct DirectoryOp {
     /// What was copied.
     pub copied: Copied,

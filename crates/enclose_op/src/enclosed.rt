@@ -13,7 +13,7 @@ use whole_segment::Loaded;
 use world::Site;
 
 /// A segment that is enclosed: its guard and all its locks are held, and all words of its buckets are loaded.
-#[derive(Clone, Copy, Debug, PartialEq, Eq)]
+#[derive(Clone, Copy)]
 pub struct Enclosed {
     /// Where it runs.
     pub site: Site,

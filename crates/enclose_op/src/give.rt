@@ -10,7 +10,7 @@ use op_core::Want;
 use way::bucket_word;
 
 /// What is given back next.
-#[derive(Clone, Copy, Debug, PartialEq, Eq)]
+#[derive(Clone, Copy)]
 pub enum Give {
     /// The lock of a bucket, and then those up to another's.
     Lock {

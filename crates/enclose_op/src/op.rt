@@ -20,7 +20,7 @@ use world::Site;
 const BLOCK_WORDS: u16 = BLOCK as u16;
 
 /// How an attempt is to end once all is given back.
-#[derive(Clone, Copy, Debug, PartialEq, Eq)]
+#[derive(Clone, Copy, Debug)]
 pub enum NotEnclosed {
     /// It is answered, with its place.
     Replied(Reply, u64),
@@ -31,7 +31,7 @@ pub enum NotEnclosed {
 }
 
 /// How an enclosing ends.
-#[derive(Clone, Copy, Debug, PartialEq, Eq)]
+#[derive(Clone, Copy, Debug)]
 pub enum EncloseEnd {
     /// All is given back.
     Back(NotEnclosed),
@@ -42,7 +42,7 @@ pub enum EncloseEnd {
 }
 
 /// Which event an enclosing does next.
-#[derive(Clone, Copy, Debug, PartialEq, Eq)]
+#[derive(Clone, Copy)]
 pub enum EncloseStep {
     /// The guard of the segment is to be taken.
     Guard,
@@ -65,7 +65,7 @@ pub enum EncloseStep {
 }
 
 /// A segment is enclosed that has no room for an insert.
-#[derive(Clone, Copy, Debug, PartialEq, Eq)]
+#[derive(Clone, Copy)]
 pub struct EncloseOp {
     /// What is enclosed.
     pub enclosed: Enclosed,

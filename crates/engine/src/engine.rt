@@ -52,7 +52,7 @@ pub enum Op {
 }
 
 /// How an attempt ended: the end of its last machine.
-#[derive(Clone, Copy, Debug, PartialEq, Eq)]
+#[derive(Clone, Copy, Debug)]
 pub enum End {
     /// Of a get.
     Read(ReadEnd),

@@ -65,8 +65,8 @@ impl Deeds for Attempts {
         want
     }
 
-    fn keeps(&mut self, _ans: Ans) -> bool {
-        false
+    fn keeps(&mut self, _alloc: Global, _ans: Ans) -> Result<bool, Fail> {
+        Ok(false)
     }
 
     fn told(&mut self, alloc: Global, what: &str) -> Result<String, Fail> {

@@ -15,7 +15,7 @@
 //! | `Load(8) = Value 1` | the event that comes next, and the answer that is given |
 //! | `Load(8)` | the same, with the answer of the memory; `?` is any event |
 //! | `for 97 66 32 31: Load(#)` | events of which `#` is a number: from 97, 66 times, 32 apart, and 31 each time, one after another |
-//! | `keeps Passed` | an answer that changes nothing |
+//! | `keeps Passed` | an answer behind which it wants the same and stands as before |
 //! | `has 97=0 98=5` | words that are so |
 //! | `locks 66` | how many locks of slot 0 are taken |
 //! | `stands STAND` | how it stands; the type `Stand` of a machine says what that is |
@@ -36,15 +36,15 @@ pub trait Deeds {
     /// Does the event that comes next, with this answer or that of a memory, and says which it is: `Done` behind the last.
     fn event(&mut self, memory: &mut Memory, ans: Option<Ans>) -> Want;
 
-    /// Whether an answer leaves it as it is.
-    fn keeps(&mut self, ans: Ans) -> bool;
+    /// Whether it wants the same behind an answer, and stands as before.
+    fn keeps(&mut self, alloc: Global, ans: Ans) -> Result<bool, Fail>;
 
     /// What is asked of how it stands.
     fn told(&mut self, alloc: Global, what: &str) -> Result<String, Fail>;
 }
 
 /// A machine of which cases are told.
-pub trait Follows: Machine + Copy + PartialEq {
+pub trait Follows: Machine {
     /// How it stands.
     type Stand: Debug + Drop;
 
@@ -82,13 +82,15 @@ impl<M: Follows + Drop> Deeds for Followed<M> {
         want
     }
 
-    fn keeps(&mut self, ans: Ans) -> bool {
+    fn keeps(&mut self, alloc: Global, ans: Ans) -> Result<bool, Fail> {
+        let before = self.told(alloc, "stands")?;
         let Some(op) = &mut self.op else {
-            return false;
+            return Ok(false);
         };
-        let same = *op;
+        let want = op.want();
         op.take(ans);
-        *op == same
+        let same = op.want() == want;
+        Ok(same && self.told(alloc, "stands")?.as_str() == before.as_str())
     }
 
     fn told(&mut self, alloc: Global, _what: &str) -> Result<String, Fail> {
@@ -314,7 +316,7 @@ fn holds(
         }
         "do" => ends(alloc, deeds, memory, rest),
         "for" => events(alloc, deeds, memory, rest),
-        "keeps" => Ok(deeds.keeps(answer(rest)?)),
+        "keeps" => deeds.keeps(alloc, answer(rest)?),
         "has" => has(memory, rest),
         "locks" => Ok(memory.locks() == number(rest)?),
         "stands" | "reply" => Ok(deeds.told(alloc, word)?.as_str() == rest),

@@ -2,7 +2,7 @@
 use crate::memory::Memory;
 use crate::rows::{Deeds, numbers};
 use op_core::{Ans, Want};
-use rounds::Rounds;
+use rounds::{RoundStep, Rounds};
 use std::alloc::Global;
 use std::test::Fail;
 
@@ -41,8 +41,8 @@ impl Deeds for Stores {
         want
     }
 
-    fn keeps(&mut self, _ans: Ans) -> bool {
-        false
+    fn keeps(&mut self, _alloc: Global, _ans: Ans) -> Result<bool, Fail> {
+        Ok(false)
     }
 
     fn told(&mut self, alloc: Global, _what: &str) -> Result<String, Fail> {
@@ -50,7 +50,7 @@ impl Deeds for Stores {
         let stand = (
             stores,
             self.rounds.want(self.next),
-            self.rounds == Rounds::begun(),
+            self.rounds.round.count() == 0 && matches!(self.rounds.step, RoundStep::Storing),
         );
         Ok(format!(in alloc; "{stand:?}")?)
     }

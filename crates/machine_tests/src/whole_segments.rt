@@ -118,8 +118,8 @@ impl Deeds for Segments {
         Want::Done
     }
 
-    fn keeps(&mut self, _ans: Ans) -> bool {
-        false
+    fn keeps(&mut self, _alloc: Global, _ans: Ans) -> Result<bool, Fail> {
+        Ok(false)
     }
 
     fn told(&mut self, alloc: Global, _what: &str) -> Result<String, Fail> {

@@ -23,14 +23,14 @@ const NOTES: u8 = 2 * HOMES;
 const LAST: u16 = 2111;
 
 /// How a mending ends.
-#[derive(Clone, Copy, Debug, PartialEq, Eq)]
+#[derive(Clone, Copy, Debug)]
 pub enum MendEnd {
     /// The segment is current, and its guard is given back.
     Repaired,
 }
 
 /// Which event comes next.
-#[derive(Clone, Copy, Debug, PartialEq, Eq)]
+#[derive(Clone, Copy)]
 pub enum MendStep {
     /// The word of this number is to be loaded of the words of the buckets.
     Fill(u16),
@@ -57,7 +57,7 @@ pub enum MendStep {
 }
 
 /// The mending of a segment.
-#[derive(Clone, Copy, Debug, PartialEq, Eq)]
+#[derive(Clone, Copy)]
 pub struct MendOp {
     /// The segment, with its header as it stands.
     pub guarded: Guarded,

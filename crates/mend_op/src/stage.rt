@@ -10,7 +10,7 @@ use image_layout::{BLOCK, BUCKETS, HOMES};
 const BLOCK_WORDS: u16 = BLOCK as u16;
 
 /// What is stored, and in which words.
-#[derive(Clone, Copy, Debug, PartialEq, Eq)]
+#[derive(Clone, Copy)]
 pub enum Stage {
     /// Word 1 of each bucket, without the records of the 1-side.
     Clear,

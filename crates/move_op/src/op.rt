@@ -12,7 +12,7 @@ use op_core::{Ans, Machine, Want};
 use phase::{Kept, Take, give_next};
 
 /// Room is made for the record of an insert that found home and probing bucket full.
-#[derive(Clone, Copy, Debug, PartialEq, Eq)]
+#[derive(Clone, Copy)]
 pub struct MoveOp {
     /// What is kept: the insert, its locks, and the words of their buckets.
     pub kept: Kept,

@@ -5,7 +5,7 @@ use op_core::Why;
 use phase::{Ending, Held, Load, Make, Record, Take};
 
 /// How an attempt ended that tried to make room for a record.
-#[derive(Clone, Copy, Debug, PartialEq, Eq)]
+#[derive(Clone, Copy, Debug)]
 pub enum MoveEnd {
     /// It was answered, with its place: the one that it drew, or else the number of changes that it saw.
     Replied(Reply, u64),
@@ -18,7 +18,7 @@ pub enum MoveEnd {
 }
 
 /// Where a record moves to.
-#[derive(Clone, Copy, Debug, PartialEq, Eq)]
+#[derive(Clone, Copy)]
 pub enum Direction {
     /// From the probing bucket, which is its home, on to the bucket after it.
     Forward,
@@ -27,7 +27,7 @@ pub enum Direction {
 }
 
 /// A record that moves, and the new one that takes its slot.
-#[derive(Clone, Copy, Debug, PartialEq, Eq)]
+#[derive(Clone, Copy)]
 pub struct Shift {
     /// Where it moves to.
     pub direction: Direction,
@@ -40,7 +40,7 @@ pub struct Shift {
 }
 
 /// What is stored of a shift, one after another.
-#[derive(Clone, Copy, Debug, PartialEq, Eq)]
+#[derive(Clone, Copy)]
 pub enum Leg {
     /// The copy.
     Copy,
@@ -51,7 +51,7 @@ pub enum Leg {
 }
 
 /// Which event a displacement does next.
-#[derive(Clone, Copy, Debug, PartialEq, Eq)]
+#[derive(Clone, Copy)]
 pub enum MoveStep {
     /// The lock of the third bucket in this direction is taken.
     Lock(Direction, Take),

@@ -7,7 +7,7 @@ use op_core::{Ans, Machine, Want};
 use world::Site;
 
 /// How a count ended.
-#[derive(Clone, Copy, Debug, PartialEq, Eq)]
+#[derive(Clone, Copy, Debug)]
 pub enum CountEnd {
     /// So many changes drew their places since the power came on.
     Counted(u64),
@@ -16,7 +16,7 @@ pub enum CountEnd {
 }
 
 /// Which event a count does next.
-#[derive(Clone, Copy, Debug, PartialEq, Eq)]
+#[derive(Clone, Copy)]
 pub enum CountStep {
     /// The power word is to be loaded.
     AskPower,
@@ -28,7 +28,7 @@ pub enum CountStep {
 
 /// A count of the changes that drew their places, one attempt. It locks nothing, notes nothing, and gives its caller's call no
 /// reply.
-#[derive(Clone, Copy, Debug, PartialEq, Eq)]
+#[derive(Clone, Copy)]
 pub struct CountOp {
     /// Where the count runs.
     pub site: Site,

@@ -11,7 +11,7 @@ use way::{entry_word, head_word, is_leading};
 use world::Site;
 
 /// Which word of the way is looked at again.
-#[derive(Clone, Copy, Debug, PartialEq, Eq)]
+#[derive(Clone, Copy)]
 pub enum Back {
     /// The root depth.
     Root,
@@ -22,7 +22,7 @@ pub enum Back {
 }
 
 /// What a loaded word makes of it.
-#[derive(Clone, Copy, Debug, PartialEq, Eq)]
+#[derive(Clone, Copy)]
 pub enum Backed {
     /// The next word is looked at.
     On(Back),

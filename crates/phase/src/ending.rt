@@ -4,7 +4,7 @@ use map_model::Reply;
 use op_core::Why;
 
 /// How an attempt is to end once all its locks are given back.
-#[derive(Clone, Copy, Debug, PartialEq, Eq)]
+#[derive(Clone, Copy)]
 pub enum Ending {
     /// It is answered, with its place.
     Replied(Reply, u64),

@@ -8,7 +8,7 @@ use op_core::Want;
 use world::Site;
 
 /// The locks that are held: of each, the free value that its word had before it was taken.
-#[derive(Clone, Copy, Debug, PartialEq, Eq)]
+#[derive(Clone, Copy, Debug)]
 pub struct Held {
     /// That of the home bucket.
     pub home: Option<u64>,

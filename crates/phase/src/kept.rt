@@ -12,7 +12,7 @@ use map_model::Change;
 use world::Site;
 
 /// The 32 words of each bucket that was loaded, by their numbers in it; the lock word is left out, and is 0.
-#[derive(Clone, Copy, Debug, PartialEq, Eq)]
+#[derive(Clone, Copy)]
 pub struct Buckets {
     /// Those of the home bucket.
     pub home: [u64; BUCKET_WORDS],
@@ -73,7 +73,7 @@ impl Buckets {
 }
 
 /// What an insert hands on that found no room: it keeps its locks, and another machine goes on with them.
-#[derive(Clone, Copy, Debug, PartialEq, Eq)]
+#[derive(Clone, Copy)]
 pub struct Kept {
     /// Where it runs.
     pub site: Site,

@@ -13,7 +13,7 @@ use op_core::Want;
 const WORDS: u8 = BUCKET_WORDS as u8;
 
 /// The words of a bucket that were loaded so far, each at its number, and the number of the next one, 1 to 31.
-#[derive(Clone, Copy, Debug, PartialEq, Eq)]
+#[derive(Clone, Copy)]
 pub struct Load {
     /// The words.
     pub words: [u64; BUCKET_WORDS],
@@ -22,7 +22,7 @@ pub struct Load {
 }
 
 /// What a loaded word makes of it.
-#[derive(Clone, Copy, Debug, PartialEq, Eq)]
+#[derive(Clone, Copy)]
 pub enum Loaded {
     /// The next word is to be loaded.
     On(Load),

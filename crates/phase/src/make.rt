@@ -11,7 +11,7 @@ use op_core::Want;
 use trace::line_of;
 
 /// What is stored of one record. The lock word of its bucket is not in it: it is told beside.
-#[derive(Clone, Copy, Debug, PartialEq, Eq)]
+#[derive(Clone, Copy)]
 pub struct Record {
     /// The record slot, 0 to 13.
     pub slot: u8,
@@ -28,7 +28,7 @@ pub struct Record {
 }
 
 /// Where the stores are. A new record goes through all of them; an update, a remove and a clearing begin at `Publish`.
-#[derive(Clone, Copy, Debug, PartialEq, Eq)]
+#[derive(Clone, Copy)]
 pub enum Make {
     /// Stores the key in the free slot.
     Key,
@@ -51,7 +51,7 @@ pub enum Make {
 }
 
 /// What comes after.
-#[derive(Clone, Copy, Debug, PartialEq, Eq)]
+#[derive(Clone, Copy)]
 pub enum Made {
     /// The next of them.
     On(Make),

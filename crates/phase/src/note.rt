@@ -1,7 +1,7 @@
 //! The words of the note of a record that stands in the stash.
 
 /// Which of the words of a note is to be stored next.
-#[derive(Clone, Copy, Debug, PartialEq, Eq)]
+#[derive(Clone, Copy)]
 pub enum NoteWord {
     /// The metadata word.
     Mark,

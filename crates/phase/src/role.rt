@@ -11,7 +11,7 @@ use world::Site;
 
 /// A bucket of a key, in the order in which their locks are given back. The key may stand in the first four, and these are locked
 /// and looked at in this order; the last two are third buckets, by which room is made in the first two.
-#[derive(Clone, Copy, Debug, PartialEq, Eq)]
+#[derive(Clone, Copy)]
 pub enum Role {
     /// The home bucket.
     Home,

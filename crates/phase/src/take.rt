@@ -9,7 +9,7 @@ use op_core::{Ans, Want};
 const SPENT_LOCK: u64 = u64::MAX - 1;
 
 /// What is to be done with a lock word.
-#[derive(Clone, Copy, Debug, PartialEq, Eq)]
+#[derive(Clone, Copy)]
 pub enum Take {
     /// To look at it.
     Look,
@@ -21,7 +21,7 @@ pub enum Take {
 }
 
 /// What an answer makes of it.
-#[derive(Clone, Copy, Debug, PartialEq, Eq)]
+#[derive(Clone, Copy)]
 pub enum Taken {
     /// It goes on.
     On(Take),

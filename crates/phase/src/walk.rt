@@ -10,7 +10,7 @@ use way::{entry_word, head_word};
 use world::Site;
 
 /// How the segment of a key was found: three values, as they were seen first.
-#[derive(Clone, Copy, Debug, PartialEq, Eq)]
+#[derive(Clone, Copy)]
 pub struct Path {
     /// The root depth.
     pub root: u64,
@@ -21,7 +21,7 @@ pub struct Path {
 }
 
 /// Which word is to be loaded on the way.
-#[derive(Clone, Copy, Debug, PartialEq, Eq)]
+#[derive(Clone, Copy)]
 pub enum Walk {
     /// The power word.
     Power,
@@ -42,7 +42,7 @@ pub enum Walk {
 }
 
 /// What a loaded word makes of a way.
-#[derive(Clone, Copy, Debug, PartialEq, Eq)]
+#[derive(Clone, Copy)]
 pub enum Walked {
     /// It goes on.
     On(Walk),

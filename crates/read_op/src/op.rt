@@ -23,7 +23,7 @@ use way::key_hash;
 use world::Site;
 
 /// A get over the home bucket, the probing bucket and the stash, one attempt.
-#[derive(Clone, Copy, Debug, PartialEq, Eq)]
+#[derive(Clone, Copy)]
 pub struct ReadOp {
     /// What stays the same.
     pub task: Task,

@@ -6,7 +6,7 @@ ghost use Rattle.read_op.specs.Places.{free_at};
 use phase::Role;
 
 /// The values that the lock words of these buckets had when they were found free.
-#[derive(Clone, Copy, Debug, PartialEq, Eq)]
+#[derive(Clone, Copy)]
 pub struct Free {
     /// Of the home bucket.
     pub home: u64,

@@ -6,7 +6,7 @@ use phase::{Back, Load, Path, Role, Walk};
 use world::Site;
 
 /// What stays the same in an attempt.
-#[derive(Clone, Copy, Debug, PartialEq, Eq)]
+#[derive(Clone, Copy)]
 pub struct Task {
     /// The key.
     pub key: u64,
@@ -17,7 +17,7 @@ pub struct Task {
 }
 
 /// How an attempt of a get ended.
-#[derive(Clone, Copy, Debug, PartialEq, Eq)]
+#[derive(Clone, Copy, Debug)]
 pub enum ReadEnd {
     /// The key has this value, at this place: the number of changes before it.
     Found(u64, u64),
@@ -32,7 +32,7 @@ pub enum ReadEnd {
 }
 
 /// What was seen so far in a segment.
-#[derive(Clone, Copy, Debug, PartialEq, Eq)]
+#[derive(Clone, Copy)]
 pub struct Seen {
     /// How the segment was found.
     pub path: Path,
@@ -51,7 +51,7 @@ pub struct Seen {
 }
 
 /// Which event a get does next, and what it knows by then.
-#[derive(Clone, Copy, Debug, PartialEq, Eq)]
+#[derive(Clone, Copy)]
 pub enum ReadStep {
     /// On the way to the segment.
     Way(Walk),

@@ -14,7 +14,7 @@ use segment_head::word::{depth_of, header_of, pattern_of};
 use way::head_word;
 
 /// The redirecting of the entries of a stale segment's 1-side.
-#[derive(Clone, Copy, Debug, PartialEq, Eq)]
+#[derive(Clone, Copy)]
 pub struct RedirectOp {
     /// The segment that is repaired.
     pub guarded: Guarded,

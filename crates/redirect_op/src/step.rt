@@ -3,7 +3,7 @@
 use op_core::Why;
 
 /// How it ends.
-#[derive(Clone, Copy, Debug, PartialEq, Eq)]
+#[derive(Clone, Copy, Debug)]
 pub enum RedirectEnd {
     /// All is given back, and the attempt is to be made again.
     Again(Why),
@@ -12,7 +12,7 @@ pub enum RedirectEnd {
 }
 
 /// Which event comes next.
-#[derive(Clone, Copy, Debug, PartialEq, Eq)]
+#[derive(Clone, Copy)]
 pub enum RedirectStep {
     /// The guard of the directory is to be taken.
     Guard,

@@ -8,7 +8,7 @@ use op_core::{Ans, Machine, Want};
 use phase::{Held, Kept, give_next, give_want, given};
 
 /// How a release ends.
-#[derive(Clone, Copy, Debug, PartialEq, Eq)]
+#[derive(Clone, Copy, Debug)]
 pub enum ReleaseEnd {
     /// The segment in this slot has no room for the key: it is to be split, and the insert made again.
     NeedSplit(u64),
@@ -17,7 +17,7 @@ pub enum ReleaseEnd {
 }
 
 /// Which event a release does next.
-#[derive(Clone, Copy, Debug, PartialEq, Eq)]
+#[derive(Clone, Copy)]
 pub enum ReleaseStep {
     /// The first of the locks that were kept is to be given back.
     Begin,
@@ -28,7 +28,7 @@ pub enum ReleaseStep {
 }
 
 /// An insert that found no slot, nothing to move and a full stash gives all its locks back, and its segment is to be split.
-#[derive(Clone, Copy, Debug, PartialEq, Eq)]
+#[derive(Clone, Copy)]
 pub struct ReleaseOp {
     /// What was kept.
     pub kept: Kept,

@@ -8,7 +8,7 @@ use image_layout::ROOT_WORD;
 use world::Site;
 
 /// A segment that has not the image's version, and whose guard is held.
-#[derive(Clone, Copy, Debug, PartialEq, Eq)]
+#[derive(Clone, Copy)]
 pub struct Guarded {
     /// Where it runs.
     pub site: Site,

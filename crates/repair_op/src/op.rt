@@ -14,7 +14,7 @@ use way::head_word;
 use world::Site;
 
 /// The beginning of a repair.
-#[derive(Clone, Copy, Debug, PartialEq, Eq)]
+#[derive(Clone, Copy)]
 pub struct RepairOp {
     /// The segment that is repaired.
     pub guarded: Guarded,

@@ -3,7 +3,7 @@
 use op_core::Why;
 
 /// How it ends.
-#[derive(Clone, Copy, Debug, PartialEq, Eq)]
+#[derive(Clone, Copy, Debug)]
 pub enum RepairEnd {
     /// The segment has the image's version, and all is given back.
     Current,
@@ -14,7 +14,7 @@ pub enum RepairEnd {
 }
 
 /// Which of the three events comes next that settle a word.
-#[derive(Clone, Copy, Debug, PartialEq, Eq)]
+#[derive(Clone, Copy)]
 pub enum Settling {
     /// The word is to be stored.
     Store,
@@ -25,7 +25,7 @@ pub enum Settling {
 }
 
 /// Which event comes next.
-#[derive(Clone, Copy, Debug, PartialEq, Eq)]
+#[derive(Clone, Copy)]
 pub enum RepairStep {
     /// The guard of the segment is to be taken.
     Guard,

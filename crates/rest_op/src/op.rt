@@ -19,7 +19,7 @@ use whole_segment::Notes;
 const NOTES: u8 = 2 * HOMES;
 
 /// How the rest of a split ends.
-#[derive(Clone, Copy, Debug, PartialEq, Eq)]
+#[derive(Clone, Copy, Debug)]
 pub enum RestEnd {
     /// The split is made, and all is given back.
     Split,
@@ -28,7 +28,7 @@ pub enum RestEnd {
 }
 
 /// Which event comes next.
-#[derive(Clone, Copy, Debug, PartialEq, Eq)]
+#[derive(Clone, Copy)]
 pub enum RestStep {
     /// The records of this bucket that went to the side are cleared next, in rounds; no bucket's are where it is behind the last one.
     Clear(u8, Rounds),
@@ -49,7 +49,7 @@ pub enum RestStep {
 }
 
 /// The rest of a split.
-#[derive(Clone, Copy, Debug, PartialEq, Eq)]
+#[derive(Clone, Copy)]
 pub struct RestOp {
     /// The segment as it was when it was enclosed.
     pub whole: Enclosed,

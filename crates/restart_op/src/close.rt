@@ -13,11 +13,11 @@ use op_core::{Ans, Machine, Want};
 use trace::line_of;
 
 /// What a close leaves: a clean image.
-#[derive(Clone, Copy, Debug, PartialEq, Eq)]
+#[derive(Clone, Copy, Debug)]
 pub struct Closed;
 
 /// Which event a close does next, and what it knows by then.
-#[derive(Clone, Copy, Debug, PartialEq, Eq)]
+#[derive(Clone, Copy)]
 pub enum CloseStep {
     /// A line is to be flushed.
     Flush {
@@ -47,7 +47,7 @@ pub enum CloseStep {
 }
 
 /// A close: all lines are written back, eight at a time, and then the clean marker.
-#[derive(Clone, Copy, Debug, PartialEq, Eq)]
+#[derive(Clone, Copy)]
 pub struct CloseOp {
     /// How the image is laid out.
     pub geometry: Geometry,
@@ -147,7 +147,7 @@ impl Machine for CloseOp {
 
     fn take(&mut self, ans: Ans) {
         match ans {
-            Ans::Value(state) if self.step == CloseStep::Load => {
+            Ans::Value(state) if matches!(self.step, CloseStep::Load) => {
                 self.step = CloseStep::Store {
                     state: with_marker(state),
                 }

@@ -13,7 +13,7 @@ use segment_head::version::unversioned;
 use trace::line_of;
 
 /// What a restart leaves to those who run on the image.
-#[derive(Clone, Copy, Debug, PartialEq, Eq)]
+#[derive(Clone, Copy, Debug)]
 pub struct Started {
     /// The version of the image from now on, 1 to 255: a segment is current if its header has it.
     pub version: u8,
@@ -22,7 +22,7 @@ pub struct Started {
 }
 
 /// Which event a restart does next, and what it knows by then.
-#[derive(Clone, Copy, Debug, PartialEq, Eq)]
+#[derive(Clone, Copy)]
 pub enum RestartStep {
     /// The state word is to be loaded.
     Load,
@@ -66,7 +66,7 @@ pub enum RestartStep {
 
 /// A restart: it clears the marker, and waits until that is settled. An image that was not closed gets the next version, and where there is
 /// none above its own, all headers lose theirs before.
-#[derive(Clone, Copy, Debug, PartialEq, Eq)]
+#[derive(Clone, Copy)]
 pub struct RestartOp {
     /// How the image is laid out.
     pub geometry: Geometry,

@@ -8,7 +8,7 @@ use trace::line_of;
 use whole_segment::{MOST_LINES, Round};
 
 /// Which event comes next.
-#[derive(Clone, Copy, Debug, PartialEq, Eq)]
+#[derive(Clone, Copy)]
 pub enum RoundStep {
     /// A store, as long as the round takes its line; else its first line is flushed.
     Storing,
@@ -19,7 +19,7 @@ pub enum RoundStep {
 }
 
 /// Words that are stored in rounds.
-#[derive(Clone, Copy, Debug, PartialEq, Eq)]
+#[derive(Clone, Copy)]
 pub struct Rounds {
     /// The lines that were stored to and not fenced since.
     pub round: Round,

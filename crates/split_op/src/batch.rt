@@ -13,7 +13,7 @@ use segment_head::word::{FRESH, SPLITTING, depth_of, header_of, pattern_of, vers
 
 /// What is stored. Words of a slot are numbered from its first header word on: number 1 is its header, number 2 its link, and number
 /// `32 + 32 * b` the lock word of bucket `b`.
-#[derive(Clone, Copy, Debug, PartialEq, Eq)]
+#[derive(Clone, Copy)]
 pub enum Batch {
     /// The link, the locks and the metadata of the slot are emptied, and this word is the next.
     Empty(u16),

@@ -6,7 +6,7 @@ use enclose_op::Enclosed;
 use image_layout::WORDS_OF_BUCKETS;
 
 /// A segment that is being split, and whose side has copies of its records.
-#[derive(Clone, Copy, Debug, PartialEq, Eq)]
+#[derive(Clone, Copy)]
 pub struct Copied {
     /// The segment as it was when it was enclosed.
     pub whole: Enclosed,

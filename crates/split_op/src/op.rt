@@ -15,7 +15,7 @@ use image_layout::BUCKETS;
 use op_core::{Ans, Machine, Want};
 
 /// An enclosed segment is split, up to the copies.
-#[derive(Clone, Copy, Debug, PartialEq, Eq)]
+#[derive(Clone, Copy)]
 pub struct SplitOp {
     /// The segment, the slot of its side once one is found, and what is copied there.
     pub copied: Copied,

@@ -6,7 +6,7 @@ use op_core::Why;
 use rounds::Rounds;
 
 /// How a split ends.
-#[derive(Clone, Copy, Debug, PartialEq, Eq)]
+#[derive(Clone, Copy, Debug)]
 pub enum SplitEnd {
     /// The side has its copies. All is kept, and another machine goes on.
     Copied,
@@ -17,7 +17,7 @@ pub enum SplitEnd {
 }
 
 /// Which event a split does next.
-#[derive(Clone, Copy, Debug, PartialEq, Eq)]
+#[derive(Clone, Copy)]
 pub enum SplitStep {
     /// The guard of free slots is to be taken.
     Take,

@@ -11,7 +11,7 @@ use op_core::{Ans, Machine, Want};
 use phase::{Kept, Record, give_next};
 
 /// An insert that found no slot and nothing to move goes on: its record comes to a stash bucket.
-#[derive(Clone, Copy, Debug, PartialEq, Eq)]
+#[derive(Clone, Copy)]
 pub struct StashOp {
     /// What was kept.
     pub kept: Kept,

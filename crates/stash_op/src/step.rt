@@ -5,7 +5,7 @@ use op_core::Why;
 use phase::{Buckets, Ending, Held, Load, Make, NoteWord, Record, Take};
 
 /// One of the two stash buckets of a segment, in the order in which they are looked at.
-#[derive(Clone, Copy, Debug, PartialEq, Eq)]
+#[derive(Clone, Copy)]
 pub enum StashBucket {
     /// Stash bucket 0.
     First,
@@ -14,7 +14,7 @@ pub enum StashBucket {
 }
 
 /// A bucket that may keep the note of a record in the stash.
-#[derive(Clone, Copy, Debug, PartialEq, Eq)]
+#[derive(Clone, Copy)]
 pub enum NoteBucket {
     /// The record's home bucket.
     Home,
@@ -23,7 +23,7 @@ pub enum NoteBucket {
 }
 
 /// Words 1 and 3 of a bucket in which a note is put, or whose count is raised.
-#[derive(Clone, Copy, Debug, PartialEq, Eq)]
+#[derive(Clone, Copy)]
 pub struct NoteWords {
     /// Which bucket.
     pub bucket: NoteBucket,
@@ -34,7 +34,7 @@ pub struct NoteWords {
 }
 
 /// How an attempt ended that put a record into the stash.
-#[derive(Clone, Copy, Debug, PartialEq, Eq)]
+#[derive(Clone, Copy, Debug)]
 pub enum StashEnd {
     /// It was answered, with its place: the one that it drew, or else the number of changes that it saw.
     Replied(Reply, u64),
@@ -47,7 +47,7 @@ pub enum StashEnd {
 }
 
 /// What was seen so far, and which locks are held.
-#[derive(Clone, Copy, Debug, PartialEq, Eq)]
+#[derive(Clone, Copy)]
 pub struct Seen {
     /// The locks that are held: those that were kept, and those of stash buckets that were taken since.
     pub held: Held,
@@ -60,7 +60,7 @@ pub struct Seen {
 }
 
 /// Which event comes next.
-#[derive(Clone, Copy, Debug, PartialEq, Eq)]
+#[derive(Clone, Copy)]
 pub enum StashStep {
     /// The lock of a stash bucket is taken.
     Lock(StashBucket, Take),
@@ -81,7 +81,7 @@ pub enum StashStep {
 }
 
 /// Where it stands: what was seen, and which event is next.
-#[derive(Clone, Copy, Debug, PartialEq, Eq)]
+#[derive(Clone, Copy)]
 pub struct Stage {
     /// What was seen.
     pub seen: Seen,

@@ -16,7 +16,7 @@ use word_bits::mask;
 pub const KEYS: usize = BUCKETS as usize * SLOTS as usize;
 
 /// What is loaded of a segment.
-#[derive(Clone, Copy, Debug, PartialEq, Eq)]
+#[derive(Clone, Copy)]
 pub struct Loaded {
     /// Word 1 of each bucket: which of its slots are taken, and its overflow notes.
     pub first: [u64; BUCKETS as usize],

@@ -19,7 +19,7 @@ use stash::rebuild;
 use word_bits::each_fits;
 
 /// Words 1 and 3 of the 64 homes.
-#[derive(Clone, Copy, Debug, PartialEq, Eq)]
+#[derive(Clone, Copy)]
 pub struct Notes {
     /// Word 1 of each home.
     pub first: [u64; HOMES as usize],

@@ -8,7 +8,7 @@ use std::marker::Model;
 pub const MOST_LINES: u8 = 8;
 
 /// The lines that a round of stores has touched. Contracts see the list of them.
-#[derive(Clone, Copy, Debug, PartialEq, Eq)]
+#[derive(Clone, Copy)]
 pub struct Round {
     lines: [u64; MOST_LINES as usize],
     count: u8,

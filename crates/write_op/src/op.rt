@@ -16,7 +16,7 @@ use way::key_hash;
 use world::Site;
 
 /// A change of what one key has, one attempt: an insert, an update or a remove.
-#[derive(Clone, Copy, Debug, PartialEq, Eq)]
+#[derive(Clone, Copy)]
 pub struct WriteOp {
     /// What stays the same.
     pub task: Task,

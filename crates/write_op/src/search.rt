@@ -156,7 +156,7 @@ pub fn record_at(task: &Task, buckets: &Buckets, spot: Spot) -> Record
 // ---- the note of a record that leaves the stash
 
 /// Words 1 and 3 of a bucket in which the note of a record is taken away.
-#[derive(Clone, Copy, Debug, PartialEq, Eq)]
+#[derive(Clone, Copy)]
 pub struct NoteWords {
     /// Which bucket.
     pub place: Role,

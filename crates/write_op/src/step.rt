@@ -6,7 +6,7 @@ use phase::{Back, Buckets, Ending, Held, Load, Make, NoteWord, Path, Record, Rol
 use world::Site;
 
 /// What stays the same in an attempt.
-#[derive(Clone, Copy, Debug, PartialEq, Eq)]
+#[derive(Clone, Copy)]
 pub struct Task {
     /// Where the change runs.
     pub site: Site,
@@ -17,7 +17,7 @@ pub struct Task {
 }
 
 /// How an attempt of a change ended.
-#[derive(Clone, Copy, Debug, PartialEq, Eq)]
+#[derive(Clone, Copy, Debug)]
 pub enum WriteEnd {
     /// It was answered, with its place: the one that it drew, or else the number of changes that it saw.
     Replied(Reply, u64),
@@ -32,7 +32,7 @@ pub enum WriteEnd {
 }
 
 /// A record slot of one of the buckets.
-#[derive(Clone, Copy, Debug, PartialEq, Eq)]
+#[derive(Clone, Copy)]
 pub struct Spot {
     /// Which bucket.
     pub place: Role,
@@ -41,7 +41,7 @@ pub struct Spot {
 }
 
 /// What was seen so far, and which locks were taken.
-#[derive(Clone, Copy, Debug, PartialEq, Eq)]
+#[derive(Clone, Copy)]
 pub struct Seen {
     /// How the segment was found.
     pub path: Path,
@@ -60,7 +60,7 @@ pub struct Seen {
 }
 
 /// Which event a change does next.
-#[derive(Clone, Copy, Debug, PartialEq, Eq)]
+#[derive(Clone, Copy)]
 pub enum WriteStep {
     /// On the way to the segment.
     Way(Walk),
@@ -87,7 +87,7 @@ pub enum WriteStep {
 }
 
 /// Where a change stands: what was seen, and which event is next.
-#[derive(Clone, Copy, Debug, PartialEq, Eq)]
+#[derive(Clone, Copy)]
 pub struct Stage {
     /// What was seen.
     pub seen: Seen,
