@@ -1,0 +1,6 @@
+-- A bit of the metadata word says it.
+use Rattle.std.proofs.Common.{rules}
+use Rattle.bucket_meta.proofs.words.is_member.Goals as goal
+
+pub returns : goal.returns
+returns c = search rules

@@ -1,0 +1,9 @@
+-- A count or one of two notes says it.
+use Rattle.std.proofs.Common.{rules}
+use Rattle.bucket_meta.proofs.words.must_visit.Goals as goal
+
+pub returns-then-is_named : goal.returns-then-is_named
+returns-then-is_named c = search rules
+
+pub returns-else-is_named : goal.returns-else-is_named
+returns-else-is_named c = search rules

@@ -1,0 +1,6 @@
+-- Two fingerprints stand in word 3.
+use Rattle.std.proofs.Common.{rules}
+use Rattle.bucket_meta.proofs.words.note_finger_of.Goals as goal
+
+pub returns-then-note_slot-lt2 : goal.returns-then-note_slot-lt2
+returns-then-note_slot-lt2 c = search rules
