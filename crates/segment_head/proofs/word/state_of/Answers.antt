@@ -1,0 +1,7 @@
+-- The byte above the version is the state.
+use Rattle.std.proofs.Common.{◌/◌, ◌^◌}
+use Rattle.std.proofs.lemmas.Nat.{and_mask}
+use Rattle.segment_head.proofs.word.state_of.Goals as goal
+
+pub returns : goal.returns
+returns c = and_mask (c.args.h1 / 2 ^ 8) 8
