@@ -1,5 +1,5 @@
 -- The note slot that was unused gives no note before and the record's note after; else the count is one more.
-use Rattle.std.proofs.Common.{subst, sym, refl, ℕ, ◌∷◌}
+use Rattle.std.proofs.Common.{rules, subst, sym, refl, ℕ, ◌∷◌}
 use Rattle.bucket_meta.specs.Notes.{AreExact}
 use Rattle.stash.specs.Exact.{notes_of}
 use Rattle.stash.proofs.ExactNotes.{exact_with_note}
@@ -26,3 +26,12 @@ returns-in-Some-unused_note_slot-clause-exact c stashed exact =
     let step = c.in-Some-unused_note_slot in
     let one = filled_probe c.args.home.now _ _ step.note_slot (c.args.finger, c.args.index) c.fill-in-Some-unused_note_slot.ensures step.ensures.here step.ensures.within in
     exact_with_note _ _ _ _ stashed one exact
+
+pub returns-in-Some-unused_note_slot-clause-in_probe : goal.returns-in-Some-unused_note_slot-clause-in_probe
+returns-in-Some-unused_note_slot-clause-in_probe c = search rules
+
+pub returns-clause-counted : goal.returns-clause-counted
+returns-clause-counted c = search rules
+
+pub returns-clause-exact : goal.returns-clause-exact
+returns-clause-exact c = search rules

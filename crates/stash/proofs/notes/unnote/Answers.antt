@@ -1,5 +1,5 @@
 -- The note slot that held the note gives it before and none after; else the count is one less.
-use Rattle.std.proofs.Common.{ap, subst, sym, refl, arith, ℕ}
+use Rattle.std.proofs.Common.{rules, ap, subst, sym, refl, arith, ℕ}
 use Rattle.bucket_meta.specs.Notes.{AreExact}
 use Rattle.stash.specs.Exact.{notes_of}
 use Rattle.stash.specs.NoteSlots.{NoteSlotBecomes, IsNoteAt, freed_note_slot}
@@ -46,3 +46,12 @@ returns-clause-exact c rest exact =
     let in_probe = none_holds _ _ _ c.in_default-note_slot_of.not-Some c.note_slot_of-2.ensures in
     let none = not_of_home c.args.home.now c.args.probe.now (c.args.finger, c.args.index) in_home in_probe in
     exact_without_count (notes_of c.args.home.now c.args.probe.now) c.args.home.now.ocount (c.args.finger, c.args.index) rest none (omega (arith, none, c.requires)) exact
+
+pub returns-in-Some-clause-home_after : goal.returns-in-Some-clause-home_after
+returns-in-Some-clause-home_after c = search rules
+
+pub returns-in-Some-note_slot_of-clause-home_before : goal.returns-in-Some-note_slot_of-clause-home_before
+returns-in-Some-note_slot_of-clause-home_before c = search rules
+
+pub returns-clause-counted : goal.returns-clause-counted
+returns-clause-counted c = search rules
