@@ -54,6 +54,17 @@ impl MemStore {
     }
 }
 
+// A copy of all of the bytes, or of the first `limit + 1` where there are more.
+fn front_of(alloc: Global, bytes: &[u8], limit: u64) -> Result<Vec<u8>, AllocError>
+    ensures { IfOk result (λ front. front.items ≡ take (limit + 1) bytes.now) }
+{
+    if bytes.len() as u64 <= limit {
+        bytes.to_vec(alloc)
+    } else {
+        bytes[..limit as usize + 1].to_vec(alloc)
+    }
+}
+
 impl Store for MemStore {
     ghost contents = { λ s. Some s.bytes.items };
 
@@ -81,11 +92,7 @@ impl Store for MemStore {
             count_one(&mut self.faults);
             return Err(StoreFault::Failed);
         }
-        if self.bytes.len() as u64 <= limit {
-            Ok(self.bytes.to_vec(alloc)?)
-        } else {
-            Ok(self.bytes[..limit as usize + 1].to_vec(alloc)?)
-        }
+        Ok(front_of(alloc, &self.bytes, limit)?)
     }
 
     fn write_all(&mut self, bytes: &[u8]) -> Result<(), Failed>
