@@ -7,4 +7,5 @@ pub mod OneCaller
 pub mod KeptViews
 pub mod PlainMaps
 pub mod PutApart
+mod OnePut
 pub mod Checks

@@ -29,15 +29,15 @@ impl fmt::Display for Reply {
     ghost output = { λ r. Some (reply_text r) };
 
     fn fmt<W: fmt::Write>(&self, f: &mut fmt::Formatter<W>) -> fmt::Result {
-        match self {
-            Reply::Found(v) => write!(f, "FOUND {v}"),
-            Reply::Absent => write!(f, "ABSENT"),
-            Reply::Done => write!(f, "DONE"),
-            Reply::Exists => write!(f, "EXISTS"),
-            Reply::Full => write!(f, "FULL"),
-            Reply::Deep => write!(f, "DEEP"),
-            Reply::Spent => write!(f, "SPENT"),
-        }
+        f.write_str(match self {
+            Reply::Found(v) => return write!(f, "FOUND {v}"),
+            Reply::Absent => "ABSENT",
+            Reply::Done => "DONE",
+            Reply::Exists => "EXISTS",
+            Reply::Full => "FULL",
+            Reply::Deep => "DEEP",
+            Reply::Spent => "SPENT",
+        })
     }
 }
 
