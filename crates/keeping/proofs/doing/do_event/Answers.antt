@@ -1,5 +1,5 @@
 -- Each kind of event is what the device does for it.
-use Rattle.std.proofs.Common.{ℕ, refl, subst, ap, ◌∙◌}
+use Rattle.std.proofs.Common.{ℕ, refl, subst, ap, ◌∙◌, rules}
 use Rattle.std.proofs.lemmas.Bool.{false≢true}
 use Rattle.op_core.specs.declared.want.Want.TheVariants.{Load, Store, Exchange, Flush, Fence, Draw, Power}
 use Rattle.trace.specs.Events.Event.{loaded}
@@ -47,3 +47,6 @@ returns-in-Power-clause-follows c =
     follows_wanted c.args.device.now c.args.device.now c.args.caller Power c.args.want c.in-Power.is
     (subst (λ (w : ℕ). Follows c.args.device.now (loaded c.args.caller w) c.args.device.now) (c.power_word.ensures.is ∙ ap power_word c.geometry.ensures)
     (c.load-in-Power.ensures.follows c.args.caller))
+
+pub returns-in-Err-clause-answer : goal.returns-in-Err-clause-answer
+returns-in-Err-clause-answer c = search rules
