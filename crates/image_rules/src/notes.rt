@@ -15,7 +15,7 @@ use bucket_meta::words::{
 use image_layout::{Geometry, HOMES};
 
 /// An overflow note, or a record in the stash: its fingerprint, and its stash bucket.
-#[derive(Clone, Copy, Debug, PartialEq, Eq)]
+#[derive(Clone, Copy)]
 pub(crate) struct OverflowNote {
     /// The fingerprint.
     pub finger: u8,

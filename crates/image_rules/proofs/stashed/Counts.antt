@@ -1,7 +1,7 @@
 -- Notes and stash records by their numbers: one note slot more counts one note more at most, and what stands among notes
 -- stands on one of their note slots.
 use Rattle.std.proofs.Common.{◌≡◌, ◌≢◌, ℕ, zero, suc, ◌+◌, ◌<◌, ◌≤◌, refl, sym, ap, subst, ◌∙◌, arith, ⊎_elim, Bool, true, false, List, [], ◌∷◌, ◌++◌, length, length-append, add-one}
-use Rattle.std.specs.Prelude.{◌==◌, ◌&&◌, filter, None, Some, if◌then◌else◌}
+use Rattle.std.specs.Prelude.{◌==◌, ◌&&◌, filter, Option, None, Some, if◌then◌else◌}
 use Rattle.std.specs.List.{flat_map}
 use Rattle.std.proofs.lemmas.Bool.{cases_lt, cases_eq}
 use Rattle.std.proofs.lemmas.Bool.Decides.{nat_tests}
@@ -15,7 +15,7 @@ use Rattle.image_layout.specs.Places.{Shape}
 use Rattle.sound_image.specs.Segments.{ImageWords}
 use Rattle.sound_image.specs.Records.{word_in, notes_in, notes_of, stashed_of, HasExactNotes}
 use Rattle.image_rules.specs.declared.notes.OverflowNote.{OverflowNote as Sought}
-use Rattle.image_rules.specs.Noted.{how_many, piece_on, noted, AreNamed}
+use Rattle.image_rules.specs.Noted.{matches, how_many, piece_on, noted, AreNamed}
 
 -- ONE PLACE MORE
 pub count_more : (f : ℕ → List OverflowNote) (p : OverflowNote → Bool) (n : ℕ)
@@ -25,6 +25,16 @@ count_more f p n =
     ∙ ap (λ (xs : List OverflowNote). length (filter p xs))
     (flat_map-append f (numbers_below n) (n ∷ []) ∙ ap (λ (xs : List OverflowNote). flat_map f (numbers_below n) ++ xs) (append-nil (f n)))
     ∙ ap length (filter-append p (flat_map f (numbers_below n)) (f n)) ∙ length-append (filter p (flat_map f (numbers_below n))) (filter p (f n))
+
+-- counted along
+pub one_count_more : (f : ℕ → List OverflowNote) (p : OverflowNote → Bool) (n count one : ℕ)
+    → count ≡ length (filter p (flat_map f (numbers_below n))) → one ≡ length (filter p (f n))
+    → count + one ≡ length (filter p (flat_map f (numbers_below (n + 1))))
+one_count_more f p n count one before here =
+    ap (λ (m : ℕ). m + one) before ∙ ap (λ (m : ℕ). length (filter p (flat_map f (numbers_below n))) + m) here ∙ sym (count_more f p n)
+
+pub one_few_more : (n count one : ℕ) → count ≤ n → one ≤ 1 → count + one ≤ n + 1
+one_few_more n count one few most = omega arith
 
 pub count_both : (p : OverflowNote → Bool) (xs ys : List OverflowNote) → length (filter p (xs ++ ys)) ≡ length (filter p xs) + length (filter p ys)
 count_both p xs ys = ap length (filter-append p xs ys) ∙ length-append (filter p xs) (filter p ys)
@@ -153,3 +163,18 @@ none_counted f p n none =
     absurd (omega (arith, piece.2, none piece.0 piece.1)))
     (λ (zero : length (filter p (flat_map f (numbers_below n))) ≤ 0). omega (arith, zero))
     (cases_lt 0 (length (filter p (flat_map f (numbers_below n)))))
+
+-- what is counted on both sides is what is counted of all
+pub both_sides : (shape : Shape) (word : ImageWords) (s b : ℕ) (sought : Option Sought) (beside : ℕ) → beside ≡ probing_of b
+    → (w1 w3 u1 u3 : ℕ) → w1 ≡ word_in shape word s b 1 → w3 ≡ word_in shape word s b 3
+    → u1 ≡ word_in shape word s beside 1 → u3 ≡ word_in shape word s beside 3
+    → (own others : ℕ) → own ≡ how_many sought (noted w1 w3 0 4) → others ≡ how_many sought (noted u1 u3 1 4)
+    → own + others ≡ how_many sought (notes_of shape word s b)
+both_sides shape word s b sought beside next w1 w3 u1 u3 e1 e3 f1 f3 own others count more =
+    let here : own ≡ how_many sought (notes_in shape word s b 0) =
+    count ∙ ap (λ (w : ℕ). how_many sought (noted w w3 0 4)) e1 ∙ ap (λ (w : ℕ). how_many sought (noted (word_in shape word s b 1) w 0 4)) e3 in
+    let there : others ≡ how_many sought (notes_in shape word s (probing_of b) 1) =
+    more ∙ ap (λ (w : ℕ). how_many sought (noted w u3 1 4)) f1 ∙ ap (λ (w : ℕ). how_many sought (noted (word_in shape word s beside 1) w 1 4)) f3
+    ∙ ap (λ (n : ℕ). how_many sought (notes_in shape word s n 1)) next in
+    ap (λ (n : ℕ). n + others) here ∙ ap (λ (n : ℕ). how_many sought (notes_in shape word s b 0) + n) there
+    ∙ sym (count_both (matches sought) (notes_in shape word s b 0) (notes_in shape word s (probing_of b) 1))

@@ -4,16 +4,18 @@ use Rattle.image_rules.specs.Noted.{matches, piece_in}
 use Rattle.hash_word.specs.Hash.{home_of, finger_of}
 use Rattle.bucket_meta.specs.Bucket.{allocated}
 use Rattle.sound_image.specs.Records.{word_in, slot_hash}
-use Rattle.image_rules.proofs.stashed.Counts.{count_more, counts_none, none_counted}
+use Rattle.image_rules.proofs.stashed.Counts.{counts_none, none_counted, one_count_more, one_few_more}
 use Rattle.image_rules.proofs.notes.count_in.Goals as goal
+
+pub loop-slot-init : goal.loop-slot-init
+loop-slot-init c = record { counted = refl; few = omega arith }
 
 pub loop-slot-preserved : goal.loop-slot-preserved
 loop-slot-preserved c =
-    let more = count_more (λ r. piece_in c.args.geometry.now (slice_index c.args.words.now) c.args.s c.args.b c.args.k r) (matches c.args.sought)
-    c.loop-slot.slot in
     record {
-      counted = omega (arith, more, c.count_slot-count.ensures.is, c.loop-slot.invariant.counted);
-      few = omega (arith, c.count_slot-count.ensures.most, c.loop-slot.invariant.few);
+      counted = one_count_more (λ r. piece_in c.args.geometry.now (slice_index c.args.words.now) c.args.s c.args.b c.args.k r) (matches c.args.sought)
+          c.loop-slot.slot c.loop-slot.count c.count_slot-count.result c.loop-slot.invariant.counted c.count_slot-count.ensures.is;
+      few = one_few_more c.loop-slot.slot c.loop-slot.count c.count_slot-count.result c.loop-slot.invariant.few c.count_slot-count.ensures.most;
     }
 
 pub returns-then-is_empty-clause-is : goal.returns-then-is_empty-clause-is
