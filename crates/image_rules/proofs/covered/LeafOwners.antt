@@ -1,13 +1,30 @@
 -- The leaves say of each hash how deep the deepest live segment is that covers it: by one live segment more each time.
 use Rattle.std.proofs.Common.{◌≡◌, ◌≢◌, ℕ, ◌+◌, ◌^◌, ◌<◌, ◌≤◌, sym, ap, subst, ◌∙◌, arith, ⊎_elim, List, length, get_or-set_same, get_or-set_other}
+use Rattle.std.proofs.Math.ListN.{replicate}
 use Rattle.std.specs.Prelude.{slice_index, slice_set}
 use Rattle.std.proofs.lemmas.Bool.{cases_lt, cases_eq}
+use Rattle.std.proofs.lemmas.List.{get_or-replicate, get_or_past, length-replicate}
 use Rattle.hash_word.specs.Hash.{top, Covers, index_of}
 use Rattle.sound_image.specs.Segments.{Frame, depth_at, pattern_at, IsLive, CoversHash, IsLiveFor}
 use Rattle.segment_head.specs.declared.prefix.Prefix.{Prefix}
 use Rattle.image_rules.specs.Divided.{IsPrefixOf}
 use Rattle.image_rules.specs.Leaves.{AreRaised, IsDeepest, AreDeepest, HasPrefix, HasTwin, AreSeen}
 use Rattle.image_rules.proofs.covered.Tops.{covered_under, under_covered, node-depth, node-pattern}
+
+-- a list of zeros has its length, and 0 everywhere
+pub zero_length : (leaves : List ℕ) (n : ℕ) → leaves ≡ replicate n 0 → length leaves ≡ n
+zero_length leaves n is = ap length is ∙ length-replicate {A = ℕ} n 0
+
+pub all_zero : (leaves : List ℕ) (n : ℕ) → leaves ≡ replicate n 0 → (l : ℕ) → slice_index leaves l ≡ 0
+all_zero leaves n is l = ap (λ (xs : List ℕ). slice_index xs l) is ∙ zeros
+  where
+    zeros : slice_index (replicate n 0) l ≡ 0
+    zeros =
+        ⊎_elim (λ (within : l < n). get_or-replicate n l 0 0 within)
+        (λ (past : n ≤ l).
+        let short : length (replicate n 0) ≤ l = omega (arith, past, length-replicate {A = ℕ} n 0) in
+        get_or_past (replicate n 0) l 0 short)
+        (cases_lt l n)
 
 module _ (frame : Frame) (greatest : ℕ) where
   -- NO SEGMENT yet
