@@ -28,7 +28,7 @@ const INSERT: &[u8] = b"insert";
 const UPDATE: &[u8] = b"update";
 
 // What a line says: nothing, a line of the grammar, or what is wrong with it.
-#[derive(Clone, Copy, Debug, PartialEq, Eq)]
+#[derive(Clone, Copy)]
 pub(crate) enum Reading {
     Skipped,
     Says(Line),

@@ -21,7 +21,7 @@ const END: &[u8] = b"end";
 const AT: &[u8] = b"at";
 
 // What a caller runs to.
-#[derive(Clone, Copy, Debug, PartialEq, Eq)]
+#[derive(Clone, Copy)]
 pub(crate) enum Aim {
     // So many events.
     Steps,
