@@ -4,9 +4,6 @@ use Rattle.image_rules.proofs.Answered.{untrue}
 use Rattle.image_rules.proofs.standing.SoundSegments.{standing_from}
 use Rattle.image_rules.proofs.sound_segments.is_sound_segment.Goals as goal
 
-pub returns-in-Some : goal.returns-in-Some
-returns-in-Some c = λ false. untrue false
-
 pub holds_its_pairs-requires-clause-standing : goal.holds_its_pairs-requires-clause-standing
 holds_its_pairs-requires-clause-standing c =
     standing_from c.args.geometry.now (slice_index c.args.words.now) c.requires.divided c.args.s c.in_default.ensures.none
