@@ -20,6 +20,10 @@ head_below_link base s t v less at = omega arith
 link_below_link : (base s t v : ℕ) → v < base + 2144 * s + 2 → v ≡ base + 2144 * t + 2 → t < s
 link_below_link base s t v less at = omega arith
 
+-- a version above the image's is not past
+pub not_past : (version most v m : ℕ) → v ≡ version → m ≡ most → m < v → version ≤ most → ⊥
+not_past version most v m one two above past = absurd (omega arith)
+
 module _ (shape : Shape) (word : ImageWords) where
   -- RULE 1
   module _ (root : word 8 ≤ shape.depth) (version : 1 ≤ image_version (frame_of shape word)) where

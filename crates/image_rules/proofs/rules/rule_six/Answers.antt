@@ -1,9 +1,9 @@
 -- The first segment of a version above the image's breaks rule 6 at its header.
-use Rattle.std.proofs.Common.{◌+◌, ◌<◌, ℕ, sym, subst, arith, slice_index}
+use Rattle.std.proofs.Common.{◌+◌, ◌<◌, ℕ, sym, subst, slice_index}
 use borrow.Author.Count.{below_none}
 use Rattle.sound_image.specs.Rules.{VersionsArePast}
 use Rattle.image_rules.specs.Breach.{IsLeast}
-use Rattle.image_rules.proofs.standing.HeadRules.{version_ahead}
+use Rattle.image_rules.proofs.standing.HeadRules.{not_past, version_ahead}
 use Rattle.image_rules.proofs.rules.rule_six.Goals as goal
 
 pub loop-s-init : goal.loop-s-init
@@ -16,4 +16,4 @@ returns-then-version_of-version-clause-some c =
     let slot = subst (λ (n : ℕ). c.loop-s.s < n) c.segments-s-end.ensures.is c.loop-s-test.true in
     subst (λ (n : ℕ). IsLeast (VersionsArePast shape word) (n + 1)) (sym c.head_at.ensures.is)
     (version_ahead shape word c.loop-s.s slot c.loop-s.invariant
-    (λ past. absurd (omega (arith, past, c.if-version_of-version.true, c.version_of.ensures, c.version_of-version.ensures))))
+    (not_past _ _ _ _ c.version_of.ensures c.version_of-version.ensures c.if-version_of-version.true))
