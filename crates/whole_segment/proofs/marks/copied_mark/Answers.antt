@@ -1,0 +1,5 @@
+use Rattle.std.proofs.Common.{rules}
+use Rattle.whole_segment.proofs.marks.copied_mark.Goals as goal
+
+pub returns : goal.returns
+returns c = search rules
