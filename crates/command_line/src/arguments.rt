@@ -1,7 +1,9 @@
 // What the program is called with: its name, the image's path, and the words.
-ghost use Rattle.std.specs.Prelude.{◌≡◌, ◌↔◌, ◌⊎◌, ◌∷◌, MatchOption, [], codes, drop, map, slice_get, string_bytes};
+ghost use Rattle.std.specs.Prelude.{◌≡◌, ◌↔◌, ◌⊎◌, MatchOption, [], drop, map, slice_get, string_bytes};
 ghost use Rattle.outside.specs.declared.file.Purpose.TheVariants.{Reading};
+ghost use Rattle.command_line.specs.Commands.{check_words, list_words};
 
+use crate::command::{Command, command_of};
 use outside::Purpose;
 use std::alloc::{AllocError, Global};
 use std::env;
@@ -43,13 +45,10 @@ pub fn program_of(arguments: &[String]) -> &str {
 
 /// What the image's file is for: `check` and `list` read it, and every other command writes it.
 pub fn purpose_of(words: &[String]) -> Purpose
-    ensures { (result ≡ Reading) ↔ ((map string_bytes words.now ≡ codes "check" ∷ []) ⊎ (map string_bytes words.now ≡ codes "list" ∷ [])) }
+    ensures { (result ≡ Reading) ↔ ((map string_bytes words.now ≡ check_words) ⊎ (map string_bytes words.now ≡ list_words)) }
 {
-    match words {
-        [only] => match only.as_str() {
-            "check" | "list" => Purpose::Reading,
-            _ => Purpose::Writing,
-        },
-        _ => Purpose::Writing,
+    match command_of(words) {
+        Command::Check | Command::List => Purpose::Reading,
+        Command::Format(_) | Command::Play | Command::Unknown => Purpose::Writing,
     }
 }

@@ -4,7 +4,7 @@ use Rattle.std.specs.Prelude.{IfErr, IsErrAnd}
 use Rattle.image_layout.specs.Places.{Shape}
 use Rattle.dash_top.specs.declared.work.Refused.{Refused}
 use Rattle.dash_top.specs.declared.work.Refused.TheVariants.{Words, Script, Image, Source, Store, NoMemory}
-use Rattle.dash_top.specs.Commands.{SaysFormat, ReadsImage, play_words}
+use Rattle.command_line.specs.Commands.{SaysFormat, ReadsImage, play_words}
 use Rattle.dash_top.specs.Bytes.{Bytes, KeepsStore}
 use Rattle.dash_top.specs.Reading.{HasImageCause}
 use Rattle.dash_top.specs.Work.{HasCause, HasFormatCause, FindsScriptGood, IsRefused, StoreFailed}

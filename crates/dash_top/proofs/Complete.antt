@@ -18,8 +18,8 @@ use Rattle.script_text.specs.declared.fault.ScriptFault.{ScriptFault}
 use Rattle.script_text.specs.Script.{IsScript}
 use Rattle.script_text.proofs.Complete.{no_fault as no_script_fault}
 use Rattle.image_file.proofs.Accepted.{no_fault}
-use Rattle.dash_top.specs.Commands.{check_words, list_words, play_words, IsNoCommand, ReadsImage}
-use Rattle.dash_top.specs.Commands.ReadsImage.{for_check, for_list, for_play}
+use Rattle.command_line.specs.Commands.{check_words, list_words, play_words, IsNoCommand, ReadsImage}
+use Rattle.command_line.specs.Commands.ReadsImage.{for_check, for_list, for_play}
 use Rattle.dash_top.specs.Bytes.{Bytes, RefusesImage, RefusesScript}
 use Rattle.dash_top.specs.Top.{HasGoodImage, HasGoodScript, IsGoodCommand}
 use Rattle.dash_top.specs.Top.IsGoodCommand.{good_format, good_check, good_list, good_play}

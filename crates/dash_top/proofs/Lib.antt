@@ -1,5 +1,3 @@
-pub mod Words
-pub mod Statuses
 pub mod Sizes
 pub mod Scripts
 pub mod Counting

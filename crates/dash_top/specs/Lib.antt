@@ -1,5 +1,3 @@
-pub mod Commands
-pub mod Texts
 pub mod Played
 pub mod Bytes
 pub mod Reading

@@ -7,8 +7,8 @@ use Rattle.script_text.specs.declared.fault.ScriptFault.{ScriptFault}
 use Rattle.script_text.specs.Script.{IsScript}
 use Rattle.image_file.specs.declared.fault.ImageFault.{ImageFault}
 use Rattle.image_file.specs.Fault.{IsSoundFile}
-use Rattle.dash_top.specs.Commands.{check_words, list_words, play_words, SaysFormat, IsNoCommand}
-use Rattle.dash_top.specs.Texts.{usage_text, script_fault_text, image_fault_text}
+use Rattle.command_line.specs.Commands.{check_words, list_words, play_words, SaysFormat, IsNoCommand}
+use Rattle.reply_text.specs.Texts.{usage_text, script_fault_text, image_fault_text}
 use Rattle.dash_top.specs.Played.{IsPlayed}
 use Rattle.dash_top.specs.Bytes.{Bytes, KeepsStore, RefusesScript}
 use Rattle.dash_top.specs.Work.{IsDone, IsRefused}

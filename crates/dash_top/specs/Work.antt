@@ -14,8 +14,8 @@ use Rattle.dash_top.specs.declared.work.Output.{Output}
 use Rattle.dash_top.specs.declared.work.Output.TheVariants.{Nothing, Text, Lines}
 use Rattle.dash_top.specs.declared.work.Refused.{Refused}
 use Rattle.dash_top.specs.declared.work.Refused.TheVariants.{Words, Script, Image, Source, Store, NoMemory}
-use Rattle.dash_top.specs.Commands.{check_words, list_words, play_words, SaysFormat, IsNoCommand, ReadsImage}
-use Rattle.dash_top.specs.Texts.{check_text, list_text}
+use Rattle.command_line.specs.Commands.{check_words, list_words, play_words, SaysFormat, IsNoCommand, ReadsImage}
+use Rattle.reply_text.specs.Texts.{check_text, list_text}
 use Rattle.dash_top.specs.Played.{IsPlayed}
 use Rattle.dash_top.specs.Bytes.{Bytes, KeepsStore, WritesOnce, LosesWrite, ReadsScript, ReadsGoodScript, RefusesScript, ReadsSound, ReadsSomeSound, RefusesImage}
 

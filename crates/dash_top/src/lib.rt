@@ -5,17 +5,14 @@
 //! written so that it can become a crate of its own.
 #![tactic(auto)]
 
-mod command;
 mod laws;
 mod reading;
-mod status;
-mod text;
 mod top;
 mod work;
 
-pub use laws::plays_compose;
-pub use status::{
+pub use command_line::{
     BAD_IMAGE, BAD_SCRIPT, BAD_WORDS, DONE, NO_MEMORY, SINK_FAILED, SOURCE_FAILED, STORE_FAILED,
     statuses_have_numbers,
 };
+pub use laws::plays_compose;
 pub use top::dash_run;

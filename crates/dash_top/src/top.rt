@@ -6,18 +6,18 @@ ghost use Rattle.outside.specs.Storing.{most_writes};
 ghost use Rattle.outside.specs.declared.gates.GateState.TheVariants.{Unmade};
 ghost use Rattle.script_text.specs.declared.fault.ScriptFault.{ScriptFault};
 ghost use Rattle.image_file.specs.declared.fault.ImageFault.{ImageFault};
-ghost use Rattle.dash_top.specs.Commands.{check_words, list_words, play_words, IsNoCommand};
-ghost use Rattle.dash_top.specs.Texts.{usage_text, script_fault_text, image_fault_text};
+ghost use Rattle.command_line.specs.Commands.{check_words, list_words, play_words, IsNoCommand};
+ghost use Rattle.reply_text.specs.Texts.{usage_text, script_fault_text, image_fault_text};
 ghost use Rattle.dash_top.specs.Bytes.{bytes_told, counts, NoneRose, KeepsStore, RefusesScript};
 ghost use Rattle.dash_top.specs.Work.{IsDone, IsRefused, StoreFailed};
 ghost use Rattle.dash_top.specs.Top.{IsText, Headline, IsGoodCommand};
 
-use crate::status::{
+use crate::work::{Refused, perform};
+use command_line::{
     BAD_IMAGE, BAD_SCRIPT, BAD_WORDS, DONE, NO_MEMORY, SINK_FAILED, SOURCE_FAILED, STORE_FAILED,
 };
-use crate::text::{USAGE, image_fault, script_fault};
-use crate::work::{Refused, perform};
 use outside::{Failed, Gates, Sink, Source, Store, put_all};
+use reply_text::{USAGE, image_fault, script_fault};
 use std::alloc::Global;
 use std::marker::Sync;
 use std::sync::Wait;

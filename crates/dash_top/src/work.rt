@@ -1,20 +1,19 @@
 // What each command does between the outside's bytes.
 ghost use Rattle.std.specs.Prelude.{◌≡◌, ◌≢◌, ◌⊎◌, ◌+◌, ◌<◌, ◌≤◌, ℕ, List, OnOk, IfOk, IfErr, map, string_bytes, false};
 ghost use Rattle.outside.specs.Storing.{most_writes};
-ghost use Rattle.dash_top.specs.Commands.{check_words, list_words, play_words};
+ghost use Rattle.command_line.specs.Commands.{check_words, list_words, play_words};
 ghost use Rattle.dash_top.specs.Bytes.{bytes_told};
 ghost use Rattle.dash_top.specs.Reading.{HasImageCause};
 ghost use Rattle.dash_top.specs.Work.{StoresNew, Checks, ListsPairs, Plays, IsDone, HasCause, HasFormatCause, output_bytes};
 
-use crate::command::{Command, command_of};
 use crate::reading::{read_image, read_script};
-use crate::text::{check_line, list_lines};
+use command_line::{Command, command_of};
 use image_file::{ImageFault, check, format, list, to_bytes};
 use image_layout::Geometry;
 use map_model::NoMemory;
 use outside::{Failed, Source, Store};
 use play::play;
-use reply_text::transcript;
+use reply_text::{check_line, list_lines, transcript};
 use script_text::ScriptFault;
 use std::alloc::{AllocError, Global};
 

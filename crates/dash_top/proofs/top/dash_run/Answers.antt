@@ -2,7 +2,7 @@ use Rattle.std.proofs.Common.{List, ℕ, subst, ◌∙◌}
 use Rattle.std.specs.Io.KnownBytes.{Appends}
 use Rattle.outside.specs.Causes.{AppendsFront}
 use Rattle.dash_top.specs.Work.{output_bytes}
-use Rattle.dash_top.specs.Texts.{usage_text, script_fault_text, image_fault_text}
+use Rattle.reply_text.specs.Texts.{usage_text, script_fault_text, image_fault_text}
 use Rattle.dash_top.specs.Top.{of_done, of_bad_words, of_bad_script, of_bad_image}
 use Rattle.dash_top.proofs.Headlines.{headline}
 use Rattle.dash_top.proofs.Complete.{good_words, good_script, good_image, play_of_done}

@@ -1,4 +1,4 @@
-use Rattle.dash_top.specs.Commands.ReadsImage.{for_check, for_list}
+use Rattle.command_line.specs.Commands.ReadsImage.{for_check, for_list}
 use Rattle.dash_top.specs.Work.{by_format, by_check, by_list, by_play}
 use Rattle.dash_top.proofs.Causes.{cause_of_reading, cause_of_format, cause_of_play, err_of}
 use Rattle.dash_top.proofs.Complete.{check_is_no_play, list_is_no_play}

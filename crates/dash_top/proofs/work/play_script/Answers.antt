@@ -6,7 +6,7 @@ use Rattle.play.specs.Played.{IsPlay, scripts_of}
 use Rattle.script_text.specs.declared.line.Line.{Line}
 use Rattle.script_text.specs.declared.line.Mode.TheVariants.{Play}
 use Rattle.script_text.specs.Script.{IsScript}
-use Rattle.dash_top.specs.Commands.ReadsImage.{for_play}
+use Rattle.command_line.specs.Commands.ReadsImage.{for_play}
 use Rattle.dash_top.specs.Bytes.{ReadsScript, ReadsGoodScript}
 use Rattle.dash_top.specs.Work.{IsRefused, StoreFailed}
 use Rattle.dash_top.proofs.Causes.{cause_of_reading, err_of}

@@ -2,8 +2,8 @@
 use Rattle.std.specs.Prelude.{◌≡◌, ◌≢◌, ℕ, List, [], ◌∷◌, codes, Some}
 use Rattle.image_layout.specs.Places.{Shape, IsShape}
 use Rattle.script_text.specs.Readings.{number}
-use Rattle.dash_top.specs.declared.command.Command.{Command}
-use Rattle.dash_top.specs.declared.command.Command.TheVariants.{Format, Check, List as ListPairs, Play, Unknown}
+use Rattle.command_line.specs.declared.command.Command.{Command}
+use Rattle.command_line.specs.declared.command.Command.TheVariants.{Format, Check, List as ListPairs, Play, Unknown}
 
 abbrev pub check_words : List (List ℕ)
 check_words = codes "check" ∷ []

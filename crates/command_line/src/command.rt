@@ -2,7 +2,7 @@
 ghost use Rattle.std.specs.Prelude.{map, string_bytes, IfSome, IfNone, ◌≡◌, ◌∷◌, [], Some};
 ghost use Rattle.image_layout.specs.Places.{Shape, IsShape};
 ghost use Rattle.script_text.specs.Readings.{number};
-ghost use Rattle.dash_top.specs.Commands.{IsCommand};
+ghost use Rattle.command_line.specs.Commands.{IsCommand};
 
 use image_layout::Geometry;
 use script_text::number_of;

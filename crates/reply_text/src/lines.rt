@@ -1,6 +1,6 @@
 // What is written: the lines of `check` and `list`, and the lines of refusals.
 ghost use Rattle.std.specs.Prelude.{◌≡◌, ◌++◌, OnOk, IfOk, string_bytes};
-ghost use Rattle.dash_top.specs.Texts.{marker_text, check_text, pair_line, list_text, script_fault_text, image_fault_text};
+ghost use Rattle.reply_text.specs.Texts.{marker_text, check_text, pair_line, list_text, script_fault_text, image_fault_text};
 
 use image_file::{ImageFault, Summary};
 use script_text::ScriptFault;
@@ -17,6 +17,10 @@ fn marker(clean: bool) -> &'static str
 }
 
 /// The line of an image in numbers.
+///
+/// # Errors
+///
+/// `AllocError` if there is no memory.
 pub fn check_line(alloc: Global, summary: &Summary) -> Result<String, AllocError>
     ensures { IfOk result (λ text. string_bytes text ≡ check_text summary.now) }
 {
@@ -37,6 +41,10 @@ fn push_pair(text: &mut String, pair: (u64, u64)) -> Result<(), AllocError>
 }
 
 /// The lines of pairs.
+///
+/// # Errors
+///
+/// `AllocError` if there is no memory.
 pub fn list_lines(alloc: Global, pairs: &[(u64, u64)]) -> Result<String, AllocError>
     ensures { IfOk result (λ text. string_bytes text ≡ list_text pairs.now) }
 {
@@ -47,7 +55,11 @@ pub fn list_lines(alloc: Global, pairs: &[(u64, u64)]) -> Result<String, AllocEr
     Ok(text)
 }
 
-/// The line of a refused script.
+/// The line of a refused script. Want of memory is no fault of it, and has no line.
+///
+/// # Errors
+///
+/// `AllocError` if there is no memory.
 pub fn script_fault(alloc: Global, fault: ScriptFault) -> Result<String, AllocError>
     ensures { IfOk result (λ text. string_bytes text ≡ script_fault_text fault) }
 {
@@ -61,7 +73,11 @@ pub fn script_fault(alloc: Global, fault: ScriptFault) -> Result<String, AllocEr
     }
 }
 
-/// The line of a refused image.
+/// The line of a refused image. Want of memory is no fault of it, and has no line.
+///
+/// # Errors
+///
+/// `AllocError` if there is no memory.
 pub fn image_fault(alloc: Global, fault: ImageFault) -> Result<String, AllocError>
     ensures { IfOk result (λ text. string_bytes text ≡ image_fault_text fault) }
 {
