@@ -1,5 +1,5 @@
 -- A word more.
-use Rattle.std.proofs.Common.{ap, ◌∙◌, arith}
+use Rattle.std.proofs.Common.{ap, ◌∙◌, arith, rules}
 use Rattle.sound_image.specs.Image.{image_bytes}
 use Rattle.image_file.proofs.FileWords.{word_more}
 use Rattle.image_file.proofs.words.push_words.Goals as goal
@@ -12,3 +12,6 @@ loop-index-preserved c = (
   omega (arith, c.push_reserved.ensures.len, c.loop-index.invariant.1),
   omega (arith, c.push_reserved.ensures.capacity, c.loop-index.invariant.2),
 )
+
+pub loop-index-init : goal.loop-index-init
+loop-index-init c = search rules

@@ -1,5 +1,5 @@
 -- Where memory is wanting, the bytes so far and those of the last pull are lost from the source.
-use Rattle.std.proofs.Common.{Result, Ok, Err, OnErr}
+use Rattle.std.proofs.Common.{Result, Ok, Err, OnErr, rules}
 use Rattle.std.proofs.KnownBytes.{Consumes-trans}
 use Rattle.outside.specs.Causes.{LosesFront}
 use Rattle.outside.proofs.whole.take_all.Goals as goal
@@ -13,3 +13,6 @@ returns-in_err-extend_from_slice-clause-err g c =
     let lost : LosesFront (g.S.Source.left c.args.source.now) (g.S.Source.left c.pull.new.self) =
     (_, Consumes-trans _ _ _ _ _ c.pulls.invariant.taken c.in_ok-count.ensures.bytes.0) in
     OnErr-of c.from_residual-in_err-extend_from_slice.result lost
+
+pub returns-clause-end : goal.returns-clause-end
+returns-clause-end g c = search rules

@@ -1,5 +1,5 @@
 -- A slot more counts one where it is taken.
-use Rattle.std.proofs.Common.{sym, arith}
+use Rattle.std.proofs.Common.{sym, arith, rules}
 use Rattle.bucket_meta.specs.Search.{is_taken}
 use Rattle.picture.proofs.Filters.{one_more, no_more}
 use Rattle.picture.proofs.counts.taken_in.Goals as goal
@@ -17,3 +17,6 @@ loop-slot-preserved c =
           let same = no_more (is_taken c.args.w1) c.loop-slot.slot (sym w.if-is_taken.ensures) in
           record { counted = omega (arith, same, before, w.count-is); few = omega (arith, few, w.count-is) }
     ]
+
+pub returns-clause-is : goal.returns-clause-is
+returns-clause-is c = search rules

@@ -1,3 +1,4 @@
+-- By the rules that all proofs share.
 use Rattle.std.proofs.Common.{rules}
 use Rattle.whole_segment.proofs.marks.copied_mark.Goals as goal
 

@@ -1,3 +1,4 @@
+-- By the rules that all proofs share.
 use Rattle.std.proofs.Common.{rules}
 use Rattle.engine.proofs.engine.End.reply.Goals as goal
 

@@ -1,0 +1,6 @@
+-- By the rules that all proofs share.
+use Rattle.std.proofs.Common.{rules}
+use Rattle.outside.proofs.file.rights.kept_bits.Goals as goal
+
+pub returns-in_default-false-clause-others : goal.returns-in_default-false-clause-others
+returns-in_default-false-clause-others c = search rules
