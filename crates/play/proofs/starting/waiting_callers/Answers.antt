@@ -1,5 +1,5 @@
 -- One caller more.
-use Rattle.std.proofs.Common.{◌≡◌, ℕ, ◌+◌, List, [], ◌∷◌, ◌++◌, length, ap, sym, ◌∙◌, subst, arith}
+use Rattle.std.proofs.Common.{◌≡◌, ℕ, ◌+◌, List, [], ◌∷◌, ◌++◌, length, ap, sym, ◌∙◌, subst, arith, rules}
 use Rattle.std.proofs.lemmas.List.FromFn.{map-range_with_len_more, length-map-range_with_len}
 use Rattle.map_model.specs.declared.call.Call.{Call}
 use Rattle.core_run.specs.State.{waiting}
@@ -24,3 +24,6 @@ loop-before-preserved c =
     one_more_waits shape 1 scripts callers calls r c.loop-before.invariant (subst (λ (m : ℕ). IsWaiting shape m calls r) number its) in
     let more : scripts_to (n + 1) lines ≡ scripts ++ calls ∷ [] = map-range_with_len_more (λ (caller : ℕ). calls_of caller lines) 1 n (n + 1) (omega arith) in
     subst (λ ss. AreWaiting shape 1 ss c.push.new.self.items) (sym more) (subst (λ cs. AreWaiting shape 1 (scripts ++ calls ∷ []) cs) (sym c.in_ok-push.ensures.items) all)
+
+pub returns : goal.returns
+returns c = search rules
