@@ -105,7 +105,7 @@ Flush(2) = Passed
 Fence = Passed
 Done
 stands Some(Closed)
-# Answers of another kind change nothing; and a marker that is set stays so.
+# Behind answers of another kind the same is wanted; and a marker that is set stays so.
 begin all
 keeps Won
 Flush(0) = Passed

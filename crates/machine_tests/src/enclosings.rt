@@ -128,7 +128,7 @@ Store(192, 6)
 for 224 62 32 1: Store(#, 2)
 Store(4356, 0)
 Done
-# Other answers than those of an exchange change nothing, and none does at the end.
+# Behind other answers than those of an exchange the same is wanted, and at the end behind any.
 on -
 begin enclose
 keeps Passed

@@ -103,7 +103,7 @@ Flush(67) = Passed
 Fence = Passed
 Store(4835, 0) = Passed
 stands (true, true, Some(Guarded))
-# Other answers than those of the event that is wanted change nothing.
+# Behind other answers than those of the event that is wanted, the same is wanted, and it stands as before.
 site 2 1 2 1
 begin 513 1
 keeps Passed

@@ -66,7 +66,7 @@ stands Some(NeedSplit(1))
 site 1 0 1 1
 begin none
 stands Some(Off)
-# Other answers than those of stores change nothing, and none does at the end.
+# Behind other answers than those of stores the same is wanted, and at the end behind any.
 begin two
 keeps Value 3
 keeps Lost 1

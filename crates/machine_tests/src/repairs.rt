@@ -145,7 +145,7 @@ Load(2209) = Value 0x100010301
 Exchange(4354, 0, 1) = Lost 3
 Store(4356, 0) = Passed
 stands (true, Some(Again(Busy { word: 4354, seen: 3 })), None)
-# Other answers than those of the event that is wanted change nothing.
+# Behind other answers than those of the event that is wanted, the same is wanted, and it stands as before.
 begin -
 keeps Passed
 keeps Value 1

@@ -102,7 +102,7 @@ Store(16, 1) = Passed
 Flush(2) = Passed
 Fence = Passed
 stands Some(Started { version: 1, swept: true })
-# Answers of another kind change nothing.
+# Behind answers of another kind the same is wanted, and it stands as before.
 begin 1
 keeps Passed
 Load(16) = Value 511

@@ -36,7 +36,7 @@ Store(97, 268435458) = Passed
 Store(99, 1970324836974592) = Passed
 for 96 65 32 1: Store(#, 2) = Passed
 Store(2176, 10) = Passed
-# Another answer changes nothing.
+# Behind another answer the same is wanted, and it stands as before.
 keeps Won
 Store(4356, 0) = Won
 stands Off

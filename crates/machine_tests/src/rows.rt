@@ -85,7 +85,7 @@ impl<M: Follows + Drop> Deeds for Followed<M> {
     fn keeps(&mut self, alloc: Global, ans: Ans) -> Result<bool, Fail> {
         let before = self.told(alloc, "stands")?;
         let Some(op) = &mut self.op else {
-            return Ok(false);
+            return Err(Fail::new("nothing is begun"));
         };
         let want = op.want();
         op.take(ans);

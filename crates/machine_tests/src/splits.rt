@@ -122,7 +122,7 @@ for 96 66 32 1: Store(#, 2) = Passed
 Store(4356, 0) = Passed
 Done
 stands (Some(Again(Busy { word: 4354, seen: 2 })), 0, [8162774324609024, 0])
-# Other answers than those of an exchange change nothing.
+# Behind other answers than those of an exchange the same is wanted, and it stands as before.
 begin -
 keeps Passed
 keeps Value 1
