@@ -6,7 +6,6 @@ use crate::{close, restart};
 use image_file::{Words, format, from_words};
 use image_layout::Geometry;
 use pm_trace::Device;
-use restart_op::Started;
 use std::alloc::Global;
 use std::marker::Brand;
 use std::sync::ledger::{Blank, Ledger};
@@ -39,7 +38,7 @@ fn restarted<L: Ledger>(
     blank: Blank,
     state: u64,
     head: u64,
-) -> Result<(Started, u64, u64), Fail>
+) -> Result<(u8, bool, u64, u64), Fail>
     requires name { blank.name ≡ L.name }
     requires parts { blank.parts ≡ L.parts }
     requires some { 0 < blank.parts }
@@ -57,7 +56,12 @@ fn restarted<L: Ledger>(
     let mut device = Device::new(alloc, medium, 1)?;
     let mut steps = Steps::<L>::new(blank);
     let started = restart(&mut device, &mut steps);
-    Ok((started, device.settled(16), device.settled(65)))
+    Ok((
+        started.version,
+        started.swept,
+        device.settled(16),
+        device.settled(65),
+    ))
 }
 
 #[test]
@@ -70,10 +74,9 @@ fn restarts_by_the_state_word(rt: HostRuntime) -> Result<(), Fail> {
         (255, 511, 1, true, 256),
     ];
     for (state, head, version, swept, left) in table {
-        let started = Started { version, swept };
         assert_eq!(rt;
             restarted::<Brand>(rt.alloc(), Blank::new(1), state, head)?,
-            (started, u64::from(version), left)
+            (version, swept, u64::from(version), left)
         );
     }
     Ok(())
