@@ -1,4 +1,5 @@
 pub mod State
+pub mod Engines
 pub mod Run
 pub mod Running
 pub mod Along

@@ -19,6 +19,7 @@ mod worked_run;
 
 pub use deed::Deed;
 pub use end_rule::calls_run_out;
+pub use engine::{End, Engine, events_of_call};
 pub use goal::Goal;
 pub use keeper::Keeper;
 pub use moments::every_moment_is_good;

@@ -9,8 +9,7 @@ use Rattle.image_layout.specs.Places.{Shape}
 use Rattle.sound_image.specs.Image.{image_bytes, IsSoundImage}
 use Rattle.session.specs.Callers.{history_of, undrawn}
 use Rattle.play.specs.Played.{scripts_of}
-use Rattle.core_run.specs.Sessions.{ending_of}
-use Rattle.core_run.specs.Chains.{CarriesOn}
+use Rattle.play.specs.Runs.{ending_of, CarriesOn}
 use Rattle.dash_top.specs.Played.{IsPlayed}
 
 -- what a play reads, what it writes, and the image that it leaves

@@ -9,5 +9,5 @@ pub fn plays_compose()
     ensures sound { PlaysLeaveSound }
     ensures maps { PlaysShareMap }
 {
-    core_run::sessions_compose();
+    play::sessions_compose();
 }

@@ -5,7 +5,7 @@ use Rattle.script_text.specs.declared.line.Line.{Line}
 use Rattle.script_text.specs.declared.line.Mode.TheVariants.{Play}
 use Rattle.script_text.specs.Script.{IsScript}
 use Rattle.session.specs.Session.{IsSession}
-use Rattle.core_run.specs.Sessions.{ending_of}
+use Rattle.play.specs.Runs.{ending_of}
 use Rattle.image_file.specs.Formatted.{IsFormatted}
 use Rattle.image_file.specs.Pairs.{ArePairs}
 use Rattle.play.specs.Played.{scripts_of}

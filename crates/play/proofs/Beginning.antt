@@ -3,7 +3,7 @@ use Rattle.std.proofs.Common.{◌≡◌, ℕ, suc, ◌+◌, List, [], ◌∷◌,
 use Rattle.image_layout.specs.Places.{Shape}
 use Rattle.map_model.specs.declared.call.Call.{Call}
 use Rattle.map_model.specs.Roomed.{Roomed, with_room}
-use Rattle.engine.specs.Core.{Caller}
+use Rattle.core_run.specs.Engines.{Caller}
 use Rattle.core_run.specs.State.{waiting, waiting_from}
 use Rattle.core_run.specs.Run.{all_calls}
 use Rattle.play.specs.declared.caller.Caller.{Caller as PlayCaller}

@@ -7,7 +7,7 @@ use Rattle.script_text.specs.declared.line.Line.{Line}
 use Rattle.session.specs.Transcript.{transcript_of}
 use Rattle.reply_text.specs.declared.left.Session.{Session}
 use Rattle.reply_text.specs.Told.{tolds_of}
-use Rattle.engine.specs.Core.{tolds_of as tolds_of_core}
+use Rattle.core_run.specs.Engines.{tolds_of as tolds_of_core}
 use Rattle.play.specs.Played.{scripts_of, end_of_run, IsOfRun}
 use Rattle.play.proofs.ended.Begun.{begun_in_run}
 use Rattle.play.proofs.ended.ToldsOfRun.{same_tolds}

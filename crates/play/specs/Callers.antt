@@ -2,9 +2,7 @@
 use Rattle.std.specs.Prelude.{◌≡◌, ℕ, suc, ◌+◌, ⊤, Option, None, Some, List, [], ◌∷◌, ◌++◌, length, slice_get, is_some, Bool, true, false, if◌then◌else◌}
 use Rattle.map_model.specs.declared.entry.Entry.{Entry}
 use Rattle.map_model.specs.Roomed.{Roomed}
-use Rattle.engine.specs.Core.{Caller, engine_for}
-use Rattle.engine.specs.declared.engine.Engine.{Engine}
-use Rattle.engine.specs.Engine.{wanted}
+use Rattle.core_run.specs.Engines.{Caller, engine_for, Engine, wanted}
 use Rattle.map_model.specs.declared.call.Call.{Call}
 use Rattle.image_layout.specs.Places.{Shape}
 use Rattle.core_run.specs.State.{waiting}

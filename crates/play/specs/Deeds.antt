@@ -5,9 +5,7 @@ use Rattle.map_model.specs.declared.entry.Entry.{Entry}
 use Rattle.map_model.specs.Roomed.{Roomed, with_entry}
 use Rattle.op_core.specs.declared.want.Want.{Want}
 use Rattle.op_core.specs.declared.want.Want.TheVariants as want
-use Rattle.engine.specs.declared.engine.Engine.{Engine}
-use Rattle.engine.specs.Engine.{wanted}
-use Rattle.engine.specs.Core.{Caller}
+use Rattle.core_run.specs.Engines.{Engine, wanted, Caller}
 use Rattle.restart_op.specs.declared.restart.RestartOp.{RestartOp}
 use Rattle.restart_op.specs.declared.close.CloseOp.{CloseOp}
 use Rattle.core_run.specs.declared.deed.Deed.{Deed as ToldDeed}

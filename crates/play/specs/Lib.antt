@@ -1,4 +1,5 @@
 pub mod Callers
 pub mod RunStates
 pub mod Played
+pub mod Runs
 pub mod Deeds

@@ -11,7 +11,7 @@ use Rattle.session.specs.Transcript.{transcript_of}
 use Rattle.session.specs.Session.{IsSession}
 use Rattle.reply_text.specs.declared.left.Session.{Session}
 use Rattle.reply_text.specs.Told.{tolds_of}
-use Rattle.engine.specs.Core.{Caller}
+use Rattle.core_run.specs.Engines.{Caller}
 use Rattle.core_run.specs.State.{State}
 use Rattle.core_run.specs.Run.{core_run, cut_of, stop_of, medium_words}
 use Rattle.core_run.specs.Running.{Setup, start_of}

@@ -4,15 +4,12 @@ ghost use Rattle.std.specs.Prelude.{◌≡◌, ◌&&◌, List, length, slice_get
 ghost use Rattle.op_core.specs.declared.want.Want.TheVariants as want;
 ghost use Rattle.map_model.specs.declared.entry.Entry.{Entry as MadeEntry};
 ghost use Rattle.image_layout.specs.Places.{Shape};
-ghost use Rattle.engine.specs.Core.{entry_of, engine_for, drawn_by, ended, answered};
-ghost use Rattle.engine.specs.declared.engine.Engine.{Engine as SaidEngine};
-ghost use Rattle.engine.specs.Engine.{wanted, taken, end_of, reply_of_end, begun, anew};
-ghost use Rattle.engine.specs.OpPart.{op_part};
+ghost use Rattle.core_run.specs.Engines.{entry_of, engine_for, drawn_by, ended, answered, Engine as SaidEngine, wanted, taken, end_of, reply_of_end, begun, anew, op_part};
 ghost use Rattle.core_run.specs.State.{end_by};
 ghost use Rattle.core_run.specs.Run.{stop_of};
 ghost use Rattle.play.specs.Callers.{caller_of, running_by, taken_to, awoken, told_with, counted_with};
 
-use engine::{End, Engine};
+use core_run::{End, Engine};
 use map_model::{Call, Entry, Reply, Stop};
 use op_core::{Ans, Want};
 use world::Site;

@@ -4,8 +4,7 @@ ghost use Rattle.std.specs.Prelude.{◌≡◌};
 ghost use Rattle.core_run.specs.State.{Deed as SaidDeed};
 ghost use Rattle.core_run.specs.Run.{is_of_kind, is_store_to, counts, ends_call, ends_in_again, pauses, stops};
 
-use core_run::{Deed, Goal};
-use engine::End;
+use core_run::{Deed, End, Goal};
 use op_core::Want;
 use script_text::Counted;
 

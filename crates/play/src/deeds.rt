@@ -5,7 +5,7 @@ ghost use Rattle.map_model.specs.Roomed.{Roomed};
 ghost use Rattle.core_run.specs.declared.keeper.Keeper.TheVariants.{Restarting, Open, Closing};
 ghost use Rattle.restart_op.specs.Restart.{wanted as restart_wanted};
 ghost use Rattle.restart_op.specs.Close.{wanted as close_wanted};
-ghost use Rattle.engine.specs.Driven.{tries_in_vain};
+ghost use Rattle.core_run.specs.Engines.{tries_in_vain};
 ghost use Rattle.core_run.specs.Running.{Setup};
 ghost use Rattle.core_run.specs.State.{State, awake, restart_deed, close_deed, keeper_deed, engine_deed, open_deed, deed};
 ghost use Rattle.play.specs.Callers.{awoken};

@@ -3,7 +3,7 @@
 ghost use Rattle.std.specs.Prelude.{◌≡◌, ◌≤◌, List, length};
 ghost use Rattle.trace.specs.Events.{Words, value};
 ghost use Rattle.map_model.specs.Roomed.{Roomed};
-ghost use Rattle.engine.specs.Core.{Core};
+ghost use Rattle.core_run.specs.Engines.{Core};
 ghost use Rattle.pm_trace.specs.TraceOf.{IsTraceOf};
 ghost use Rattle.core_run.specs.Run.{medium_words};
 ghost use Rattle.core_run.specs.Running.{Setup};

@@ -15,4 +15,5 @@ mod playing;
 mod run_state;
 mod starting;
 
+pub use core_run::sessions_compose;
 pub use playing::play;

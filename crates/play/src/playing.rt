@@ -8,7 +8,7 @@ ghost use Rattle.play.specs.Played.{IsPlay};
 
 use crate::run_state::RunState;
 use crate::starting::{begin, count_calls, waiting_callers};
-use engine::events_of_call;
+use core_run::events_of_call;
 use image_file::Medium;
 use image_layout::Geometry;
 use map_model::NoMemory;

@@ -7,10 +7,7 @@ use Rattle.image_layout.specs.Places.{Shape}
 use Rattle.map_model.specs.declared.call.Call.{Call}
 use Rattle.map_model.specs.declared.entry.Reply.{Reply}
 use Rattle.map_model.specs.declared.entry.Entry.{Entry}
-use Rattle.engine.specs.declared.engine.End.{End}
-use Rattle.engine.specs.declared.engine.Engine.{Engine}
-use Rattle.engine.specs.Engine.{end_of, reply_of_end}
-use Rattle.engine.specs.Core.{ended, ended_or_on}
+use Rattle.core_run.specs.Engines.{End, Engine, end_of, reply_of_end, ended, ended_or_on}
 use Rattle.core_run.specs.State.{end_by}
 use Rattle.play.specs.declared.caller.Caller.{Caller as PlayCaller}
 use Rattle.play.specs.Callers.{caller_of, taken_to}

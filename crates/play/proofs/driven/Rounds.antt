@@ -7,7 +7,7 @@ use Rattle.image_layout.specs.Places.{Shape}
 use Rattle.script_text.specs.declared.line.Line.{Line}
 use Rattle.restart_op.specs.declared.restart.RestartOp.{RestartOp}
 use Rattle.restart_op.specs.Close.{begun as close_begun}
-use Rattle.engine.specs.Core.{Caller}
+use Rattle.core_run.specs.Engines.{Caller}
 use Rattle.core_run.specs.declared.goal.Goal.TheVariants.{AnyEvent, Turn}
 use Rattle.core_run.specs.declared.keeper.Keeper.{Keeper}
 use Rattle.core_run.specs.declared.keeper.Keeper.TheVariants.{Restarting, Open, Closing, Closed}

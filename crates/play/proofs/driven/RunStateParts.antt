@@ -12,12 +12,7 @@ use Rattle.restart_op.specs.declared.restart.RestartOp.{RestartOp}
 use Rattle.restart_op.specs.Restart.{wanted as restart_wanted, taken as restart_taken}
 use Rattle.restart_op.specs.declared.close.CloseOp.{CloseOp}
 use Rattle.restart_op.specs.Close.{wanted as close_wanted, taken as close_taken}
-use Rattle.engine.specs.declared.engine.End.{End}
-use Rattle.engine.specs.declared.engine.Engine.{Engine}
-use Rattle.engine.specs.Engine.{wanted, taken}
-use Rattle.engine.specs.OpPart.{op_part}
-use Rattle.engine.specs.Driven.{tries_in_vain, waits_after}
-use Rattle.engine.specs.Core.{Caller, Core, answered}
+use Rattle.core_run.specs.Engines.{End, Engine, wanted, taken, op_part, tries_in_vain, waits_after, Caller, Core, answered}
 use Rattle.pm_trace.specs.Memory.{Memory}
 use Rattle.pm_trace.specs.TraceOf.{IsTraceOf, Follows}
 use Rattle.core_run.specs.declared.keeper.Keeper.{Keeper}

@@ -12,10 +12,7 @@ use Rattle.map_model.specs.declared.entry.Reply.{Reply}
 use Rattle.restart_op.specs.declared.restart.RestartOp.{RestartOp}
 use Rattle.script_text.specs.declared.line.Line.{Line}
 use Rattle.script_text.specs.declared.line.Line.TheVariants as line
-use Rattle.engine.specs.declared.engine.End.{End}
-use Rattle.engine.specs.declared.engine.Engine.{Engine}
-use Rattle.engine.specs.Engine.{wanted, taken, end_of, reply_of_end}
-use Rattle.engine.specs.Core.{Caller, current, Core, drawn_by, ended, ended_or_on, answered}
+use Rattle.core_run.specs.Engines.{End, Engine, wanted, taken, end_of, reply_of_end, Caller, current, Core, drawn_by, ended, ended_or_on, answered}
 use Rattle.core_run.specs.declared.keeper.Keeper.{Keeper}
 use Rattle.core_run.specs.declared.keeper.Keeper.TheVariants.{Restarting, Open, Closing, Closed}
 use Rattle.core_run.specs.declared.goal.Goal.{Goal}

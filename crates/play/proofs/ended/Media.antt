@@ -7,7 +7,7 @@ use Rattle.image_layout.specs.Places.{words_of}
 use Rattle.trace.specs.Events.{Words, Trace, value}
 use Rattle.trace.specs.Settling.{IsSettledValue}
 use Rattle.trace.specs.Steps.{settled_value}
-use Rattle.engine.specs.Core.{Core}
+use Rattle.core_run.specs.Engines.{Core}
 use Rattle.pm_trace.specs.Memory.{Memory}
 use Rattle.pm_trace.specs.TraceOf.{IsTraceOf}
 use Rattle.pm_trace.specs.Choice.{chosen_by_name, chosen_by_stream, number_of, next_state, chosen, kept}

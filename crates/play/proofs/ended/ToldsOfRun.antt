@@ -5,7 +5,7 @@ use Rattle.map_model.specs.declared.call.Call.{Call}
 use Rattle.map_model.specs.declared.entry.Entry.{Entry}
 use Rattle.map_model.specs.declared.entry.Stop.{Stop}
 use Rattle.reply_text.specs.Told.{left_by, tolds_of}
-use Rattle.engine.specs.Core.{Caller, current, open_of, told_of}
+use Rattle.core_run.specs.Engines.{Caller, current, open_of, told_of}
 use Rattle.core_run.specs.Run.{stop_for, stop_of}
 use Rattle.play.proofs.ended.Begun.{HaveNoneBegun}
 

@@ -8,8 +8,7 @@ use Rattle.image_layout.specs.Places.{Shape}
 use Rattle.map_model.specs.declared.call.Call.{Call}
 use Rattle.map_model.specs.declared.call.Call.TheVariants.{Get, Insert, Update, Remove}
 use Rattle.sound_image.specs.Image.{IsSoundImage}
-use Rattle.engine.specs.Laws.{IsServedImage}
-use Rattle.engine.specs.Fits.{IsWordCall}
+use Rattle.core_run.specs.Engines.{IsServedImage, IsWordCall}
 use Rattle.reply_text.specs.declared.left.Session.{Session}
 use Rattle.script_text.specs.declared.line.Line.{Line}
 use Rattle.script_text.specs.declared.line.Line.TheVariants.{Call as CallLine, Fuse, Step, Until, At, Close, Cut}

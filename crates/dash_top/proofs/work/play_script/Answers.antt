@@ -1,7 +1,7 @@
 use Rattle.std.proofs.Common.{List, ℕ, ◌+◌, subst, refl, sym, ap, ◌∙◌, Option}
 use Rattle.outside.specs.Storing.{Holds}
 use Rattle.session.specs.Session.{IsSession}
-use Rattle.core_run.specs.Sessions.{ending_of}
+use Rattle.play.specs.Runs.{ending_of}
 use Rattle.play.specs.Played.{IsPlay, scripts_of}
 use Rattle.script_text.specs.declared.line.Line.{Line}
 use Rattle.script_text.specs.declared.line.Mode.TheVariants.{Play}

@@ -1,7 +1,7 @@
 -- Where the engine wants something its attempt has not ended.
 use Rattle.std.proofs.Common.{ap, ◌∙◌}
 use Rattle.image_rules.proofs.Answered.{never}
-use Rattle.engine.specs.Engine.{wanted, taken}
+use Rattle.core_run.specs.Engines.{wanted, taken}
 use Rattle.play.proofs.driven.Answering.{goes_on}
 use Rattle.play.proofs.caller.take.Goals as goal
 

@@ -1,7 +1,6 @@
 -- The engine that takes the answer is the caller's.
 use Rattle.std.proofs.Common.{◌≡◌, ap, ◌∙◌}
-use Rattle.engine.specs.declared.engine.Engine.{Engine}
-use Rattle.engine.specs.Engine.{wanted, taken}
+use Rattle.core_run.specs.Engines.{Engine, wanted, taken}
 use Rattle.core_run.specs.State.{end_by}
 use Rattle.play.proofs.caller.Caller.answer_engine.Goals as goal
 

@@ -1,7 +1,6 @@
 -- The attempt has ended: what it leaves is what the definitions of a caller say.
 use Rattle.std.proofs.Common.{◌≡◌, Some, length, ap, ◌∙◌, sym}
-use Rattle.engine.specs.Engine.{wanted, taken, reply_of_end}
-use Rattle.engine.specs.Core.{drawn_by, ended}
+use Rattle.core_run.specs.Engines.{wanted, taken, reply_of_end, drawn_by, ended}
 use Rattle.play.specs.declared.caller.Caller.{Caller as PlayCaller}
 use Rattle.play.specs.Callers.{caller_of, taken_to}
 use Rattle.play.proofs.driven.Answering.{current_stays, ended_goes_on}

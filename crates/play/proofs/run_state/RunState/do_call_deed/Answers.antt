@@ -5,7 +5,7 @@ use Rattle.std.specs.Option.{IfSome}
 use Rattle.std.proofs.lemmas.Option.{slice_get_within, slice_get_read}
 use Rattle.image_layout.specs.Places.{Shape}
 use Rattle.map_model.specs.Roomed.{Roomed, with_entry}
-use Rattle.engine.specs.Driven.{tries_in_vain}
+use Rattle.core_run.specs.Engines.{tries_in_vain}
 use Rattle.play.specs.declared.caller.Caller.{Caller as PlayCaller}
 use Rattle.play.specs.Deeds.{lists_with}
 use Rattle.play.proofs.driven.Listed.{listed_at, lists_many, room_left}
