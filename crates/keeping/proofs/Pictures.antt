@@ -2,7 +2,7 @@
 use Rattle.std.proofs.Common.{◌≡◌, ℕ, ◌+◌, ◌<◌, ◌≤◌, inl, inr, List, [], ◌∷◌, length, refl, sym, ap, subst, ◌∙◌, arith}
 use Rattle.std.specs.Prelude.{slice_index, Contains, Any}
 use Rattle.std.proofs.lemmas.Bool.{eq-eqb, cases_lt}
-use Rattle.std.proofs.lemmas.List.{get_or_past, ext_get_or}
+use Rattle.std.proofs.lemmas.List.{get_or_past}
 use Rattle.std.proofs.lemmas.List.FromFn.{length-map-range_with_len, get_or-map-range_with_len}
 use Rattle.trace.specs.Events.{Words, Trace}
 use Rattle.trace.specs.Progress.{pending}
@@ -21,7 +21,7 @@ use Rattle.pm_trace.specs.declared.flushes.Flush.{Flush}
 use Rattle.pm_trace.specs.Memory.{Memory, flushes_of, unfenced}
 use Rattle.pm_trace.specs.TraceOf.{IsTraceOf}
 use Rattle.pm_trace.proofs.Elements.{has_of_any, has_filter}
-use Rattle.keeping.specs.Kept.{image_of, IsSettled}
+use Rattle.keeping.specs.Kept.{image_of}
 
 -- ---- the image
 pub image_word : (m : Memory) (i : ℕ) → i < words_of m.shape → slice_index (image_of m) i ≡ slice_index m.newest i
@@ -86,15 +86,3 @@ none_pending m start es traced none = none_at_all (pending 0 es) (λ l t there. 
 pub settled_had : (m : Memory) (start : Words) (es : Trace) (w : ℕ) → IsTraceOf start es m → HadSinceSettled start es w (slice_index m.settled w)
 settled_had m start es w traced =
     subst (λ (x : ℕ). HadSinceSettled start es w x) (sym (is_settled start es w (slice_index m.settled w) (traced.settled w))) (settled_may start es w)
-
--- ---- a memory when the power comes on
-module _ (m : Memory) (words : List ℕ) (t : IsTraceOf (slice_index words) [] m) where
-  pub first_settled : IsSettled m
-  first_settled w within = is_settled (slice_index words) [] w (slice_index m.settled w) (t.settled w) ∙ sym (t.newest w)
-
-  pub first_waits : unfenced 0 m ≡ 0
-  first_waits = let once = t.once 0 in omega (arith, once)
-
-  pub first_image : length words ≡ words_of m.shape → image_of m ≡ words
-  first_image whole = ext_get_or 0 (image_of m) words (image_whole m ∙ sym whole)
-      (λ i within. image_word m i (subst (λ (n : ℕ). i < n) (image_whole m) within) ∙ t.newest i)

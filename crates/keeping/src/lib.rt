@@ -11,6 +11,3 @@ mod tally;
 pub use doing::do_event;
 pub use keeper::{close, restart};
 pub use tally::Steps;
-
-#[cfg(test)]
-mod tests;

@@ -12,6 +12,4 @@ mod picks;
 
 pub use device::Device;
 pub use laws::chosen_is_possible;
-
-#[cfg(test)]
-mod tests;
+pub use picks::next_number;

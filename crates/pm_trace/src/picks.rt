@@ -33,7 +33,7 @@ fn pick_by_name(settled: &mut [u64], newest: &[u64], choice: u64)
 }
 
 /// The next number of a stream with this state.
-pub(crate) fn next_number(state: &mut u64) -> u64
+pub fn next_number(state: &mut u64) -> u64
     ensures state { state.new ≡ next_state state.old }
     ensures number { result ≡ number_of state.new }
 {

@@ -7,6 +7,8 @@
 #[cfg(test)]
 mod buckets;
 #[cfg(test)]
+mod devices;
+#[cfg(test)]
 mod histories;
 #[cfg(test)]
 mod images;
