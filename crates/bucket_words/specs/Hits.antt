@@ -4,7 +4,7 @@ use Rattle.std.specs.Option.{option_or}
 use Rattle.bucket_meta.specs.Bucket.{record_slots}
 use Rattle.trace.specs.Events.{Words}
 use Rattle.image_layout.specs.Places.{Shape, bucket_at, buckets}
-use Rattle.sound_image.specs.Records.{key_hash}
+use Rattle.segment_table.specs.Records.{key_hash}
 use Rattle.bucket_words.specs.Buckets.{IsTaken, key_in, find_below}
 use Rattle.bucket_words.specs.Owners.{owner_of}
 

@@ -4,7 +4,7 @@ use Rattle.bucket_meta.specs.Bucket.{overflow_count}
 use Rattle.bucket_meta.specs.Notes.{how_often}
 use Rattle.trace.specs.Events.{Words}
 use Rattle.image_layout.specs.Places.{Shape}
-use Rattle.sound_image.specs.Records.{word_in, notes_of, stashed_of}
+use Rattle.segment_table.specs.Records.{word_in, notes_of, stashed_of}
 
 -- what home b of segment s has noted, and what it has in the stash, is as it was
 pub record SameHomeNotes (shape : Shape) (word other : Words) (s b : ℕ) : Type 0 where

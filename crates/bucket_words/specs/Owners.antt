@@ -4,8 +4,8 @@ use Rattle.std.specs.Option.{unwrap_or}
 use Rattle.hash_word.specs.Hash.{home_of}
 use Rattle.trace.specs.Events.{Words}
 use Rattle.image_layout.specs.Places.{Shape, block, first_segment, head_at, bucket_at}
-use Rattle.sound_image.specs.Segments.{frame_of}
-use Rattle.sound_image.specs.Records.{key_hash}
+use Rattle.segment_table.specs.Segments.{frame_of}
+use Rattle.segment_table.specs.Records.{key_hash}
 use Rattle.segment_table.specs.Owner.{owner}
 
 -- the structure: the words before the first segment, and those of each header

@@ -6,7 +6,7 @@ ghost use Rattle.hash_word.specs.Hash.{home_of, finger_of, probing_of};
 ghost use Rattle.bucket_meta.specs.Bucket.{overflow_count, record_slots};
 ghost use Rattle.bucket_meta.specs.Notes.{OverflowNote, AreExact};
 ghost use Rattle.image_layout.specs.Places.{Shape, bucket_at, homes, stash_buckets, buckets};
-ghost use Rattle.sound_image.specs.Records.{key_hash, word_in, notes_of, stashed_of, HasExactNotes};
+ghost use Rattle.segment_table.specs.Records.{key_hash, word_in, notes_of, stashed_of, HasExactNotes};
 ghost use Rattle.bucket_words.specs.Buckets.{IsTaken};
 ghost use Rattle.bucket_words.specs.Hits.{Hit, HasNoneIn};
 ghost use Rattle.bucket_words.specs.TableChanges.{ChangesSlot};

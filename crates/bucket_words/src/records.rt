@@ -7,8 +7,8 @@ ghost use Rattle.bucket_meta.specs.Bucket.{allocated, member, finger, record_slo
 ghost use Rattle.bucket_meta.specs.Marks.{SameButSlot};
 ghost use Rattle.hash_word.specs.Hash.{home_of, probing_of};
 ghost use Rattle.image_layout.specs.Places.{Shape, IsShape, bucket_at, words_of, block, homes, stash_buckets, buckets};
-ghost use Rattle.sound_image.specs.Rules.{RecordsStandRight, KeysHaveOneValue};
-ghost use Rattle.sound_image.specs.Records.{key_hash, HasAt};
+ghost use Rattle.segment_table.specs.Rules.{RecordsStandRight, KeysHaveOneValue};
+ghost use Rattle.segment_table.specs.Records.{key_hash, HasAt};
 ghost use Rattle.segment_table.specs.Claims.{HasSoundFrame};
 ghost use Rattle.bucket_words.specs.Buckets.{IsTaken, value_in};
 ghost use Rattle.bucket_words.specs.Slots.{SameSlot};

@@ -15,7 +15,7 @@ use Rattle.world.specs.areas.Kinds.{is_claim}
 use Rattle.world.specs.areas.Splitting.{link_word, IsSettledHolder, KnowsHead, KnowsBuckets}
 use Rattle.world.proofs.fitting.OneHolder.{head_in_slot, link_in_slot}
 use Rattle.world.proofs.moving.media.MediaKept.{bucket_in_slot}
-use Rattle.enclose_op.specs.Whole.{HoldsLocks}
+use Rattle.split_op.specs.Whole.{HoldsLocks}
 use Rattle.split_op.specs.declared.copied.Copied.{Copied}
 use Rattle.split_op.specs.Copied.{copied_words}
 use Rattle.rounds.specs.declared.rounds.Rounds.{Rounds}

@@ -20,8 +20,8 @@ use Rattle.world.specs.areas.Kinds.{is_in_slot}
 use Rattle.world.specs.areas.Splitting.{link_word, IsHeader}
 use Rattle.world.proofs.fitting.OneHolder.{head_in_slot, link_in_slot}
 use Rattle.world.proofs.moving.media.MediaKept.{bucket_in_slot}
-use Rattle.enclose_op.specs.declared.enclosed.Enclosed.{Enclosed}
-use Rattle.enclose_op.specs.Whole.{kept_words, IsOf, IsWhole}
+use Rattle.split_op.specs.Enclosed.{Enclosed}
+use Rattle.split_op.specs.Whole.{kept_words, IsOf, IsWhole}
 use Rattle.split_op.specs.declared.copied.Copied.{Copied}
 use Rattle.split_op.specs.Copied.{split_head, side_head, side_words, split_words, copied_words, IsCopy}
 use Rattle.directory_op.specs.Places.{entries_of, run_of, side_first, side_last}

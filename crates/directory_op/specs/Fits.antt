@@ -13,11 +13,10 @@ use Rattle.world.specs.Views.{View, Has, IsLoose}
 use Rattle.world.specs.areas.Areas.{Area, Segment, Side, Whole, Directory, header_word}
 use Rattle.world.specs.areas.Asking.{KnowsFree}
 use Rattle.world.specs.areas.Splitting.{link_word, KnowsHead, KnowsBuckets}
-use Rattle.phase.specs.Stands.{IsThere}
-use Rattle.phase.specs.Giving.{IsQuiet}
+use Rattle.split_op.specs.Phases.{IsThere, IsQuiet}
 use Rattle.rounds.specs.Steps.{begun}
 use Rattle.rounds.specs.Stands.{RoundStands, IsSettled}
-use Rattle.enclose_op.specs.Whole.{IsOf, IsWhole, HoldsLocks, KnowsOnlyOf}
+use Rattle.split_op.specs.Whole.{IsOf, IsWhole, HoldsLocks, KnowsOnlyOf}
 use Rattle.split_op.specs.declared.copied.Copied.{Copied}
 use Rattle.split_op.specs.Copied.{split_head, side_head, copied_words, IsCopy, KeepsCopied}
 use Rattle.directory_op.specs.declared.op.DirectoryEnd.TheVariants.{Published, Off}

@@ -22,7 +22,7 @@ use Rattle.map_model.specs.declared.entry.Reply.TheVariants.{Deep, Spent}
 use Rattle.map_model.specs.Map.{is_done}
 use Rattle.map_model.specs.Changes.{call_of}
 use Rattle.world.specs.declared.site.Site.{Site}
-use Rattle.frame_facts.specs.Facts.{Fact}
+use Rattle.world.specs.Facts.{Fact}
 use Rattle.world.specs.Ground.{Ground, IsGround}
 use Rattle.world.specs.Views.{View, Has}
 use Rattle.world.specs.Wants.{answer_to, word_of}

@@ -6,7 +6,7 @@ use Rattle.std.proofs.lemmas.List.{get_or-set_same, get_or-set_other}
 use Rattle.segment_head.specs.HeadWord.{version_in}
 use Rattle.image_layout.specs.Places.{head_at, bucket_at, buckets, block}
 use Rattle.way.specs.Ways.{head_word, bucket_word, is_leading}
-use Rattle.frame_facts.specs.DeadSlots.{IsInSlot}
+use Rattle.world.specs.DeadSlots.{IsInSlot}
 use Rattle.map_model.specs.declared.call.Call.{Call}
 use Rattle.world.specs.declared.site.Site.{Site}
 use Rattle.world.specs.Ground.{Ground, IsUnder}

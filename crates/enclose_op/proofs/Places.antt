@@ -5,7 +5,7 @@ use Rattle.std.proofs.lemmas.Bool.{eq-eqb, ne_eqb, lt-ltb}
 use Rattle.image_layout.specs.Places.{Shape, root_word, first_segment, head_at, bucket_at, buckets, block}
 use Rattle.image_layout.specs.Volatile.{segment_guard}
 use Rattle.way.specs.Ways.{head_word, bucket_word}
-use Rattle.frame_facts.specs.DeadSlots.{IsInSlot}
+use Rattle.world.specs.DeadSlots.{IsInSlot}
 use Rattle.world.specs.Ground.{Ground, IsLockWord}
 use Rattle.world.specs.Views.{View}
 use Rattle.world.specs.Conditions.{IsKnownLock}

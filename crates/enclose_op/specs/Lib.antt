@@ -6,3 +6,4 @@ pub mod Remembers
 pub mod GiveLaws
 pub mod EnclosePart
 pub mod Ends
+pub mod Phases

@@ -13,7 +13,7 @@ use Rattle.whole_segment.specs.declared.loaded.Loaded.{Loaded}
 use Rattle.whole_segment.specs.Records.{first_in, third_in, key_in, covered_set}
 use Rattle.whole_segment.specs.Room.{has_no_room}
 use Rattle.bucket_words.specs.Hits.{Hit}
-use Rattle.frame_facts.specs.DeadSlots.{IsInSlot}
+use Rattle.world.specs.DeadSlots.{IsInSlot}
 use Rattle.map_model.specs.declared.call.Call.{Call}
 use Rattle.map_model.specs.Changes.{call_of}
 use Rattle.map_model.specs.Legal.{IsInsert}

@@ -1,6 +1,6 @@
 -- No segment lives in a slot: so no owner, no record of an owner and no fact looks at its words, but its header and its link.
 use Rattle.std.proofs.Common.{◌≡◌, ◌≢◌, ℕ, ◌+◌, ◌*◌, ◌<◌, ◌≤◌, inl, inr, Some, refl, sym, ap, subst, ◌∙◌, arith}
-use Rattle.bucket_meta.specs.Bucket.{record_slots}
+use Rattle.image_layout.specs.Bucket.{record_slots}
 use Rattle.trace.specs.Events.{Words, with_word}
 use Rattle.trace.proofs.Replaced.{replaced_other}
 use Rattle.image_layout.specs.Places.{Shape, first_segment, root_word, head_at, bucket_at, buckets}

@@ -1,7 +1,7 @@
 -- When a side has the records of the 1-side of its segment: as keys and values, and slot by slot as a split copies them.
 use Rattle.std.specs.Prelude.{◌≡◌, ◌≢◌, ◌↔◌, ℕ, ◌+◌, ◌<◌}
 use Rattle.trace.specs.Events.{Words}
-use Rattle.bucket_meta.specs.Bucket.{member, record_slots}
+use Rattle.image_layout.specs.Bucket.{member, record_slots}
 use Rattle.image_layout.specs.Places.{Shape, block, buckets, bucket_at}
 use Rattle.sound_image.specs.Segments.{frame_of, InOneSide}
 use Rattle.sound_image.specs.Records.{key_hash}

@@ -3,3 +3,5 @@ pub mod Faults
 pub mod Parts
 pub mod Volatile
 pub mod StateWord
+pub use Rattle.bucket_meta.specs.Bucket
+pub use Rattle.bucket_meta.specs.Notes

@@ -15,7 +15,7 @@ use Rattle.way.proofs.Leading.{is_leading_by}
 use Rattle.sound_image.specs.Records.{key_hash}
 use Rattle.sound_image.specs.Segments.{Frame, frame_of}
 use Rattle.sound_image.proofs.Hashes.{key_hash-fits}
-use Rattle.segment_table.specs.Claims.{Claims, LeadsToClaimer, arrived, on, named_for}
+use Rattle.world.specs.Claims.{Claims, LeadsToClaimer, arrived, on, named_for}
 use Rattle.map_model.specs.declared.call.Call.{Call}
 use Rattle.map_model.specs.Map.{key_of}
 use Rattle.world.specs.Ground.{Ground, IsGround, IsStructured}

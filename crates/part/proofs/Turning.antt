@@ -3,7 +3,7 @@ use Rattle.std.proofs.Common.{◌≡◌, ℕ, ◌<◌, ◌⊎◌, inl, inr, set,
 use Rattle.op_core.specs.declared.want.Want.{Want}
 use Rattle.trace.specs.Events.{Words}
 use Rattle.image_layout.specs.Volatile.{power_word}
-use Rattle.bucket_words.specs.Hits.{find}
+use Rattle.world.specs.Hits.{find}
 use Rattle.world.specs.Ground.{Ground}
 use Rattle.world.specs.Views.{View}
 use Rattle.world.specs.Wants.{word_of, words_after}

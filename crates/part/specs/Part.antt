@@ -6,7 +6,7 @@ use Rattle.op_core.specs.declared.want.Want.TheVariants.{Flush, Fence, Done}
 use Rattle.op_core.specs.declared.want.Ans.{Ans}
 use Rattle.op_core.specs.Answers.{IsAnswer}
 use Rattle.trace.specs.Events.{Words}
-use Rattle.frame_facts.specs.Facts.{Fact, Lives}
+use Rattle.world.specs.Facts.{Fact, Lives}
 use Rattle.map_model.specs.declared.call.Call.{Call}
 use Rattle.map_model.specs.declared.entry.Reply.TheVariants as reply
 use Rattle.world.specs.declared.site.Site.{Site}

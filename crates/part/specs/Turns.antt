@@ -5,7 +5,7 @@ use Rattle.trace.specs.Events.{Words}
 use Rattle.image_layout.specs.Volatile.{power_word}
 use Rattle.map_model.specs.declared.call.Call.{Call}
 use Rattle.map_model.specs.declared.entry.Reply.{Reply}
-use Rattle.bucket_words.specs.Hits.{find}
+use Rattle.world.specs.Hits.{find}
 use Rattle.world.specs.declared.site.Site.{Site}
 use Rattle.world.specs.Ground.{Ground}
 use Rattle.world.specs.Views.{View, At}

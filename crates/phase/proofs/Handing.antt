@@ -13,7 +13,7 @@ use Rattle.map_model.specs.declared.entry.Reply.{Reply}
 use Rattle.map_model.specs.declared.entry.Reply.TheVariants as reply
 use Rattle.map_model.specs.Map.{key_of, is_done}
 use Rattle.map_model.specs.Changes.{doing, call_of}
-use Rattle.frame_facts.specs.Facts.{Fact}
+use Rattle.world.specs.Facts.{Fact}
 use Rattle.world.specs.declared.site.Site.{Site}
 use Rattle.world.specs.Ground.{Ground}
 use Rattle.world.specs.Views.{Owed, View, Has}

@@ -7,7 +7,7 @@ use Rattle.segment_head.specs.HeadWord.{version_in, state_in, is_live, HasLiveSt
 use Rattle.trace.specs.Events.{Words}
 use Rattle.image_layout.specs.Places.{Shape, IsShape, root_word, entry_at, head_at}
 use Rattle.sound_image.specs.Segments.{frame_of}
-use Rattle.frame_facts.specs.Facts.{Fact, Lives, Current, Rooted, IsLiveSlot}
+use Rattle.world.specs.Facts.{Fact, Lives, Current, Rooted, IsLiveSlot}
 use Rattle.way.specs.Ways.{entry_word, head_word}
 use Rattle.way.proofs.Indexes.{index_below}
 use Rattle.op_core.specs.declared.want.Want.TheVariants.{Load}

@@ -8,7 +8,7 @@ use Rattle.image_layout.specs.Places.{Shape, IsShape, head_at, words_of, block}
 use Rattle.image_layout.specs.Volatile.{all_words_of}
 use Rattle.sound_image.specs.Records.{key_hash}
 use Rattle.bucket_words.specs.Owners.{owner_of}
-use Rattle.frame_facts.specs.Facts.{Fact}
+use Rattle.world.specs.Facts.{Fact}
 use Rattle.way.specs.Ways.{head_word, is_leading}
 use Rattle.map_model.specs.declared.call.Call.{Call}
 use Rattle.map_model.specs.Map.{key_of}

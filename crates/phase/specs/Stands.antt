@@ -4,7 +4,7 @@ use Rattle.hash_word.specs.Hash.{index_of}
 use Rattle.trace.specs.Events.{Words}
 use Rattle.segment_head.specs.HeadWord.{version_in, is_live}
 use Rattle.image_layout.specs.Places.{Shape, IsShape, root_word, head_at, block}
-use Rattle.frame_facts.specs.Facts.{Fact, Lives, Current, Rooted}
+use Rattle.world.specs.Facts.{Fact, Lives, Current, Rooted}
 use Rattle.way.specs.Ways.{entry_word, is_leading}
 use Rattle.world.specs.declared.site.Site.{Site}
 use Rattle.world.specs.Ground.{Ground}

@@ -15,7 +15,7 @@ use Rattle.whole_segment.proofs.Telling.{covered_is}
 use Rattle.bucket_words.specs.Buckets.{key_in}
 use Rattle.world.specs.Ground.{Ground}
 use Rattle.world.specs.areas.Splitting.{ClearsRegion}
-use Rattle.phase.specs.Giving.{IsLocated}
+use Rattle.enclose_op.specs.Phases.{IsLocated}
 use Rattle.enclose_op.specs.declared.enclosed.Enclosed.{Enclosed}
 use Rattle.enclose_op.specs.Whole.{kept_first, kept_third, kept_key}
 use Rattle.rest_op.specs.declared.op.RestOp.{RestOp}

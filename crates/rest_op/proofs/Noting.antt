@@ -10,7 +10,7 @@ use Rattle.world.specs.Views.{View, Has}
 use Rattle.world.specs.areas.Kinds.{sets, view_then}
 use Rattle.world.specs.areas.Asking.{MayAt}
 use Rattle.world.proofs.holders.directing.Finishing.{may_finish}
-use Rattle.phase.specs.Giving.{IsLocated}
+use Rattle.enclose_op.specs.Phases.{IsLocated}
 use Rattle.rounds.specs.Stands.{IsSettled}
 use Rattle.rounds.proofs.Settling.{settled_firm, stays_firm}
 use Rattle.enclose_op.specs.declared.enclosed.Enclosed.{Enclosed}

@@ -16,7 +16,7 @@ use Rattle.whole_segment.specs.Notes.{stashed_of}
 use Rattle.bucket_words.specs.Buckets.{IsTaken, key_in}
 use Rattle.bucket_words.specs.Hits.{Hit}
 use Rattle.world.specs.Ground.{Ground}
-use Rattle.phase.specs.Giving.{IsLocated}
+use Rattle.enclose_op.specs.Phases.{IsLocated}
 use Rattle.enclose_op.specs.declared.enclosed.Enclosed.{Enclosed}
 use Rattle.enclose_op.specs.Whole.{kept_words, kept_first, IsWhole, kept_key}
 use Rattle.rest_op.specs.declared.op.RestOp.{RestOp}

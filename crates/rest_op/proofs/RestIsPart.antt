@@ -25,8 +25,8 @@ use Rattle.world.specs.StepLaws.{IsPublishingStep}
 use Rattle.part.specs.Outcomes.{reply_of}
 use Rattle.part.specs.Part.{LeavesKnown, IsPart}
 use Rattle.part.specs.Asks.{IsWithin, PutsWord}
-use Rattle.phase.specs.Giving.{IsLocated}
-use Rattle.phase.proofs.Handing.{same_more}
+use Rattle.enclose_op.specs.Phases.{IsLocated}
+use Rattle.enclose_op.proofs.Phases.{same_more}
 use Rattle.rounds.specs.declared.rounds.Rounds.{Rounds}
 use Rattle.rounds.specs.Steps.{begun, rounds_wanted, event_wanted}
 use Rattle.rounds.specs.Stands.{rounds_kind}

@@ -19,7 +19,7 @@ use Rattle.world.specs.areas.Asking.{MayAt}
 use Rattle.world.specs.StepKinds.{StepKind, of_call, of_structure, view_by, MayTake}
 use Rattle.world.proofs.basics.Seats.{loosened_has, flush_loose}
 use Rattle.world.proofs.holders.directing.Finishing.{may_finish}
-use Rattle.phase.specs.Giving.{IsLocated}
+use Rattle.enclose_op.specs.Phases.{IsLocated}
 use Rattle.rounds.specs.declared.rounds.Rounds.{Rounds}
 use Rattle.rounds.specs.Steps.{rounds_stores, rounds_wanted, rounds_taken}
 use Rattle.rounds.specs.Events.{IsStore, IsFlush, IsFence, IsRoundEvent}

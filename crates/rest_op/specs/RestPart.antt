@@ -15,7 +15,7 @@ use Rattle.world.specs.areas.Areas.{Segment, Whole, header_word}
 use Rattle.world.specs.areas.Splitting.{link_word, IsHeader, KnowsBuckets}
 use Rattle.part.specs.Outcomes.{Outcome, finished}
 use Rattle.part.specs.Part.{Part}
-use Rattle.phase.specs.Giving.{IsQuiet}
+use Rattle.enclose_op.specs.Phases.{IsQuiet}
 use Rattle.whole_segment.specs.Rounds.{most_lines}
 use Rattle.rounds.specs.declared.rounds.Rounds.{Rounds}
 use Rattle.rounds.specs.Left.{rounds_left, few_left}

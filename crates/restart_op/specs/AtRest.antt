@@ -11,7 +11,7 @@ use Rattle.sound_image.specs.Records.{key_hash, HasExactNotes}
 use Rattle.segment_table.specs.Claims.{HasSoundFrame}
 use Rattle.bucket_words.specs.Owners.{owner_of}
 use Rattle.bucket_words.specs.Hits.{Hit}
-use Rattle.frame_facts.specs.Facts.{IsCurrentSlot}
+use Rattle.world.specs.Facts.{IsCurrentSlot}
 
 module _ (shape : Shape) (word : Words) where
   -- in slot s no lock is taken, each key stands once, and the notes of each home are exact

@@ -3,7 +3,7 @@ use Rattle.std.proofs.Common.{◌≡◌, ℕ, inl, inr, Option, Some, List, sym,
 use Rattle.std.specs.Prelude.{slice_index}
 use Rattle.op_core.specs.declared.want.Want.{Want}
 use Rattle.image_layout.specs.Places.{Shape}
-use Rattle.frame_facts.specs.Facts.{Fact}
+use Rattle.world.specs.Facts.{Fact}
 use Rattle.world.specs.Views.{View, IsLoose}
 use Rattle.world.specs.Kinds.{flushes, view_after}
 use Rattle.world.specs.areas.Kinds.{sets, settles, view_then}

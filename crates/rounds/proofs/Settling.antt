@@ -6,8 +6,8 @@ use Rattle.std.proofs.lemmas.List.{drop_more, drop_all, take_more}
 use Rattle.trace.specs.Events.{line_of}
 use Rattle.op_core.specs.declared.want.Want.{Want}
 use Rattle.image_layout.specs.Places.{Shape}
-use Rattle.frame_facts.specs.Facts.{Fact}
-use Rattle.bucket_words.specs.Core.{core_of}
+use Rattle.world.specs.Facts.{Fact}
+use Rattle.world.specs.Core.{core_of}
 use Rattle.world.specs.Views.{View, Has, IsLoose}
 use Rattle.world.specs.Kinds.{on_line, off_line, loosened, flushes, view_after}
 use Rattle.world.specs.areas.Kinds.{sets, settles, view_then}

@@ -3,7 +3,7 @@ use Rattle.std.proofs.Common.{◌≡◌, ◌≢◌, ℕ, Option, Some, List, ref
 use Rattle.op_core.specs.declared.want.Want.{Want}
 use Rattle.op_core.specs.declared.want.Want.TheVariants.{Store, Flush, Fence}
 use Rattle.image_layout.specs.Places.{Shape}
-use Rattle.frame_facts.specs.Facts.{Fact}
+use Rattle.world.specs.Facts.{Fact}
 use Rattle.world.specs.Views.{View}
 use Rattle.world.specs.Kinds.{cuts_power}
 use Rattle.world.specs.StepKinds.{StepKind, of_call, view_by}

@@ -4,7 +4,7 @@ use Rattle.op_core.specs.declared.want.Want.{Want}
 use Rattle.op_core.specs.declared.want.Want.TheVariants.{Flush, Fence}
 use Rattle.trace.specs.Events.{line_of}
 use Rattle.image_layout.specs.Places.{Shape}
-use Rattle.frame_facts.specs.Facts.{Fact}
+use Rattle.world.specs.Facts.{Fact}
 use Rattle.world.specs.Ground.{Ground}
 use Rattle.world.specs.Views.{View, Has, IsLoose}
 use Rattle.world.specs.areas.Kinds.{sets, settles}

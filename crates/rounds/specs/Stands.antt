@@ -4,7 +4,7 @@ use Rattle.op_core.specs.declared.want.Want.{Want}
 use Rattle.op_core.specs.declared.want.Want.TheVariants.{Store, Flush, Fence}
 use Rattle.trace.specs.Events.{line_of}
 use Rattle.image_layout.specs.Places.{root_word}
-use Rattle.frame_facts.specs.Facts.{Fact}
+use Rattle.world.specs.Facts.{Fact}
 use Rattle.world.specs.Ground.{Ground}
 use Rattle.world.specs.Views.{View, Has}
 use Rattle.world.specs.Kinds.{peeks, flushes}

@@ -1,10 +1,10 @@
 -- Which words the frame is read from: none of a bucket, of an area that is not the root's, or behind the image.
 use Rattle.std.proofs.Common.{◌≡◌, ◌≢◌, ℕ, ◌+◌, ◌^◌, ◌<◌, ◌≤◌, inl, inr, ap, arith}
 use Rattle.std.proofs.lemmas.Nat.{pow_pos}
-use Rattle.image_layout.specs.Places.{Shape, root_word, entry_at, bucket_at, words_of}
-use Rattle.image_layout.specs.Parts.{Part, front, entry, head, meta, key, value}
-use Rattle.image_layout.proofs.Areas.{entry_before}
-use Rattle.image_layout.proofs.PartWords.{parts_apart}
+use Rattle.sound_image.specs.Places.{Shape, root_word, entry_at, bucket_at, words_of}
+use Rattle.sound_image.specs.Parts.{Part, front, entry, head, meta, key, value}
+use Rattle.sound_image.proofs.Areas.{entry_before}
+use Rattle.sound_image.proofs.PartWords.{parts_apart}
 use Rattle.sound_image.specs.Segments.{ImageWords}
 use Rattle.segment_table.specs.Stores.{IsFrameWord}
 

@@ -8,3 +8,5 @@ pub mod Pairs
 pub mod StoreLaws
 pub mod WorkedSplit
 pub mod WrongStores
+pub use Rattle.sound_image.proofs.Hashes
+pub use Rattle.sound_image.proofs.LowBits

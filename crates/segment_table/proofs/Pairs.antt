@@ -2,8 +2,8 @@
 use Rattle.std.proofs.Common.{◌≡◌, ◌≢◌, ℕ, ◌+◌, ◌*◌, ◌^◌, ◌<◌, ◌≤◌, inl, inr, None, Some, sym, ap, subst, ◌∙◌, arith}
 use Rattle.trace.specs.Events.{with_word}
 use Rattle.trace.proofs.Replaced.{replaced_other}
-use Rattle.image_layout.specs.Places.{Shape, bucket_at, key_at, value_at}
-use Rattle.bucket_meta.specs.Bucket.{allocated}
+use Rattle.sound_image.specs.Places.{Shape, bucket_at, key_at, value_at}
+use Rattle.sound_image.specs.Bucket.{allocated}
 use Rattle.sound_image.specs.Segments.{ImageWords, frame_of, Owns}
 use Rattle.sound_image.specs.Records.{key_hash, slot_key, slot_value, slot_hash, HasRecord, HasPair}
 use Rattle.segment_table.specs.Claims.{Claims, HasSoundFrame}

@@ -1,7 +1,7 @@
 -- The law of each store, over the words of an image.
 use Rattle.std.proofs.Common.{ℕ, ◌+◌, ◌∙◌}
 use Rattle.trace.specs.Events.{with_word}
-use Rattle.image_layout.specs.Places.{Shape, IsShape, root_word, state_word, entry_at, head_at}
+use Rattle.sound_image.specs.Places.{Shape, IsShape, root_word, state_word, entry_at, head_at}
 use Rattle.sound_image.specs.Segments.{ImageWords, Frame, frame_of}
 use Rattle.segment_table.specs.Claims.{HasSoundFrame}
 use Rattle.segment_table.specs.Stores.{TakesSlot, FreesSlot, Links, BeginsSplit, GoesLive, NamesClaimer, NamesSide, EndsSplit, DropsSplit, Renews, Opens}

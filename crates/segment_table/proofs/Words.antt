@@ -2,8 +2,8 @@
 use Rattle.std.proofs.Common.{◌≡◌, ◌≢◌, ℕ, ◌+◌, ◌^◌, ◌<◌, ◌≤◌, inl, inr, refl, sym, ap, ◌∙◌, arith}
 use Rattle.trace.specs.Events.{with_word}
 use Rattle.trace.proofs.Replaced.{replaced_same, replaced_other}
-use Rattle.image_layout.specs.Places.{Shape, root_word, state_word, entry_at, head_at, first_segment}
-use Rattle.image_layout.proofs.Areas.{entry_before}
+use Rattle.sound_image.specs.Places.{Shape, root_word, state_word, entry_at, head_at, first_segment}
+use Rattle.sound_image.proofs.Areas.{entry_before}
 use Rattle.sound_image.specs.Segments.{ImageWords, Frame, frame_of}
 use Rattle.segment_table.specs.Stores.{IsFrameWord}
 use Rattle.segment_table.proofs.stores.Moved.{HeaderStored, SameHeaders}

@@ -7,7 +7,7 @@ use Rattle.std.proofs.lemmas.Bool.{cases_eq, ne_eqb}
 use Rattle.trace.specs.Events.{Words, with_word}
 use Rattle.hash_word.specs.Hash.{top}
 use Rattle.segment_head.specs.HeadWord.{state_in, normal, splitting}
-use Rattle.image_layout.specs.Places.{Shape, IsShape}
+use Rattle.sound_image.specs.Places.{Shape, IsShape}
 use Rattle.sound_image.specs.Segments.{Frame, frame_of, depth_at, IsLive, IsReadySide, HasReadySide}
 use Rattle.segment_table.specs.Claims.{Claims, LeadsToClaimer, arrived, HasSoundFrame}
 use Rattle.segment_table.specs.Owner.{owner, owner_below}

@@ -2,7 +2,7 @@
 -- claimer, and its directory entry leads there.
 use Rattle.std.specs.Prelude.{◌≡◌, ℕ, ◌+◌, ◌-◌, ◌*◌, ◌^◌, ◌<◌, ◌≤◌}
 use Rattle.hash_word.specs.Hash.{index_of}
-use Rattle.image_layout.specs.Places.{Shape}
+use Rattle.sound_image.specs.Places.{Shape}
 use Rattle.sound_image.specs.Segments.{ImageWords, Frame, frame_of, depth_at, pattern_at, IsLive, IsLiveFor, InOneSide, IsReadySide, HasReadySide}
 use Rattle.sound_image.specs.Directory.{RootInRange, VersionInRange, HeadInRange, LinkInRange, VersionIsPast}
 use Rattle.sound_image.specs.Rules.{NumbersFit, HashesAreOwned, EntriesLead, VersionsArePast}

@@ -1,7 +1,7 @@
 -- The records of segments beside a store to a word of the frame: it leaves them all, and owners tell which are pairs.
 use Rattle.std.specs.Prelude.{◌≡◌, ◌↔◌, ℕ, ◌^◌, ◌<◌, Option}
 use Rattle.trace.specs.Events.{with_word}
-use Rattle.image_layout.specs.Places.{Shape}
+use Rattle.sound_image.specs.Places.{Shape}
 use Rattle.sound_image.specs.Segments.{ImageWords, frame_of, InOneSide}
 use Rattle.sound_image.specs.Records.{key_hash, slot_key, slot_value, slot_hash, HasRecord, HasAt}
 

@@ -11,9 +11,9 @@ use Rattle.map_model.specs.Weave.{all_of, draws, weave}
 use Rattle.map_model.specs.Legal.{IsLegal, replay}
 use Rattle.map_model.specs.ByPlaces.{map_at}
 use Rattle.hash_word.specs.Hash.{top}
-use Rattle.bucket_meta.specs.Bucket.{version_of, record_slots}
-use Rattle.segment_head.specs.HeadWord.{free}
-use Rattle.image_layout.specs.Places.{Shape, bucket_at, buckets}
+use Rattle.sound_image.specs.Bucket.{version_of, record_slots}
+use Rattle.sound_image.specs.HeadWord.{free}
+use Rattle.sound_image.specs.Places.{Shape, bucket_at, buckets}
 use Rattle.sound_image.specs.Segments.{frame_of, IsClean, IsLive, state_at}
 use Rattle.sound_image.specs.Records.{key_hash}
 use Rattle.sound_image.specs.Image.{IsSoundImage}

@@ -1,7 +1,7 @@
 -- Images that agree but for locks and overflow parts have the same records, and the same records stand right.
 use Rattle.std.proofs.Common.{◌≡◌, ◌≢◌, ℕ, ◌+◌, ◌*◌, ◌<◌, ◌≤◌, ◌⊎◌, ap, sym, ◌∙◌, arith, inl, inr}
 use Rattle.hash_word.specs.Hash.{home_of, finger_of, probing_of}
-use Rattle.bucket_meta.specs.Bucket.{member, record_slots}
+use Rattle.image_layout.specs.Bucket.{member, record_slots}
 use Rattle.image_layout.specs.Places.{Shape, head_at, bucket_at, key_at, value_at, buckets}
 use Rattle.sound_image.specs.Segments.{ImageWords}
 use Rattle.sound_image.specs.Records.{key_hash, word_in, slot_key, slot_value, slot_hash, HasRecord}

@@ -5,3 +5,5 @@ pub mod Unnoted
 pub mod NoNotes
 pub mod SameRecords
 pub mod Agreement
+pub use Rattle.image_layout.proofs.Areas
+pub use Rattle.image_layout.proofs.PartWords

@@ -4,7 +4,7 @@ use Rattle.std.specs.Prelude.{nat_lt}
 use Rattle.std.proofs.Math.Pow.{mod-mod-pow}
 use Rattle.std.proofs.lemmas.Bool.{cases_lt, lt-ltb, le-ltb}
 use Rattle.std.proofs.lemmas.Nat.{field_of}
-use Rattle.bucket_meta.specs.Bucket.{allocated, member, finger, record_slots}
+use Rattle.image_layout.specs.Bucket.{allocated, member, finger, record_slots}
 use Rattle.word_bits.specs.Bits.{bits}
 
 -- bits of a word are those of its part below a higher bit

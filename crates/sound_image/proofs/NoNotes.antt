@@ -6,8 +6,8 @@ use Rattle.std.proofs.lemmas.Bool.{cases_lt}
 use Rattle.std.proofs.lemmas.List.Concat.{flat_map-append}
 use Rattle.std.proofs.lemmas.Bool.Decides.{nat_tests}
 use Rattle.hash_word.specs.Hash.{home_of, finger_of, probing_of}
-use Rattle.bucket_meta.specs.Bucket.{allocated, note_used, note_member, note_finger, note_index, overflow_count}
-use Rattle.bucket_meta.specs.Notes.{numbers_below}
+use Rattle.image_layout.specs.Bucket.{allocated, note_used, note_member, note_finger, note_index, overflow_count}
+use Rattle.image_layout.specs.Notes.{numbers_below}
 use Rattle.image_layout.specs.Places.{Shape}
 use Rattle.sound_image.specs.Segments.{ImageWords}
 use Rattle.sound_image.specs.Records.{word_in, slot_hash, notes_in, notes_of, stashed_in, stashed_of, HasExactNotes}

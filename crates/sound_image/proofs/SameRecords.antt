@@ -2,7 +2,7 @@
 use Rattle.std.proofs.Common.{◌≡◌, ℕ, ◌+◌, ◌<◌, ◌≤◌, ◌⊎◌, Option, None, Some, ap, sym, subst, ◌∙◌}
 use Rattle.hash_word.specs.Hash.{Covers}
 use Rattle.segment_head.specs.HeadWord.{state_in, depth_in, pattern_in, normal, splitting}
-use Rattle.bucket_meta.specs.Bucket.{allocated}
+use Rattle.image_layout.specs.Bucket.{allocated}
 use Rattle.image_layout.specs.Places.{Shape, head_at}
 use Rattle.sound_image.specs.Segments.{ImageWords, frame_of, depth_at, IsLiveFor, Owns}
 use Rattle.sound_image.specs.Records.{key_hash, word_in, slot_key, slot_value, HasRecord, HasOwnRecord, HasPair, HasAt}

@@ -1,7 +1,7 @@
 -- Where a home bucket has no record in the stash, its overflow notes are exact if there are none.
 use Rattle.std.specs.Prelude.{◌≡◌, ℕ, ◌+◌, ◌<◌}
 use Rattle.hash_word.specs.Hash.{home_of, probing_of}
-use Rattle.bucket_meta.specs.Bucket.{allocated, note_used, note_member, overflow_count}
+use Rattle.image_layout.specs.Bucket.{allocated, note_used, note_member, overflow_count}
 use Rattle.image_layout.specs.Places.{Shape}
 use Rattle.sound_image.specs.Segments.{ImageWords}
 use Rattle.sound_image.specs.Records.{word_in, slot_hash}

@@ -5,3 +5,7 @@ pub mod Rules
 pub mod Image
 pub mod Left
 pub mod Agreement
+pub use Rattle.image_layout.specs.Bucket
+pub use Rattle.image_layout.specs.Parts
+pub use Rattle.image_layout.specs.Places
+pub use Rattle.segment_head.specs.HeadWord

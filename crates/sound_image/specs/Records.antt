@@ -3,8 +3,8 @@ use Rattle.std.specs.Prelude.{◌≡◌, ℕ, ◌+◌, ◌<◌, ◌==◌, ◌&&�
 use Rattle.std.specs.List.{flat_map}
 use Rattle.hash_word.specs.declared.Kind.TheVariants.{Identity, Mix}
 use Rattle.hash_word.specs.Hash.{hash_of, home_of, finger_of, probing_of}
-use Rattle.bucket_meta.specs.Notes.{OverflowNote, numbers_below, notes_on, AreExact}
-use Rattle.bucket_meta.specs.Bucket.{allocated, note_used, note_member, note_index, note_finger, overflow_count, record_slots}
+use Rattle.image_layout.specs.Notes.{OverflowNote, numbers_below, notes_on, AreExact}
+use Rattle.image_layout.specs.Bucket.{allocated, note_used, note_member, note_index, note_finger, overflow_count, record_slots}
 use Rattle.image_layout.specs.Places.{Shape, homes, buckets, bucket_at, key_at, value_at}
 use Rattle.sound_image.specs.Segments.{ImageWords, frame_of, Owns}
 

@@ -2,7 +2,7 @@
 -- and nothing of others. So the word at which a rule is broken first is one word.
 use Rattle.std.specs.Prelude.{◌≡◌, ◌≢◌, ℕ, ◌+◌, ◌^◌, ◌<◌, ◌≤◌, ◌⊎◌}
 use Rattle.hash_word.specs.Hash.{home_of, finger_of, probing_of}
-use Rattle.bucket_meta.specs.Bucket.{lock_of, member, finger}
+use Rattle.image_layout.specs.Bucket.{lock_of, member, finger}
 use Rattle.segment_head.specs.HeadWord.{version_in, normal}
 use Rattle.image_layout.specs.Places.{Shape, homes, buckets, root_word, state_word, entry_at, head_at, bucket_at, key_at}
 use Rattle.sound_image.specs.Segments.{ImageWords, Frame, frame_of, image_version, IsClean, state_at, IsLive, Owns}

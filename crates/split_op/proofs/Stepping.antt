@@ -23,7 +23,7 @@ use Rattle.world.specs.areas.Fitting.{HoldsWord}
 use Rattle.world.specs.areas.Kinds.{of_free_slots, goes_with, known_without, is_taken, facts_without, with_guard, with_slot, gives}
 use Rattle.world.specs.StepKinds.{of_structure, view_by, MayTake}
 use Rattle.world.proofs.fitting.Filtered.{has_filtered}
-use Rattle.phase.specs.Stands.{IsThere}
+use Rattle.enclose_op.specs.Phases.{IsThere}
 use Rattle.rounds.specs.Steps.{rounds_wanted}
 use Rattle.rounds.specs.Steps as round
 use Rattle.rounds.specs.Stands.{IsSettled}

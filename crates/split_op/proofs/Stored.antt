@@ -12,7 +12,7 @@ use Rattle.world.specs.Kinds.{without}
 use Rattle.world.specs.areas.Areas.{header_word}
 use Rattle.world.specs.areas.Splitting.{link_word}
 use Rattle.world.proofs.basics.Seats.{without_has, without_stays}
-use Rattle.phase.specs.Stands.{IsThere}
+use Rattle.enclose_op.specs.Phases.{IsThere}
 use Rattle.enclose_op.specs.Whole.{kept_words}
 use Rattle.enclose_op.proofs.Held.{hold_same}
 use Rattle.enclose_op.proofs.Places.{in_slot}

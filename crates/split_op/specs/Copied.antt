@@ -17,8 +17,7 @@ use Rattle.world.specs.areas.Areas.{Segment, Side, Whole, header_word}
 use Rattle.world.specs.areas.Asking.{KnowsFree}
 use Rattle.world.specs.areas.Kinds.{is_in_slot}
 use Rattle.world.specs.areas.Splitting.{link_word, KnowsHead, KnowsBuckets, KnowsRecords}
-use Rattle.phase.specs.Stands.{IsThere}
-use Rattle.phase.specs.Giving.{IsQuiet}
+use Rattle.enclose_op.specs.Phases.{IsThere, IsQuiet}
 use Rattle.enclose_op.specs.declared.enclosed.Enclosed.{Enclosed}
 use Rattle.enclose_op.specs.Whole.{kept_words, IsOf, IsWhole, HoldsLocks}
 use Rattle.split_op.specs.declared.copied.Copied.{Copied}

@@ -19,7 +19,7 @@ use Rattle.world.specs.areas.Rows.{Row, marks, news}
 use Rattle.world.specs.areas.Splitting.{link_word}
 use Rattle.world.specs.StepKinds.{StepKind, of_call, of_structure}
 use Rattle.part.specs.Outcomes.{Outcome, replied, again}
-use Rattle.phase.specs.Stands.{IsThere}
+use Rattle.enclose_op.specs.Phases.{IsThere}
 use Rattle.rounds.specs.declared.rounds.Rounds.{Rounds}
 use Rattle.rounds.specs.Steps.{rounds_wanted}
 use Rattle.rounds.specs.Stands.{kind_of, RoundStands, IsSettled}

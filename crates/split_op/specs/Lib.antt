@@ -5,3 +5,6 @@ pub mod Sides
 pub mod Fits
 pub mod Remembers
 pub mod SplitPart
+pub use Rattle.enclose_op.specs.Whole
+pub use Rattle.enclose_op.specs.declared.enclosed.Enclosed
+pub use Rattle.enclose_op.specs.Phases

@@ -9,3 +9,4 @@ pub mod invariant
 pub mod device
 pub mod Legality
 pub mod stepping
+pub use Rattle.frame_facts.proofs.Owners

@@ -5,10 +5,10 @@ use Rattle.std.proofs.lemmas.Bool.{lt-ltb, le-ltb, eq-eqb, ne_eqb}
 use Rattle.trace.specs.Events.{Words}
 use Rattle.bucket_meta.specs.Bucket.{record_slots}
 use Rattle.image_layout.specs.Places.{Shape, first_segment, bucket_at, words_of, block, buckets}
-use Rattle.sound_image.proofs.LowBits.{same_allocated, same_member, same_finger}
+use Rattle.segment_table.proofs.LowBits.{same_allocated, same_member, same_finger}
 use Rattle.bucket_words.specs.Core.{core_in_bucket, group_of, core_of, core}
 use Rattle.bucket_words.specs.Slots.{SameSlot}
-use Rattle.sound_image.specs.Records.{key_hash}
+use Rattle.segment_table.specs.Records.{key_hash}
 use Rattle.bucket_words.specs.Owners.{IsStructure, owner_of, SameOwners}
 use Rattle.bucket_words.specs.Hits.{Hit, find_by, find}
 use Rattle.bucket_words.specs.Standing.{IsTable}

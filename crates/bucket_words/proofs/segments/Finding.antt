@@ -5,7 +5,7 @@ use Rattle.std.proofs.lemmas.Bool.{cases_eq}
 use Rattle.trace.specs.Events.{Words}
 use Rattle.bucket_meta.specs.Bucket.{record_slots}
 use Rattle.image_layout.specs.Places.{Shape, bucket_at, buckets}
-use Rattle.sound_image.specs.Records.{key_hash}
+use Rattle.segment_table.specs.Records.{key_hash}
 use Rattle.bucket_words.specs.Buckets.{value_in, find_below}
 use Rattle.bucket_words.proofs.Finding.{Hits, cases_hits, find_here, find_before, find_zero, find_by_slots}
 use Rattle.bucket_words.specs.Slots.{SameSlots}

@@ -8,7 +8,7 @@ use Rattle.bucket_meta.specs.Bucket.{note_used, note_member, note_index, note_fi
 use Rattle.stash.proofs.Counts.{same_pieces}
 use Rattle.trace.specs.Events.{Words, with_word}
 use Rattle.image_layout.specs.Places.{Shape, bucket_at, homes, buckets}
-use Rattle.sound_image.specs.Records.{word_in, notes_in, notes_of, stashed_of, HasExactNotes}
+use Rattle.segment_table.specs.Records.{word_in, notes_in, notes_of, stashed_of, HasExactNotes}
 use Rattle.bucket_words.specs.HomeNotes.{SameHomeNotes}
 use Rattle.bucket_words.proofs.segments.Places.{other_word, this_word}
 

@@ -5,8 +5,8 @@ use Rattle.hash_word.specs.Hash.{home_of}
 use Rattle.trace.specs.Events.{Words, with_word}
 use Rattle.trace.proofs.Replaced.{replaced_same, replaced_other}
 use Rattle.image_layout.specs.Places.{Shape, first_segment, head_at, bucket_at, block, buckets}
-use Rattle.sound_image.specs.Segments.{frame_of}
-use Rattle.sound_image.specs.Records.{key_hash}
+use Rattle.segment_table.specs.Segments.{frame_of}
+use Rattle.segment_table.specs.Records.{key_hash}
 use Rattle.segment_table.proofs.frames.Owner.{found_owns, same_owner}
 use Rattle.bucket_words.specs.Owners.{IsStructure, HasStructure, owner_of, home_at, SameOwners}
 

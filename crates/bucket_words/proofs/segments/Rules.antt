@@ -4,10 +4,10 @@ use Rattle.std.proofs.lemmas.Bool.{cases_lt}
 use Rattle.bucket_meta.specs.Bucket.{record_slots}
 use Rattle.trace.specs.Events.{Words}
 use Rattle.image_layout.specs.Places.{Shape, IsShape, bucket_at, key_at}
-use Rattle.sound_image.specs.Segments.{frame_of, Owns}
-use Rattle.sound_image.specs.Records.{key_hash, slot_key, slot_hash, HasRecord, HasOwnRecord, HasPair, HasAt}
-use Rattle.sound_image.specs.Rules.{StandsRight, RecordsStandRight, KeysHaveOneValue}
-use Rattle.sound_image.proofs.Hashes.{key_hash-fits}
+use Rattle.segment_table.specs.Segments.{frame_of, Owns}
+use Rattle.segment_table.specs.Records.{key_hash, slot_key, slot_hash, HasRecord, HasOwnRecord, HasPair, HasAt}
+use Rattle.segment_table.specs.Rules.{StandsRight, RecordsStandRight, KeysHaveOneValue}
+use Rattle.segment_table.proofs.Hashes.{key_hash-fits}
 use Rattle.segment_table.specs.Claims.{HasSoundFrame}
 use Rattle.segment_table.proofs.frames.SoundFrames.{owner_claims}
 use Rattle.segment_table.proofs.frames.Owner.{found_owns, claimer_found}

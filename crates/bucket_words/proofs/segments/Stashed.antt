@@ -9,7 +9,7 @@ use Rattle.stash.proofs.Counts.{IsSum, same_pieces, changed_piece, piece_at_most
 use Rattle.stash.proofs.ExactNotes.{same_or_other, often_head, each_is_named}
 use Rattle.trace.specs.Events.{Words}
 use Rattle.image_layout.specs.Places.{Shape, bucket_at, key_at, homes, stash_buckets}
-use Rattle.sound_image.specs.Records.{key_hash, word_in, notes_of, stashed_in, stashed_of, HasExactNotes}
+use Rattle.segment_table.specs.Records.{key_hash, word_in, notes_of, stashed_in, stashed_of, HasExactNotes}
 use Rattle.bucket_words.specs.Buckets.{IsTaken}
 use Rattle.bucket_words.specs.Slots.{SameSlot}
 use Rattle.bucket_words.specs.Hits.{Hit}

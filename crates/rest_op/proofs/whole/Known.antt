@@ -13,7 +13,7 @@ use Rattle.world.specs.areas.Rows.{finishes, HasNoSides}
 use Rattle.world.specs.areas.Kinds.{moves, view_then}
 use Rattle.world.specs.areas.Splitting.{link_word, IsSettledHolder, HoldsBucketOf, KnowsHead}
 use Rattle.world.proofs.basics.Seats.{without_has, without_stays}
-use Rattle.phase.specs.Giving.{IsLocated}
+use Rattle.enclose_op.specs.Phases.{IsLocated}
 use Rattle.enclose_op.specs.declared.enclosed.Enclosed.{Enclosed}
 use Rattle.enclose_op.specs.Whole.{KnowsOnlyOf}
 use Rattle.rest_op.specs.Stands.{value_of, KnowsAll, HasAll}

@@ -11,7 +11,7 @@ use Rattle.segment_table.proofs.stores.Moved.{HasNumbers, ready_same}
 use Rattle.segment_table.proofs.stores.SameRegion.{same_entries}
 use Rattle.segment_table.proofs.stores.Alike.{alike_keeps}
 use Rattle.bucket_words.specs.Owners.{SameOwners}
-use Rattle.frame_facts.proofs.Owners.{owner_stays}
+use Rattle.world.proofs.Owners.{owner_stays}
 use Rattle.world.specs.areas.Areas.{header_word}
 use Rattle.world.specs.areas.Restarting.{SameButVersion}
 use Rattle.restart_op.specs.AtRest.{IsCurrent}

@@ -2,7 +2,7 @@
 use Rattle.std.proofs.Common.{◌≡◌, ℕ, ◌+◌, ◌^◌, ◌<◌, ◌≤◌, inl, inr, refl, sym, ap, subst, ◌∙◌, arith}
 use Rattle.std.proofs.lemmas.Bool.{cases_lt, cases_eq}
 use Rattle.hash_word.specs.Hash.{top, index_of}
-use Rattle.image_layout.specs.Places.{Shape, IsShape, root_word, state_word, entry_at, head_at}
+use Rattle.sound_image.specs.Places.{Shape, IsShape, root_word, state_word, entry_at, head_at}
 use Rattle.sound_image.specs.Segments.{ImageWords, Frame, frame_of, depth_at, pattern_at, IsLive, IsLiveFor, Owns, LeadsToOwner, arrived, on}
 use Rattle.sound_image.specs.Directory.{SharesWell}
 use Rattle.segment_table.specs.Claims.{Claims, LeadsToClaimer, named_for, IsSoundFrame, FollowsFrameRules}

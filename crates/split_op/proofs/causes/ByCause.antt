@@ -22,7 +22,7 @@ use Rattle.world.specs.Wants.{answer_to, word_of}
 use Rattle.part.specs.Doings.{Doings}
 use Rattle.part.specs.Outcomes.{Outcome, replied, again}
 use Rattle.part.specs.Splits.{HasSplitCause, EndsBySplitCause}
-use Rattle.phase.specs.Giving.{IsLocated}
+use Rattle.enclose_op.specs.Phases.{IsLocated}
 use Rattle.enclose_op.specs.declared.enclosed.Enclosed.{Enclosed}
 use Rattle.enclose_op.specs.declared.give.Give.{Give}
 use Rattle.enclose_op.specs.Giving.{given}

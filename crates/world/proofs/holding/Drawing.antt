@@ -2,7 +2,7 @@
 use Rattle.std.proofs.Common.{◌≡◌, ◌⊎◌, ℕ, ◌+◌, ◌/◌, ◌%◌, ◌^◌, ◌<◌, Bool, true, false, List, [], ◌∷◌, inl, inr, sym, ap, ◌∙◌, subst, arith}
 use Rattle.bucket_meta.specs.Notes.{OverflowNote, how_often}
 use Rattle.hash_word.specs.Hash.{home_of, finger_of}
-use Rattle.stash.proofs.ExactNotes.{each_is_named, often_head}
+use Rattle.bucket_words.proofs.ExactNotes.{each_is_named, often_head}
 use Rattle.trace.specs.Events.{Words}
 use Rattle.image_layout.specs.Places.{bucket_at}
 use Rattle.sound_image.specs.Records.{key_hash, stashed_of}

@@ -11,7 +11,7 @@ use Rattle.image_layout.specs.Places.{Shape, bucket_at}
 use Rattle.sound_image.specs.Records.{word_in, notes_in}
 use Rattle.bucket_words.specs.Buckets.{finger_in}
 use Rattle.bucket_words.specs.Slots.{SameSlot}
-use Rattle.stash.proofs.Counts.{same_pieces}
+use Rattle.bucket_words.proofs.Counts.{same_pieces}
 use Rattle.bucket_words.specs.Standing.{IsTable}
 use Rattle.bucket_words.specs.Hits.{Hit}
 use Rattle.bucket_words.specs.TableChanges.{KeepsTable}

@@ -6,7 +6,7 @@ use Rattle.hash_word.specs.Hash.{home_of, probing_of, finger_of}
 use Rattle.bucket_meta.specs.Bucket.{note_used, note_member, note_index, note_finger, overflow_count, record_slots}
 use Rattle.bucket_meta.specs.Notes.{how_often, notes_by}
 use Rattle.bucket_meta.specs.Visits.{is_note, is_named, must_visit}
-use Rattle.stash.proofs.Counts.{how_often-is_sum, how_often-append, no_piece}
+use Rattle.bucket_words.proofs.Counts.{how_often-is_sum, how_often-append, no_piece}
 use Rattle.trace.specs.Events.{Words}
 use Rattle.image_layout.specs.Places.{Shape, bucket_at, homes, stash_buckets, buckets}
 use Rattle.sound_image.specs.Records.{key_hash, HasExactNotes}

@@ -3,7 +3,7 @@ use Rattle.std.proofs.Common.{◌≡◌, ℕ, ◌<◌, sym, subst, ◌∙◌}
 use Rattle.bucket_meta.specs.Bucket.{record_slots}
 use Rattle.trace.specs.Events.{Words}
 use Rattle.image_layout.specs.Places.{Shape, bucket_at, buckets}
-use Rattle.sound_image.specs.Records.{key_hash}
+use Rattle.segment_table.specs.Records.{key_hash}
 use Rattle.bucket_words.specs.Buckets.{value_in}
 use Rattle.bucket_words.specs.Slots.{SameSlot}
 use Rattle.bucket_words.specs.Owners.{SameOwners}

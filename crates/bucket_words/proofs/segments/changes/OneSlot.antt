@@ -4,7 +4,7 @@ use Rattle.std.proofs.lemmas.Bool.{cases_eq}
 use Rattle.bucket_meta.specs.Bucket.{record_slots}
 use Rattle.trace.specs.Events.{Words}
 use Rattle.image_layout.specs.Places.{Shape, bucket_at, buckets}
-use Rattle.sound_image.specs.Records.{key_hash}
+use Rattle.segment_table.specs.Records.{key_hash}
 use Rattle.bucket_words.specs.Buckets.{IsTaken, key_in, value_in}
 use Rattle.bucket_words.specs.Owners.{owner_of, SameOwners}
 use Rattle.bucket_words.specs.Hits.{Hit, find}

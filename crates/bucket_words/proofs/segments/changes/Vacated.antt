@@ -4,7 +4,7 @@ use Rattle.std.proofs.lemmas.Bool.{cases_eq}
 use Rattle.bucket_meta.specs.Bucket.{allocated, member, record_slots}
 use Rattle.trace.specs.Events.{Words, with_word}
 use Rattle.image_layout.specs.Places.{Shape, bucket_at, block, buckets}
-use Rattle.sound_image.specs.Records.{key_hash}
+use Rattle.segment_table.specs.Records.{key_hash}
 use Rattle.bucket_words.specs.Buckets.{key_in, value_in}
 use Rattle.bucket_words.specs.Slots.{SameSlot}
 use Rattle.bucket_words.specs.Owners.{SameOwners, owner_of}
