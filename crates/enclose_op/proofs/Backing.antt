@@ -18,7 +18,7 @@ use Rattle.world.proofs.moving.Holding.{out_of_slot_has}
 use Rattle.std.proofs.lemmas.Bool.{eq-eqb, both_ways}
 use Rattle.phase.specs.Giving.{IsLocated, IsQuiet}
 use Rattle.phase.proofs.Handing.{none_loose}
-use Rattle.phase.proofs.locks.Giving.{nothing_left}
+pub use Rattle.phase.proofs.locks.Giving.{nothing_left}
 use Rattle.enclose_op.specs.declared.enclosed.Enclosed.{Enclosed}
 use Rattle.enclose_op.specs.declared.give.Give.{Give}
 use Rattle.enclose_op.specs.declared.give.Give.TheVariants.{Lock, Guard}

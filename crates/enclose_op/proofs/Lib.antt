@@ -9,4 +9,4 @@ pub mod Stepping
 pub mod EncloseIsPart
 pub mod Rooms
 pub mod causes
-pub mod Phases
+pub use Rattle.phase.proofs.Handing

@@ -21,7 +21,7 @@ use Rattle.world.proofs.mild.Kept.{steps_reply_nothing}
 use Rattle.part.specs.Outcomes.{reply_of}
 use Rattle.part.specs.Part.{LeavesKnown}
 use Rattle.part.specs.Asks.{IsWithin, PutsWord}
-use Rattle.repair_op.proofs.Phases.{same_more}
+use Rattle.repair_op.proofs.Handing.{same_more}
 use Rattle.rounds.specs.Steps.{rounds_wanted}
 use Rattle.rounds.proofs.Events.{no_some, some_same, events_end}
 use Rattle.rounds.proofs.Wanted.{by_wanted, event_none}

@@ -11,7 +11,7 @@ use Rattle.world.specs.areas.Asking.{MayAt}
 use Rattle.world.proofs.fitting.Rows.{but_before}
 use Rattle.world.proofs.moving.Holding.{out_of_slot_has}
 use Rattle.phase.proofs.Handing.{none_loose}
-use Rattle.phase.proofs.locks.Giving.{nothing_left}
+pub use Rattle.phase.proofs.locks.Giving.{nothing_left}
 use Rattle.repair_op.specs.declared.guarded.Guarded.{Guarded}
 use Rattle.repair_op.specs.Guarded.{IsOfHead}
 use Rattle.repair_op.specs.Stands.{HoldsGuard}

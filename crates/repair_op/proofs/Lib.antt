@@ -9,4 +9,4 @@ pub mod RepairIsPart
 pub mod Recalling
 pub mod causes
 pub mod Current
-pub mod Phases
+pub use Rattle.phase.proofs.Handing

@@ -17,7 +17,7 @@ use Rattle.world.specs.areas.Asking.{MayAt}
 use Rattle.world.specs.areas.Splitting.{IsHeader}
 use Rattle.world.proofs.basics.Seats.{loosened_has}
 use Rattle.world.proofs.holders.directing.Finishing.{may_finish}
-use Rattle.enclose_op.proofs.Phases.{nothing_left}
+use Rattle.enclose_op.proofs.Backing.{nothing_left}
 use Rattle.rounds.specs.Stands.{IsSettled}
 use Rattle.rounds.proofs.Lines.{off_line_has}
 use Rattle.rounds.proofs.Settling.{settled_firm}

@@ -26,7 +26,7 @@ use Rattle.part.specs.Outcomes.{reply_of}
 use Rattle.part.specs.Part.{LeavesKnown, IsPart}
 use Rattle.part.specs.Asks.{IsWithin, PutsWord}
 use Rattle.enclose_op.specs.Phases.{IsLocated}
-use Rattle.enclose_op.proofs.Phases.{same_more}
+use Rattle.enclose_op.proofs.Handing.{same_more}
 use Rattle.rounds.specs.declared.rounds.Rounds.{Rounds}
 use Rattle.rounds.specs.Steps.{begun, rounds_wanted, event_wanted}
 use Rattle.rounds.specs.Stands.{rounds_kind}

@@ -31,7 +31,7 @@ use Rattle.world.specs.StepLaws.{IsPublishingStep}
 use Rattle.part.specs.Outcomes.{Outcome, reply_of}
 use Rattle.part.specs.Part.{LeavesKnown, IsPart}
 use Rattle.part.specs.Asks.{IsWithin, PutsWord}
-use Rattle.enclose_op.proofs.Phases.{one_more, none_more, same_more}
+use Rattle.enclose_op.proofs.Handing.{one_more, none_more, same_more}
 use Rattle.rounds.specs.declared.rounds.Rounds.{Rounds}
 use Rattle.rounds.specs.Steps.{rounds_wanted, event_wanted}
 use Rattle.rounds.specs.Steps as round

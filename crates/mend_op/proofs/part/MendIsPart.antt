@@ -23,7 +23,7 @@ use Rattle.world.specs.StepLaws.{IsPublishingStep}
 use Rattle.world.proofs.moving.Known.{newest_is}
 use Rattle.part.specs.Outcomes.{reply_of}
 use Rattle.part.specs.Part.{IsPart, LeavesKnown}
-use Rattle.repair_op.proofs.Phases.{same_more}
+use Rattle.repair_op.proofs.Handing.{same_more}
 use Rattle.whole_segment.proofs.Zeros.{zeros_small}
 use Rattle.rounds.specs.declared.rounds.Rounds.{Rounds}
 use Rattle.rounds.specs.Steps.{rounds_wanted, event_wanted}

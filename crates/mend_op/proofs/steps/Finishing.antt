@@ -17,7 +17,7 @@ use Rattle.world.specs.areas.Splitting.{IsHeader}
 use Rattle.world.specs.areas.Repairing.{side_depth_in, side_pattern_in}
 use Rattle.world.proofs.basics.Seats.{loosened_has}
 use Rattle.world.proofs.holders.mending.Mending.{may_mend}
-use Rattle.repair_op.proofs.Phases.{nothing_left}
+use Rattle.repair_op.proofs.Giving.{nothing_left}
 use Rattle.rounds.proofs.Lines.{off_line_has}
 use Rattle.rounds.proofs.Keeping.{rounds_may}
 use Rattle.rounds.proofs.Settling.{settled_firm}

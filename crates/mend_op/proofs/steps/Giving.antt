@@ -11,7 +11,7 @@ use Rattle.world.specs.areas.Rows.{HasNoSides}
 use Rattle.world.specs.areas.Kinds.{of_segment, gives, settles, view_then, out_of_slot}
 use Rattle.world.specs.areas.Asking.{MayAt}
 use Rattle.world.proofs.moving.Holding.{out_of_slot_has}
-use Rattle.repair_op.proofs.Phases.{nothing_left}
+use Rattle.repair_op.proofs.Giving.{nothing_left}
 use Rattle.rounds.proofs.Keeping.{rounds_may}
 use Rattle.rounds.proofs.Settling.{settled_firm}
 use Rattle.mend_op.specs.declared.op.MendStep.TheVariants.{RenewFence, Give, Ended}
