@@ -1,0 +1,7 @@
+pub mod Lists
+pub mod Allowed
+pub mod Moved
+pub mod Seated
+pub mod Opened
+pub mod Noting
+pub mod Ended

@@ -1,0 +1,120 @@
+use Rattle.std.proofs.Common.{rules, ◌+◌, ◌/◌, ◌∙◌, sym, ap, refl}
+use Rattle.image_layout.specs.Places.{Shape, bucket_at}
+use Rattle.world.specs.Kinds.{looks, glances_word, validates}
+use Rattle.world.specs.StepKinds.{of_call}
+use Rattle.vlock.specs.declared.knows.Watch.{Watch}
+use Rattle.vlock.specs.declared.bucket.ReadReply.TheVariants.{Clean, Moved, Held}
+use Rattle.vlock.specs.Ruling.{ground_of}
+use Rattle.vlock.proofs.Noting.{even_of, found_at, says_there, looked, starts, goes_on, clean, may_call, validated_view, first_load, next_load, last_load, looked_last}
+use Rattle.vlock.proofs.bucket.read_bucket.Goals as goal
+
+pub returns-then-before-eq1-clause-view : goal.returns-then-before-eq1-clause-view
+returns-then-before-eq1-clause-view c = looked (ground_of c.args.image.now.key) c.bucket_at-lock.result c.look-before.result c.args.seat.now.me.0 _ c.look-before.ensures.view c.requires.caller.1
+
+pub returns-then-before-eq1-clause-read : goal.returns-then-before-eq1-clause-read
+returns-then-before-eq1-clause-read c =
+    let lock = c.bucket_at-lock.result in
+    let lock_is = c.bucket_at-lock.ensures.is ∙ ap (λ (g : Shape). bucket_at g c.args.segment c.args.bucket) c.requires.geometry in
+    let site = ground_of c.args.image.now.key in
+    let p = c.args.seat.now.me.0 in
+    says_there site lock _ p c.look-before.new.seat.me.0 (Held c.look-before.result) lock_is (
+      c.if-before-eq1.true,
+      found_at site p.view lock c.look-before.result (λ n. of_call (looks lock)) p _ refl c.look-before.ensures.view,
+      looked_last site lock c.look-before.result (λ n. of_call (looks lock)) p _ c.look-before.ensures.view,
+    )
+
+pub loop-i-init : goal.loop-i-init
+loop-i-init c =
+    let lock = c.bucket_at-lock.result in
+    let site = ground_of c.args.image.now.key in
+    let p = c.args.seat.now.me.0 in
+    record {
+      table = c.look-before.ensures.table;
+      past = ap (λ (w : Watch). w.past) c.look-before.ensures.view.0;
+      took = first_load site lock c.look-before.result (λ n. of_call (looks lock)) p _ c.look-before.ensures.view;
+      reading = starts site lock c.look-before.result _ p _ c.look-before.ensures.view (even_of _ c.if-before-eq1.false) refl refl c.requires.caller.1;
+    }
+
+pub glance-requires-clause-lock : goal.glance-requires-clause-lock
+glance-requires-clause-lock c =
+    let lock_is = c.bucket_at-lock.ensures.is ∙ ap (λ (g : Shape). bucket_at g c.args.segment c.args.bucket) c.requires.geometry in (
+      (c.args.segment, c.args.bucket, c.requires.place.0, c.requires.place.1, lock_is),
+      may_call c.args.seat.now.me.0.view c.loop-i.seat.me.0.view c.loop-i.invariant.reading.same_view c.requires.caller.0,
+    )
+
+pub loop-i-preserved : goal.loop-i-preserved
+loop-i-preserved c =
+    let lock = c.bucket_at-lock.result in
+    let site = ground_of c.args.image.now.key in
+    let i = c.loop-i.invariant in
+    let o = c.args.seat.now.me.0 in
+    let p = c.loop-i.seat.me.0 in
+    record {
+      table = c.glance.ensures.table;
+      past = ap (λ (w : Watch). w.past) c.glance.ensures.view.0 ∙ i.past;
+      took = next_load site lock c.loop-i.words c.loop-i.i c.glance.result (λ n. of_call (glances_word lock (lock + c.loop-i.i))) o p _ i.reading.whole (search rules) i.took c.glance.ensures.view;
+      reading = goes_on site o.view lock c.look-before.result c.loop-i.words c.loop-i.i c.glance.result p _ (search rules) (search rules) i.reading c.glance.ensures.view;
+    }
+
+pub validate-after-requires-clause-lock : goal.validate-after-requires-clause-lock
+validate-after-requires-clause-lock c =
+    let lock_is = c.bucket_at-lock.ensures.is ∙ ap (λ (g : Shape). bucket_at g c.args.segment c.args.bucket) c.requires.geometry in (
+      (c.args.segment, c.args.bucket, c.requires.place.0, c.requires.place.1, lock_is),
+      may_call c.args.seat.now.me.0.view c.loop-i.seat.me.0.view c.loop-i.invariant.reading.same_view c.requires.caller.0,
+    )
+
+pub returns-then-after-eq1-clause-view : goal.returns-then-after-eq1-clause-view
+returns-then-after-eq1-clause-view c =
+    let i = c.loop-i.invariant in
+    validated_view (ground_of c.args.image.now.key) c.args.seat.now.me.0.view c.bucket_at-lock.result c.validate-after.result c.loop-i.seat.me.0 _ c.validate-after.ensures.view i.reading.same_view c.requires.caller.1
+
+pub returns-then-after-eq1-clause-read : goal.returns-then-after-eq1-clause-read
+returns-then-after-eq1-clause-read c =
+    let lock = c.bucket_at-lock.result in
+    let lock_is = c.bucket_at-lock.ensures.is ∙ ap (λ (g : Shape). bucket_at g c.args.segment c.args.bucket) c.requires.geometry in
+    let site = ground_of c.args.image.now.key in
+    let p = c.loop-i.seat.me.0 in
+    says_there site lock _ c.args.seat.now.me.0 c.validate-after.new.seat.me.0 (Held c.validate-after.result) lock_is (
+      c.if-after-eq1.true,
+      found_at site c.args.seat.now.me.0.view lock c.validate-after.result (λ n. of_call (validates lock)) p _ c.loop-i.invariant.reading.same_view c.validate-after.ensures.view,
+      looked_last site lock c.validate-after.result (λ n. of_call (validates lock)) p _ c.validate-after.ensures.view,
+    )
+
+pub returns-then-after-before-clause-view : goal.returns-then-after-before-clause-view
+returns-then-after-before-clause-view c =
+    let i = c.loop-i.invariant in
+    validated_view (ground_of c.args.image.now.key) c.args.seat.now.me.0.view c.bucket_at-lock.result c.validate-after.result c.loop-i.seat.me.0 _ c.validate-after.ensures.view i.reading.same_view c.requires.caller.1
+
+pub returns-then-after-before-clause-read : goal.returns-then-after-before-clause-read
+returns-then-after-before-clause-read c =
+    let lock = c.bucket_at-lock.result in
+    let lock_is = c.bucket_at-lock.ensures.is ∙ ap (λ (g : Shape). bucket_at g c.args.segment c.args.bucket) c.requires.geometry in
+    let site = ground_of c.args.image.now.key in
+    let i = c.loop-i.invariant in
+    let o = c.args.seat.now.me.0 in
+    let p = c.loop-i.seat.me.0 in
+    says_there site lock _ o c.validate-after.new.seat.me.0 (Clean (c.look-before.result / 2) c.loop-i.words) lock_is (
+      clean site o.view lock c.look-before.result c.validate-after.result c.loop-i.words c.loop-i.i p _ i.reading (search rules) c.validate-after.ensures.view (search rules),
+      last_load site lock c.look-before.result c.validate-after.result c.loop-i.words c.loop-i.i (λ n. of_call (validates lock)) o p _ (search rules) (search rules) i.reading.even i.took c.validate-after.ensures.view,
+    )
+
+pub returns-else-after-before-clause-view : goal.returns-else-after-before-clause-view
+returns-else-after-before-clause-view c =
+    let i = c.loop-i.invariant in
+    validated_view (ground_of c.args.image.now.key) c.args.seat.now.me.0.view c.bucket_at-lock.result c.validate-after.result c.loop-i.seat.me.0 _ c.validate-after.ensures.view i.reading.same_view c.requires.caller.1
+
+pub returns-else-after-before-clause-read : goal.returns-else-after-before-clause-read
+returns-else-after-before-clause-read c =
+    let lock = c.bucket_at-lock.result in
+    let lock_is = c.bucket_at-lock.ensures.is ∙ ap (λ (g : Shape). bucket_at g c.args.segment c.args.bucket) c.requires.geometry in
+    let site = ground_of c.args.image.now.key in
+    let r = c.loop-i.invariant.reading in
+    let p = c.loop-i.seat.me.0 in
+    says_there site lock _ c.args.seat.now.me.0 c.validate-after.new.seat.me.0 (Moved c.look-before.result c.validate-after.result) lock_is (
+      (λ e. c.if-after-before.false (sym e)),
+      r.even,
+      even_of c.validate-after.result c.if-after-eq1.false,
+      r.found,
+      found_at site c.args.seat.now.me.0.view lock c.validate-after.result (λ n. of_call (validates lock)) p _ r.same_view c.validate-after.ensures.view,
+      looked_last site lock c.validate-after.result (λ n. of_call (validates lock)) p _ c.validate-after.ensures.view,
+    )

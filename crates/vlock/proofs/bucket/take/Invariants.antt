@@ -1,0 +1,9 @@
+use Rattle.std.proofs.Common.{◌+◌}
+use Rattle.op_core.specs.declared.want.Want.TheVariants.{Exchange}
+use Rattle.world.specs.Kinds.{tries}
+use Rattle.world.specs.StepKinds.{of_call}
+use Rattle.vlock.specs.Ruling.{ground_of}
+use Rattle.vlock.proofs.bucket.take.Given as goal
+
+abbrev pub ghosts-event : goal.ghosts-event
+ghosts-event a = record { ground = ground_of a.image.now.key; want = Exchange a.about.now.0 a.about.now.1 (a.about.now.1 + 1); kind = λ n. of_call (tries a.about.now.0 a.about.now.1) }

@@ -1,0 +1,40 @@
+use Rattle.std.proofs.Common.{sym, subst, arith}
+use Rattle.world.specs.Views.{View}
+use Rattle.world.specs.Kinds.{meets_lock}
+use Rattle.world.specs.StepKinds.{of_call}
+use Rattle.world.specs.Conditions.{IsKnownLock}
+use Rattle.vlock.specs.Ruling.{ground_of}
+use Rattle.vlock.specs.Buckets.{MayCall, LockSays, WasAt}
+use Rattle.vlock.proofs.Noting.{even_of, was_at, met_leaves, met_spent}
+use Rattle.vlock.proofs.bucket.try_lock.Goals as goal
+
+pub take-requires-clause-lock : goal.take-requires-clause-lock
+take-requires-clause-lock c =
+    let e = met_leaves (ground_of c.args.image.now.key) c.args.lock c.meet-free.result c.args.seat.now.me.0 _ c.meet-free.ensures.view c.if-free.false in
+    subst (λ (v : View). IsKnownLock (ground_of c.args.image.now.key) v c.args.lock × MayCall v) (sym e) c.requires.lock
+
+pub take-requires-clause-free : goal.take-requires-clause-free
+take-requires-clause-free c =
+    let e = met_leaves (ground_of c.args.image.now.key) c.args.lock c.meet-free.result c.args.seat.now.me.0 _ c.meet-free.ensures.view c.if-free.false in
+    let was = was_at (ground_of c.args.image.now.key) c.args.lock c.meet-free.result (λ n. of_call (meets_lock c.args.lock)) c.args.seat.now.me.0 _ c.meet-free.ensures.view in
+    (even_of c.meet-free.result c.if-free-eq1.false, c.if-free.false, subst (λ (v : View). WasAt (ground_of c.args.image.now.key) v c.args.lock c.meet-free.result) (sym e) was)
+
+pub returns-then-free-eq1-clause-lock : goal.returns-then-free-eq1-clause-lock
+returns-then-free-eq1-clause-lock c =
+    let odd = c.if-free-eq1.true in (
+      met_leaves (ground_of c.args.image.now.key) c.args.lock c.meet-free.result c.args.seat.now.me.0 _ c.meet-free.ensures.view (λ e. (omega (arith, e, odd))),
+      odd,
+      was_at (ground_of c.args.image.now.key) c.args.lock c.meet-free.result (λ n. of_call (meets_lock c.args.lock)) c.args.seat.now.me.0 _ c.meet-free.ensures.view,
+    )
+
+pub returns-then-free-clause-lock : goal.returns-then-free-clause-lock
+returns-then-free-clause-lock c = (
+  met_spent (ground_of c.args.image.now.key) c.args.lock c.meet-free.result c.args.seat.now.me.0 _ c.meet-free.ensures.view c.if-free.true,
+  subst (λ (n : _). WasAt (ground_of c.args.image.now.key) c.args.seat.now.me.0.view c.args.lock n) c.if-free.true
+      (was_at (ground_of c.args.image.now.key) c.args.lock c.meet-free.result (λ n. of_call (meets_lock c.args.lock)) c.args.seat.now.me.0 _ c.meet-free.ensures.view),
+)
+
+pub returns-else-free-clause-lock : goal.returns-else-free-clause-lock
+returns-else-free-clause-lock c =
+    let e = met_leaves (ground_of c.args.image.now.key) c.args.lock c.meet-free.result c.args.seat.now.me.0 _ c.meet-free.ensures.view c.if-free.false in
+    subst (λ (v : View). LockSays (ground_of c.args.image.now.key) c.args.lock v c.take.result c.take.new.seat.me.0.view) e c.take.ensures.lock

@@ -1,0 +1,40 @@
+-- How an image is opened, and what is known of it when all callers have ended.
+use Rattle.std.specs.Prelude.{◌≡◌, ℕ, ◌<◌, ◌≤◌, List, length, map}
+use Rattle.std.specs.FinMap.{get}
+use Rattle.map_model.specs.Map.{Map}
+use Rattle.map_model.specs.Weave.{weave}
+use Rattle.map_model.specs.Legal.{replay, IsLegal}
+use Rattle.trace.specs.Events.{Words}
+use Rattle.image_layout.specs.Places.{words_of}
+use Rattle.image_layout.specs.Volatile.{all_words_of}
+use Rattle.bucket_words.specs.Standing.{IsTable}
+use Rattle.world.specs.Claims.{HasSoundFrame}
+use Rattle.world.specs.Hits.{find}
+use Rattle.world.specs.Ground.{Ground, IsGround, IsStructured, IsCurrentIn}
+use Rattle.world.specs.Views.{View}
+use Rattle.world.specs.History.{Log, map_now}
+use Rattle.world.specs.Parts.{History}
+use Rattle.world.specs.areas.Beginning.{IsRepaired}
+use Rattle.vlock.specs.declared.table.Opening.{Opening}
+use Rattle.vlock.specs.Ruling.{word, ground_of}
+
+-- the words are those of an image as a restart leaves it: its structure is sound, it is a table, and each current segment is repaired; the
+-- words behind it are 0
+pub record IsOpened (key : Opening) : Type 0 where
+  pub words : length key.words.value.items ≡ all_words_of key.geometry
+  pub ground : IsGround (ground_of key)
+  pub sound : HasSoundFrame key.geometry (word key.words.value.items)
+  pub table : IsTable key.geometry (word key.words.value.items)
+  pub behind : (i : ℕ) → words_of key.geometry ≤ i → i < all_words_of key.geometry → word key.words.value.items i ≡ 0
+  pub repaired : (s : ℕ) → IsCurrentIn (ground_of key) (word key.words.value.items) s → IsRepaired (ground_of key) (word key.words.value.items) s
+
+-- these views have one history, and the words are a table with a sound structure that has what the history leaves
+pub record IsEnd (site : Ground) (words : Words) (views : List View) : Type 0 where
+  pub log : Log
+  pub history : History site words views log
+  pub structure : IsStructured site words
+  pub table : IsTable site.shape words
+  pub pairs : (k : ℕ) → find site.shape words k ≡ map_now site.start log k
+  -- and their replies are one legal history of a plain map, whose replay has what the table has
+  pub legal : (start : Map) → ((k : ℕ) → get start k ≡ site.start k) → IsLegal start (map (λ v. v.own) views)
+  pub replay_is : (start : Map) → ((k : ℕ) → get start k ≡ site.start k) → (k : ℕ) → get (replay start (weave (map (λ v. v.own) views))) k ≡ find site.shape words k

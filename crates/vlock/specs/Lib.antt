@@ -1,0 +1,5 @@
+pub mod Ruling
+pub mod Plays
+pub mod Seats
+pub mod Ends
+pub mod Buckets

@@ -1,0 +1,48 @@
+//! An image is opened for threads, and closed when all callers have ended.
+
+ghost use Rattle.std.specs.Prelude.{◌≡◌, [], ◌∷◌, IfOk, length};
+ghost use Rattle.vlock.specs.Ruling.{word, ground_of, first_of, OwesNothing};
+ghost use Rattle.vlock.specs.Plays.{IsSeatOf};
+ghost use Rattle.vlock.specs.Ends.{IsOpened, IsEnd};
+
+use crate::knows::Watch;
+use crate::table::{ImageSeat, Opening, Rule};
+use atomic_table::Table;
+use std::alloc::{AllocError, Global};
+
+/// An open image with its memory. Threads share its field `shared`.
+pub type OwnedImage = Table<u8, Watch, Opening, Rule, Global>;
+
+/// Opens an image over its words and those behind it, as a restart leaves them. The seat stands for all callers.
+///
+/// `Err`: there was no memory.
+pub fn open(
+    alloc: Global,
+    words: &[u64],
+    key: &Opening,
+) -> Result<(OwnedImage, ImageSeat), AllocError>
+    requires { (key.now.words.value.items ≡ words.now) × IsOpened key.now }
+    ensures table { IfOk result (λ t. t.0.shared.key ≡ key.now) }
+    ensures seat { IfOk result (λ t. IsSeatOf t.0.shared.table_id t.0.shared.key t.1 × (t.1.me ≡ (first_of key.now, []))) }
+{
+    Table::of_words(alloc, words, key)
+}
+
+/// Closes an image: `keeper` has taken in the seats of all other callers, and owes nothing. The words, those behind the
+/// image with them, come back in `room`, which has as many.
+///
+/// The replies of the passes that the keeper took in are in its views.
+pub fn close(table: OwnedImage, keeper: ImageSeat, mut room: Vec<u64>) -> Vec<u64>
+    requires seat { IsSeatOf table.shared.table_id table.shared.key keeper }
+    requires callers { keeper.me.0.view.callers ≡ table.shared.key.callers }
+    requires owes { OwesNothing keeper.me.0.view }
+    requires room { length room.items ≡ table.shared.table_id.words }
+    ensures { IsEnd (ground_of table.shared.key) (word result.items) (keeper.me.0.view ∷ keeper.me.0.past) }
+{
+    let closed = table.close_with(keeper);
+    for i in 0..room.len() {
+        room[i] = closed.word(i);
+    }
+    closed.free();
+    room
+}

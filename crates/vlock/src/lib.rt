@@ -1,0 +1,20 @@
+//! An image whose words many threads share: each event of a caller is one atomic step, and between any two steps the
+//! invariant of the world holds.
+//!
+//! `table` has the rule of the shared words, `knows` what a seat knows, `steps` the events, `seats` how seats are cut in
+//! two and joined, `bucket` how a bucket is read and locked, and `ends` how an image is opened and closed.
+#![tactic(auto)]
+
+mod bucket;
+mod ends;
+mod knows;
+mod seats;
+mod steps;
+mod table;
+
+pub use bucket::{LockReply, ReadReply, read_bucket, try_lock, unlock};
+pub use ends::{OwnedImage, close, open};
+pub use knows::Watch;
+pub use seats::{CutsNote, CutsPass, TakesIn, split_note, split_pass, take_in};
+pub use steps::{answer, event, step};
+pub use table::{Acting, Acts, Image, ImageSeat, Opening, Rule};
