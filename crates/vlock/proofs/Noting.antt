@@ -1,7 +1,7 @@
 -- What the loads of a bucket add up to, and what comes of trying a lock and of giving it back.
 use Rattle.std.proofs.Common.{◌≡◌, ◌≢◌, inl, inr, ℕ, zero, suc, ◌+◌, ◌-◌, ◌*◌, ◌/◌, ◌%◌, ◌^◌, ◌<◌, ◌≤◌, Bool, true, false, cond, Option, None, List, [], ◌∷◌, length, get_or, set, refl, sym, ap, ◌∙◌, subst, arith, length-set, get_or-set_other, get_or-set_same, eqb, slice_index, slice_set}
 use Rattle.std.proofs.lemmas.Bool.{eq-eqb, ne_eqb, cases_eq, eqb-true, eqb-false}
-use Rattle.std.specs.Prelude.{◌==◌}
+use Rattle.std.specs.Prelude.{◌==◌, ◌&&◌}
 use Rattle.op_core.specs.declared.want.Want.{Want}
 use Rattle.op_core.specs.declared.want.Want.TheVariants.{Load, Store, Exchange}
 use Rattle.op_core.specs.declared.want.Ans.{Ans}
@@ -11,10 +11,12 @@ use Rattle.world.specs.Views.{Glance, Answer, View, Has}
 use Rattle.world.specs.Kinds.{looks, glances_word, validates, meets_lock, peeks, unlocks, tries, with_look, with_lock, with_noted, with_spent, with_answer, all_again, marked}
 use Rattle.world.specs.StepKinds.{StepKind, of_call, view_by}
 use Rattle.vlock.specs.declared.knows.Watch.{Watch}
+use Rattle.vlock.specs.declared.bucket.LockReply.{LockReply}
 use Rattle.vlock.specs.declared.bucket.LockReply.TheVariants.{Locked}
+use Rattle.vlock.specs.declared.bucket.LockReply.TheVariants as locking
 use Rattle.vlock.specs.declared.bucket.ReadReply.{ReadReply}
 use Rattle.vlock.specs.Plays.{Met, MayDo, Tells, Answers, watched}
-use Rattle.vlock.specs.Buckets.{MayCall, Loads, IsBesideNotes, WasFound, WasBucket, WasAt, IsReading, with_loads, LookedLast, ReadSays, LockSays, MayUnlock, Unlocks}
+use Rattle.vlock.specs.Buckets.{MayCall, Loads, IsBesideNotes, WasFound, WasBucket, NotesBucket, WasAt, IsReading, with_loads, LookedOnce, ReadToItsEnd, ReadSays, LockSays, LockTook, TakeTook, MayUnlock, Unlocks}
 
 -- ---- a load
 number : Ans → ℕ
@@ -137,8 +139,16 @@ last_load site lock before after bits i kind o p q all same even so_far l =
     ∙ (ap (λ (events : List (Want × ℕ)). (Load lock, after) ∷ events) (so_far ∙ ap (λ (n : ℕ). with_loads lock bits n o.took) all)
     ∙ ap (λ (y : ℕ). (Load lock, y) ∷ with_loads lock bits 32 o.took) (omega (arith, same, even)))
 
-pub looked_last : (site : Ground) (lock x : ℕ) (kind : ℕ → StepKind) (p q : Watch) → Loads site lock kind p x q → LookedLast lock x q.took
-looked_last site lock x kind p q l = (p.took, ap (λ (w : Watch). w.took) l.0)
+pub read_to_its_end : (site : Ground) (lock before after : ℕ) (bits : List ℕ) (i : ℕ) (kind : ℕ → StepKind) (o p q : Watch) → i ≡ 32 → slice_index bits 0 ≡ before
+    → p.took ≡ with_loads lock bits i o.took → Loads site lock kind p after q → ReadToItsEnd lock before after o.took q.took
+read_to_its_end site lock before after bits i kind o p q all first so_far l = (
+  bits,
+  first,
+  ap (λ (w : Watch). w.took) l.0 ∙ ap (λ (events : List (Want × ℕ)). (Load lock, after) ∷ events) (so_far ∙ ap (λ (n : ℕ). with_loads lock bits n o.took) all),
+)
+
+pub looked_once : (site : Ground) (lock x : ℕ) (kind : ℕ → StepKind) (p q : Watch) → Loads site lock kind p x q → LookedOnce lock x p.took q.took
+looked_once site lock x kind p q l = ap (λ (w : Watch). w.took) l.0
 
 -- ---- a last look
 validated_leaves : (t : Bool) (o : Option Answer) (v : View) → o ≡ None → with_answer t o v ≡ v
@@ -168,6 +178,28 @@ clean site v lock before after bits i p q r all l same =
         | inr ne ↦ m.holds.notes.same m.seat p.view r.note (lock + j) (slice_index bits j) m.there has of_note (r.has j (let n = ne in omega (arith, n)) (omega (arith, low, all)))
       ];
     }
+
+-- the first note gets its mark by a look that finds the value that it has
+marked_first : (lock x : ℕ) (note : Glance) (rest : List Glance) → note.word ≡ lock → note.value ≡ x → marked lock x (note ∷ rest) ≡ record note { again = true } ∷ marked lock x rest
+marked_first lock x note rest word value =
+    ap (λ t. cond (t && (note.value == x)) (record note { again = true }) note ∷ marked lock x rest) (eq-eqb note.word lock word)
+    ∙ ap (λ t. cond t (record note { again = true }) note ∷ marked lock x rest) (eq-eqb note.value x value)
+
+pub notes_bucket : (site : Ground) (v : View) (lock before after : ℕ) (bits : List ℕ) (i : ℕ) (p q : Watch) → IsReading site v lock before bits i p.view → 32 ≤ i
+    → Loads site lock (λ n. of_call (validates lock)) p after q → after ≡ before → v.answer ≡ None → NotesBucket lock (before / 2) bits q.view
+notes_bucket site v lock before after bits i p q r all l same none =
+    let w : View = record p.view { notes = marked lock after p.view.notes } in
+    let view_is : q.view ≡ w =
+    ap (λ (z : Watch). z.view) l.0 ∙ validated_leaves (all_again w.notes) p.view.answer w (no_answer v p.view r.same_view none) in
+    let notes_are : q.view.notes ≡ record r.note { again = true } ∷ marked lock after r.rest =
+    ap (λ (z : View). z.notes) view_is ∙ (ap (λ (ns : List Glance). marked lock after ns) r.notes ∙ marked_first lock after r.note r.rest r.lock_is (r.value ∙ sym same)) in (
+      record r.note { again = true },
+      subst (λ (ns : List Glance). Has (record r.note { again = true }) ns) (sym notes_are) (inl refl),
+      r.lock_is,
+      r.value ∙ (let e = r.even in omega (arith, e)),
+      refl,
+      λ j lower upper. r.has j lower (omega (arith, upper, all)),
+    )
 
 -- what is said of a lock word is so by any of its names
 pub says_there : (site : Ground) (lock there : ℕ) (p q : Watch) (reply : ReadReply) → lock ≡ there → ReadSays site lock p reply q → ReadSays site there p reply q
@@ -221,6 +253,32 @@ lost site lock free seen p q a =
     let other : a.0 ≢ free = eqb-false a.0 free b.0 in
     (ap (λ (w : Watch). w.view) a.2.0 ∙ lost_view site lock free a.0 p.view other, (λ e. other (b.1 ∙ sym e)), (a.2.1.0, a.2.1.2 ∙ b.1))
 
+-- the events that an exchange was
+pub won_took : (site : Ground) (lock free : ℕ) (p q : Watch) → free % 2 ≡ 0 → Tried site lock free p Won q → TakeTook lock free p.took (Locked (free / 2)) q.took
+won_took site lock free p q even a =
+    let same : a.0 ≡ free = eqb-true a.0 free (won_by (eqb a.0 free) a.0 a.1) in
+    (omega (arith, even), ap (λ (w : Watch). w.took) a.2.0 ∙ ap (λ (n : ℕ). (Exchange lock free (free + 1), n) ∷ p.took) same)
+
+pub lost_took : (site : Ground) (lock free seen : ℕ) (p q : Watch) → Tried site lock free p (Lost seen) q → q.took ≡ (Exchange lock free (free + 1), seen) ∷ p.took
+lost_took site lock free seen p q a =
+    let b = lost_by (eqb a.0 free) seen a.0 a.1 in
+    ap (λ (w : Watch). w.took) a.2.0 ∙ ap (λ (n : ℕ). (Exchange lock free (free + 1), n) ∷ p.took) b.1
+
+-- and with the look before it
+pub took_behind : (lock free : ℕ) (reply : LockReply) (took seen later : List (Want × ℕ)) → free % 2 ≡ 0 → seen ≡ (Load lock, free) ∷ took → TakeTook lock free seen reply later
+    → LockTook lock took reply later
+took_behind lock free (locking.Locked version) took seen later even is t =
+    t.1
+    ∙ (ap (λ (events : List (Want × ℕ)). (Exchange lock free (free + 1), free) ∷ events) is
+    ∙ ap (λ (n : ℕ). (Exchange lock n (n + 1), n) ∷ (Load lock, n) ∷ took) t.0)
+took_behind lock free (locking.Held x) took seen later even is t =
+    inr (free, even, t ∙ ap (λ (events : List (Want × ℕ)). (Exchange lock free (free + 1), x) ∷ events) is)
+took_behind lock free (locking.Moved before after) took seen later even is t =
+    t.1
+    ∙ (ap (λ (events : List (Want × ℕ)). (Exchange lock free (free + 1), after) ∷ events) is
+    ∙ ap (λ (n : ℕ). (Exchange lock n (n + 1), after) ∷ (Load lock, n) ∷ took) (sym t.0))
+took_behind lock free locking.Spent took seen later even is t = absurd t
+
 -- ---- giving it back
 -- what a lock word that is held was found to be
 held_is : (site : Ground) (lock x found : ℕ) (p : Watch) → Has (lock, x) p.view.held → Met site (Load lock) p.view found → found ≡ x
@@ -248,4 +306,5 @@ given site lock found p q r ans m l a =
     ∙ (ap (λ (n : ℕ). watched site.shape (Store lock (n + 1)) (of_call (unlocks lock (n + 1))) m.value q) same
     ∙ (ap (λ (w : Watch). watched site.shape (Store lock (m.value + 1)) (of_call (unlocks lock (m.value + 1))) m.value w) l.0
     ∙ ap (λ (n : ℕ). watched site.shape (Store lock (m.value + 1)) (of_call (unlocks lock (m.value + 1))) m.value (watched site.shape (Load lock) (of_call (peeks lock)) n p)) same))) in
-    (m.value, m.held, (ap (λ (w : Watch). w.view) after, ap (λ (w : Watch). w.past) after, ap (λ (w : Watch). w.took) after))
+    let odd = (l.1.0.holds.locks.locked l.1.0.seat p.view lock m.value l.1.0.there m.held).2 in
+    (m.value, m.held, (odd, ap (λ (w : Watch). w.view) after, ap (λ (w : Watch). w.past) after, ap (λ (w : Watch). w.took) after))

@@ -1,7 +1,7 @@
 -- What reading, locking and unlocking a bucket ask and tell.
-use Rattle.std.specs.Prelude.{◌≡◌, ◌≢◌, ℕ, zero, suc, ◌+◌, ◌*◌, ◌%◌, ◌^◌, ◌-◌, ◌<◌, ◌≤◌, List, [], ◌∷◌, slice_index, length}
+use Rattle.std.specs.Prelude.{◌≡◌, ◌≢◌, ◌⊎◌, true, ℕ, zero, suc, ◌+◌, ◌*◌, ◌%◌, ◌^◌, ◌-◌, ◌<◌, ◌≤◌, List, [], ◌∷◌, slice_index, length}
 use Rattle.op_core.specs.declared.want.Want.{Want}
-use Rattle.op_core.specs.declared.want.Want.TheVariants.{Load, Store}
+use Rattle.op_core.specs.declared.want.Want.TheVariants.{Load, Store, Exchange}
 use Rattle.world.specs.Ground.{Ground}
 use Rattle.world.specs.Views.{Glance, View, Has, IsFirm}
 use Rattle.world.specs.Kinds.{unlocks}
@@ -44,17 +44,32 @@ abbrev pub with_loads : ℕ → List ℕ → ℕ → List (Want × ℕ) → List
 with_loads lock bits zero took = took
 with_loads lock bits (suc n) took = (Load (lock + n), slice_index bits n) ∷ with_loads lock bits n took
 
--- the last event was a look at the lock word, and found this
-abbrev pub LookedLast : ℕ → ℕ → List (Want × ℕ) → Type 0
-LookedLast lock x took = (rest : List (Want × ℕ)) × (took ≡ (Load lock, x) ∷ rest)
+-- one event more was taken, a look at the lock word, and it found this
+abbrev pub LookedOnce : ℕ → ℕ → List (Want × ℕ) → List (Want × ℕ) → Type 0
+LookedOnce lock x took later = later ≡ (Load lock, x) ∷ took
+
+-- the 32 words of the bucket were loaded, of which the lock word was the first and found to be `before`, and then the lock word once more, and found to
+-- be `after`
+abbrev pub ReadToItsEnd : ℕ → ℕ → ℕ → List (Want × ℕ) → List (Want × ℕ) → Type 0
+ReadToItsEnd lock before after took later = (bits : List ℕ) × (slice_index bits 0 ≡ before) × (later ≡ (Load lock, after) ∷ with_loads lock bits 32 took)
+
+-- the view notes that the bucket was read, with its words, and that its lock word was the same behind them
+abbrev pub NotesBucket : ℕ → ℕ → List ℕ → View → Type 0
+NotesBucket lock version bits v =
+    (note : Glance) × Has note v.notes × (note.word ≡ lock) × (note.value ≡ 2 * version) × (note.again ≡ true)
+    × ((j : ℕ) → 1 ≤ j → j < 32 → Has (lock + j, slice_index bits j) note.words)
 
 -- WHAT READING A BUCKET TELLS, of what the seat knew before and knows after: where the bucket is clean, its 32 words were loaded, and then the
 -- lock word once more
 abbrev pub ReadSays : Ground → ℕ → Watch → ReadReply → Watch → Type 0
-ReadSays site lock p (Clean version bits) q = WasBucket site p.view lock version bits × (q.took ≡ (Load lock, 2 * version) ∷ with_loads lock bits 32 p.took)
+ReadSays site lock p (Clean version bits) q =
+    WasBucket site p.view lock version bits × (q.took ≡ (Load lock, 2 * version) ∷ with_loads lock bits 32 p.took) × NotesBucket lock version bits q.view
 ReadSays site lock p (Moved before after) q =
-    (before ≢ after) × (before % 2 ≡ 0) × (after % 2 ≡ 0) × WasFound site p.view lock before × WasFound site p.view lock after × LookedLast lock after q.took
-ReadSays site lock p (Held seen) q = (seen % 2 ≡ 1) × WasFound site p.view lock seen × LookedLast lock seen q.took
+    (before ≢ after) × (before % 2 ≡ 0) × (after % 2 ≡ 0) × WasFound site p.view lock before × WasFound site p.view lock after
+    × ReadToItsEnd lock before after p.took q.took
+ReadSays site lock p (Held seen) q =
+    (seen % 2 ≡ 1) × WasFound site p.view lock seen
+    × (LookedOnce lock seen p.took q.took ⊎ ((before : ℕ) × (before % 2 ≡ 0) × ReadToItsEnd lock before seen p.took q.took))
 
 -- at a moment that met the invariant, with this view there, the word was this
 abbrev pub WasAt : Ground → View → ℕ → ℕ → Type 0
@@ -83,6 +98,21 @@ LockSays site lock v (locking.Moved before after) w =
     (w ≡ v) × (before ≢ after) × (before % 2 ≡ 0) × (after % 2 ≡ 0) × WasAt site v lock before × WasAt site v lock after
 LockSays site lock v locking.Spent w = (w ≡ record v { spent_locks = lock ∷ v.spent_locks }) × WasAt site v lock (2 ^ 64 - 2)
 
+-- WHICH EVENTS A TRY TAKES: a look at the lock word, and where that is free and not of the last version one exchange
+abbrev pub LockTook : ℕ → List (Want × ℕ) → LockReply → List (Want × ℕ) → Type 0
+LockTook lock took (locking.Locked version) later = later ≡ (Exchange lock (2 * version) (2 * version + 1), 2 * version) ∷ (Load lock, 2 * version) ∷ took
+LockTook lock took (locking.Held seen) later =
+    (later ≡ (Load lock, seen) ∷ took) ⊎ ((free : ℕ) × (free % 2 ≡ 0) × (later ≡ (Exchange lock free (free + 1), seen) ∷ (Load lock, free) ∷ took))
+LockTook lock took (locking.Moved before after) later = later ≡ (Exchange lock before (before + 1), after) ∷ (Load lock, before) ∷ took
+LockTook lock took locking.Spent later = later ≡ (Load lock, 2 ^ 64 - 2) ∷ took
+
+-- the same of the exchange alone, of a word that was found to be `free`
+abbrev pub TakeTook : ℕ → ℕ → List (Want × ℕ) → LockReply → List (Want × ℕ) → Type 0
+TakeTook lock free took (locking.Locked version) later = (free ≡ 2 * version) × (later ≡ (Exchange lock free (free + 1), free) ∷ took)
+TakeTook lock free took (locking.Held seen) later = later ≡ (Exchange lock free (free + 1), seen) ∷ took
+TakeTook lock free took (locking.Moved before after) later = (before ≡ free) × (later ≡ (Exchange lock free (free + 1), after) ∷ took)
+TakeTook lock free took locking.Spent later = ⊥
+
 -- WHAT UNLOCKING ASKS: the view holds the lock, no word under it is unsettled, and nothing is planned, under way or owed
 pub record MayUnlock (v : View) (lock : ℕ) : Type 0 where
   pub value : ℕ
@@ -93,7 +123,7 @@ pub record MayUnlock (v : View) (lock : ℕ) : Type 0 where
   pub moving : v.moving ≡ []
   pub owed : v.owed ≡ []
 
--- and what it tells: with the number that the view held the lock with, it looked at the lock and then stored the next one, with which the lock is held no more
+-- and what it tells: with the number that the view held the lock with, an odd one, it looked at the lock and then stored the next one, with which the lock is held no more
 abbrev pub Unlocks : Ground → ℕ → ℕ → Watch → Watch → Type 0
 Unlocks site lock x p q =
-    (q.view ≡ view_by site.shape (of_call (unlocks lock (x + 1))) x p.view) × (q.past ≡ p.past) × (q.took ≡ (Store lock (x + 1), x) ∷ (Load lock, x) ∷ p.took)
+    (x % 2 ≡ 1) × (q.view ≡ view_by site.shape (of_call (unlocks lock (x + 1))) x p.view) × (q.past ≡ p.past) × (q.took ≡ (Store lock (x + 1), x) ∷ (Load lock, x) ∷ p.took)

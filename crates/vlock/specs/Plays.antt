@@ -27,7 +27,7 @@ pub record IsWhole (z : TableId) (key : Opening) : Type 0 where
 abbrev pub IsSeatOf : TableId → Opening → Seat ℕ Watch → Type 0
 IsSeatOf z key seat = (seat.table_id ≡ z) × IsWhole z key × (seat.me.1 ≡ [])
 
--- some words and views meet the invariant, with this view among them
+-- words and views that meet the invariant, with this view among them; that some table had them is not said
 pub record Moment (site : Ground) (v : View) : Type 0 where
   pub words : Words
   pub views : List View

@@ -12,7 +12,7 @@ ghost use Rattle.world.specs.Conditions.{IsKnownLock};
 ghost use Rattle.world.specs.StepKinds.{of_call};
 ghost use Rattle.vlock.specs.Ruling.{ground_of};
 ghost use Rattle.vlock.specs.Plays.{IsSeatOf, MayDo};
-ghost use Rattle.vlock.specs.Buckets.{MayCall, Loads, IsBesideNotes, ReadSays, LockSays, WasAt, MayUnlock, Unlocks};
+ghost use Rattle.vlock.specs.Buckets.{MayCall, Loads, IsBesideNotes, ReadSays, LockSays, LockTook, TakeTook, WasAt, MayUnlock, Unlocks};
 
 use crate::steps::event;
 use crate::table::{Acting, Image, ImageSeat};
@@ -38,13 +38,14 @@ pub enum LockReply {
     Locked { version: u64 },
     /// The lock was held, with this value of its word.
     Held { seen: u64 },
-    /// The lock was free with another value of its word, the second, when it was to be taken.
+    /// The lock was found free with the first value of its word, and the exchange found it free with the second.
     Moved { before: u64, after: u64 },
     /// The lock was free with the last version, so nobody takes it any more.
     Spent,
 }
 
-/// A load, as one step.
+/// A load, as one step. The looks below differ in the kind of their step alone, that is in why they are made: what a seat
+/// knows behind them is another thing each time.
 fn load<N: Acting, E>(
     image: &Image,
     geometry: &Geometry,
@@ -123,7 +124,8 @@ fn peek(image: &Image, geometry: &Geometry, seat: &mut ImageSeat, lock: u64) -> 
 }
 
 /// Reads bucket `bucket`, 0 to 65 with the stash buckets, of the segment in slot `segment`, which the seat knows to be live
-/// and of the image's version. It looks at the lock word, loads the 31 words behind it, and looks at the lock word again.
+/// and of the image's version. It looks at the lock word, and where the lock is free it loads the 31 words behind it and
+/// looks at the lock word again.
 pub fn read_bucket(
     image: &Image,
     geometry: &Geometry,
@@ -171,6 +173,7 @@ fn take(image: &Image, geometry: &Geometry, seat: &mut ImageSeat, lock: u64, fre
     ensures table { IsSeatOf image.now.table_id image.now.key seat.new }
     ensures past { seat.new.me.0.past ≡ seat.old.me.0.past }
     ensures lock { LockSays (ground_of image.now.key) lock seat.old.me.0.view result seat.new.me.0.view }
+    ensures events { TakeTook lock free seat.old.me.0.took result seat.new.me.0.took }
 {
     let want = Want::Exchange(lock, free, free + 1);
     match event::<Brand, (u64, u64)>(image, geometry, seat, want, &(lock, free)) {
@@ -190,7 +193,7 @@ fn take(image: &Image, geometry: &Geometry, seat: &mut ImageSeat, lock: u64, fre
 }
 
 /// Tries to take the lock whose word is `lock`, of a bucket of a segment that the seat knows to be live and of the image's
-/// version: it looks at the word, and where the lock is free it exchanges the word once.
+/// version: it looks at the word, and where the lock is free, and not of the last version, it tries one exchange.
 pub fn try_lock(image: &Image, geometry: &Geometry, seat: &mut ImageSeat, lock: u64) -> LockReply
     requires table { IsSeatOf image.now.table_id image.now.key seat.old }
     requires geometry { geometry.now ≡ image.now.key.geometry }
@@ -198,6 +201,7 @@ pub fn try_lock(image: &Image, geometry: &Geometry, seat: &mut ImageSeat, lock: 
     ensures table { IsSeatOf image.now.table_id image.now.key seat.new }
     ensures past { seat.new.me.0.past ≡ seat.old.me.0.past }
     ensures lock { LockSays (ground_of image.now.key) lock seat.old.me.0.view result seat.new.me.0.view }
+    ensures events { LockTook lock seat.old.me.0.took result seat.new.me.0.took }
 {
     let free = meet(image, geometry, seat, lock);
     if free % 2 == 1 {

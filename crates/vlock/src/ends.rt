@@ -13,7 +13,8 @@ use std::alloc::{AllocError, Global};
 /// An open image with its memory. Threads share its field `shared`.
 pub type OwnedImage = Table<u8, Watch, Opening, Rule, Global>;
 
-/// Opens an image over its words and those behind it, as a restart leaves them. The seat stands for all callers.
+/// Opens an image over its words and those behind it, as a restart leaves them. The seat stands for all callers. Which
+/// words lie in the table is said by its rule alone.
 ///
 /// `Err`: there was no memory.
 pub fn open(
@@ -37,7 +38,8 @@ pub fn close(table: OwnedImage, keeper: ImageSeat, mut room: Vec<u64>) -> Vec<u6
     requires callers { keeper.me.0.view.callers ≡ table.shared.key.callers }
     requires owes { OwesNothing keeper.me.0.view }
     requires room { length room.items ≡ table.shared.table_id.words }
-    ensures { IsEnd (ground_of table.shared.key) (word result.items) (keeper.me.0.view ∷ keeper.me.0.past) }
+    ensures length { length result.items ≡ table.shared.table_id.words }
+    ensures end { IsEnd (ground_of table.shared.key) (word result.items) (keeper.me.0.view ∷ keeper.me.0.past) }
 {
     let closed = table.close_with(keeper);
     for i in 0..room.len() {

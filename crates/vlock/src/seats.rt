@@ -41,7 +41,8 @@ impl Join<Watch> for TakesIn {
     ghost spent = { spent_watch };
 }
 
-/// Cuts a pass off: a seat for one caller, which has seen what the other has seen, and holds nothing.
+/// Cuts a pass off: a seat for one caller, which has seen what the other has seen, and holds nothing. Behind it a seat has
+/// to look at the commit counter again before it draws a place.
 pub fn split_pass(image: &Image, seat: &mut ImageSeat) -> ImageSeat
     requires table { IsSeatOf image.now.table_id image.now.key seat.old }
     requires callers { 1 < seat.old.me.0.view.callers }
@@ -52,7 +53,9 @@ pub fn split_pass(image: &Image, seat: &mut ImageSeat) -> ImageSeat
     image.split_seat::<CutsPass>(seat)
 }
 
-/// Cuts a note off: a seat that has seen what the other has seen, and stands for nobody, so that it takes no event.
+/// Cuts a note off: a seat that has seen what the other has seen, and stands for nobody, so that it takes no event. Who takes
+/// it in replies at no earlier place than this one had seen. Behind it a seat has to look at the commit counter again
+/// before it draws a place.
 pub fn split_note(image: &Image, seat: &mut ImageSeat) -> ImageSeat
     requires table { IsSeatOf image.now.table_id image.now.key seat.old }
     ensures table { IsSeatOf image.now.table_id image.now.key seat.new }
@@ -63,7 +66,7 @@ pub fn split_note(image: &Image, seat: &mut ImageSeat) -> ImageSeat
 }
 
 /// Takes in a pass or a note: its caller has seen, holds, knows and owes from then on what both did. The replies of the
-/// pass stay with it, as a view that the seat took in.
+/// pass stay with it, as a view that the seat took in; what was noted is forgotten, and the other's events are not kept.
 pub fn take_in(image: &Image, seat: &mut ImageSeat, other: ImageSeat)
     requires table { IsSeatOf image.now.table_id image.now.key seat.old }
     requires other { IsSeatOf image.now.table_id image.now.key other }

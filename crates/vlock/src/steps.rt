@@ -13,7 +13,7 @@ use op_core::{Ans, Want};
 
 /// One event, as one atomic step. It gives the value that its word was found to have.
 ///
-/// `about` says nothing at run time: the numbers in it are what the ghosts of `N` are made from. A flush is a load of the
+/// `about` is not read: at a call with `Brand` the ghosts of `N` are made from the numbers in it. A flush is a load of the
 /// first word of its line, and a fence one of the commit counter.
 pub fn step<N: Acting, E>(
     image: &Image,

@@ -11,7 +11,7 @@ use std::snapshot::Snapshot;
 pub struct Opening {
     /// The three numbers that say where each part of the image stands.
     pub geometry: Geometry,
-    /// All words as they were then, those behind the image with them.
+    /// All words as they were then, those behind the image with them: the words that are given to `open`.
     pub words: Snapshot<Vec<u64>>,
     /// How many callers there are together.
     pub callers: u64,
@@ -43,6 +43,7 @@ pub trait Acting {
     ghost kind: { ℕ → StepKind };
 }
 
+/// The mark of a call that picks its own: what stands here is never used.
 impl Acting for Brand {
     ghost use Rattle.std.specs.Prelude.{None};
     ghost use Rattle.op_core.specs.declared.want.Want.TheVariants.{Fence};

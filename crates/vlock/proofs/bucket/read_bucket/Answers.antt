@@ -1,11 +1,11 @@
-use Rattle.std.proofs.Common.{rules, ◌+◌, ◌/◌, ◌∙◌, sym, ap, refl}
+use Rattle.std.proofs.Common.{rules, inl, inr, ◌+◌, ◌/◌, ◌∙◌, sym, ap, refl}
 use Rattle.image_layout.specs.Places.{Shape, bucket_at}
 use Rattle.world.specs.Kinds.{looks, glances_word, validates}
 use Rattle.world.specs.StepKinds.{of_call}
 use Rattle.vlock.specs.declared.knows.Watch.{Watch}
 use Rattle.vlock.specs.declared.bucket.ReadReply.TheVariants.{Clean, Moved, Held}
 use Rattle.vlock.specs.Ruling.{ground_of}
-use Rattle.vlock.proofs.Noting.{even_of, found_at, says_there, looked, starts, goes_on, clean, may_call, validated_view, first_load, next_load, last_load, looked_last}
+use Rattle.vlock.proofs.Noting.{even_of, found_at, says_there, looked, starts, goes_on, clean, notes_bucket, may_call, validated_view, first_load, next_load, last_load, looked_once, read_to_its_end}
 use Rattle.vlock.proofs.bucket.read_bucket.Goals as goal
 
 pub returns-then-before-eq1-clause-view : goal.returns-then-before-eq1-clause-view
@@ -20,7 +20,7 @@ returns-then-before-eq1-clause-read c =
     says_there site lock _ p c.look-before.new.seat.me.0 (Held c.look-before.result) lock_is (
       c.if-before-eq1.true,
       found_at site p.view lock c.look-before.result (λ n. of_call (looks lock)) p _ refl c.look-before.ensures.view,
-      looked_last site lock c.look-before.result (λ n. of_call (looks lock)) p _ c.look-before.ensures.view,
+      inl (looked_once site lock c.look-before.result (λ n. of_call (looks lock)) p _ c.look-before.ensures.view),
     )
 
 pub loop-i-init : goal.loop-i-init
@@ -73,11 +73,17 @@ returns-then-after-eq1-clause-read c =
     let lock = c.bucket_at-lock.result in
     let lock_is = c.bucket_at-lock.ensures.is ∙ ap (λ (g : Shape). bucket_at g c.args.segment c.args.bucket) c.requires.geometry in
     let site = ground_of c.args.image.now.key in
+    let i = c.loop-i.invariant in
+    let o = c.args.seat.now.me.0 in
     let p = c.loop-i.seat.me.0 in
-    says_there site lock _ c.args.seat.now.me.0 c.validate-after.new.seat.me.0 (Held c.validate-after.result) lock_is (
+    says_there site lock _ o c.validate-after.new.seat.me.0 (Held c.validate-after.result) lock_is (
       c.if-after-eq1.true,
-      found_at site c.args.seat.now.me.0.view lock c.validate-after.result (λ n. of_call (validates lock)) p _ c.loop-i.invariant.reading.same_view c.validate-after.ensures.view,
-      looked_last site lock c.validate-after.result (λ n. of_call (validates lock)) p _ c.validate-after.ensures.view,
+      found_at site o.view lock c.validate-after.result (λ n. of_call (validates lock)) p _ i.reading.same_view c.validate-after.ensures.view,
+      inr (
+        c.look-before.result,
+        i.reading.even,
+        read_to_its_end site lock c.look-before.result c.validate-after.result c.loop-i.words c.loop-i.i (λ n. of_call (validates lock)) o p _ (search rules) i.reading.first i.took c.validate-after.ensures.view,
+      ),
     )
 
 pub returns-then-after-before-clause-view : goal.returns-then-after-before-clause-view
@@ -96,6 +102,7 @@ returns-then-after-before-clause-read c =
     says_there site lock _ o c.validate-after.new.seat.me.0 (Clean (c.look-before.result / 2) c.loop-i.words) lock_is (
       clean site o.view lock c.look-before.result c.validate-after.result c.loop-i.words c.loop-i.i p _ i.reading (search rules) c.validate-after.ensures.view (search rules),
       last_load site lock c.look-before.result c.validate-after.result c.loop-i.words c.loop-i.i (λ n. of_call (validates lock)) o p _ (search rules) (search rules) i.reading.even i.took c.validate-after.ensures.view,
+      notes_bucket site o.view lock c.look-before.result c.validate-after.result c.loop-i.words c.loop-i.i p _ i.reading (search rules) c.validate-after.ensures.view (search rules) c.requires.caller.1,
     )
 
 pub returns-else-after-before-clause-view : goal.returns-else-after-before-clause-view
@@ -108,13 +115,15 @@ returns-else-after-before-clause-read c =
     let lock = c.bucket_at-lock.result in
     let lock_is = c.bucket_at-lock.ensures.is ∙ ap (λ (g : Shape). bucket_at g c.args.segment c.args.bucket) c.requires.geometry in
     let site = ground_of c.args.image.now.key in
-    let r = c.loop-i.invariant.reading in
+    let i = c.loop-i.invariant in
+    let r = i.reading in
+    let o = c.args.seat.now.me.0 in
     let p = c.loop-i.seat.me.0 in
-    says_there site lock _ c.args.seat.now.me.0 c.validate-after.new.seat.me.0 (Moved c.look-before.result c.validate-after.result) lock_is (
+    says_there site lock _ o c.validate-after.new.seat.me.0 (Moved c.look-before.result c.validate-after.result) lock_is (
       (λ e. c.if-after-before.false (sym e)),
       r.even,
       even_of c.validate-after.result c.if-after-eq1.false,
       r.found,
-      found_at site c.args.seat.now.me.0.view lock c.validate-after.result (λ n. of_call (validates lock)) p _ r.same_view c.validate-after.ensures.view,
-      looked_last site lock c.validate-after.result (λ n. of_call (validates lock)) p _ c.validate-after.ensures.view,
+      found_at site o.view lock c.validate-after.result (λ n. of_call (validates lock)) p _ r.same_view c.validate-after.ensures.view,
+      read_to_its_end site lock c.look-before.result c.validate-after.result c.loop-i.words c.loop-i.i (λ n. of_call (validates lock)) o p _ (search rules) r.first i.took c.validate-after.ensures.view,
     )

@@ -1,11 +1,12 @@
-use Rattle.std.proofs.Common.{sym, subst, arith}
+use Rattle.std.proofs.Common.{sym, subst, arith, inl, ◌∙◌, ap, ℕ, ◌∷◌}
+use Rattle.op_core.specs.declared.want.Want.TheVariants.{Load}
 use Rattle.world.specs.Views.{View}
 use Rattle.world.specs.Kinds.{meets_lock}
 use Rattle.world.specs.StepKinds.{of_call}
 use Rattle.world.specs.Conditions.{IsKnownLock}
 use Rattle.vlock.specs.Ruling.{ground_of}
 use Rattle.vlock.specs.Buckets.{MayCall, LockSays, WasAt}
-use Rattle.vlock.proofs.Noting.{even_of, was_at, met_leaves, met_spent}
+use Rattle.vlock.proofs.Noting.{even_of, was_at, met_leaves, met_spent, looked_once, took_behind}
 use Rattle.vlock.proofs.bucket.try_lock.Goals as goal
 
 pub take-requires-clause-lock : goal.take-requires-clause-lock
@@ -38,3 +39,17 @@ pub returns-else-free-clause-lock : goal.returns-else-free-clause-lock
 returns-else-free-clause-lock c =
     let e = met_leaves (ground_of c.args.image.now.key) c.args.lock c.meet-free.result c.args.seat.now.me.0 _ c.meet-free.ensures.view c.if-free.false in
     subst (λ (v : View). LockSays (ground_of c.args.image.now.key) c.args.lock v c.take.result c.take.new.seat.me.0.view) e c.take.ensures.lock
+
+pub returns-then-free-eq1-clause-events : goal.returns-then-free-eq1-clause-events
+returns-then-free-eq1-clause-events c =
+    inl (looked_once (ground_of c.args.image.now.key) c.args.lock c.meet-free.result (λ n. of_call (meets_lock c.args.lock)) c.args.seat.now.me.0 _ c.meet-free.ensures.view)
+
+pub returns-then-free-clause-events : goal.returns-then-free-clause-events
+returns-then-free-clause-events c =
+    looked_once (ground_of c.args.image.now.key) c.args.lock c.meet-free.result (λ n. of_call (meets_lock c.args.lock)) c.args.seat.now.me.0 _ c.meet-free.ensures.view
+    ∙ ap (λ (n : ℕ). (Load c.args.lock, n) ∷ c.args.seat.now.me.0.took) c.if-free.true
+
+pub returns-else-free-clause-events : goal.returns-else-free-clause-events
+returns-else-free-clause-events c =
+    took_behind c.args.lock c.meet-free.result c.take.result c.args.seat.now.me.0.took c.meet-free.new.seat.me.0.took c.take.new.seat.me.0.took (even_of c.meet-free.result c.if-free-eq1.false)
+    (looked_once (ground_of c.args.image.now.key) c.args.lock c.meet-free.result (λ n. of_call (meets_lock c.args.lock)) c.args.seat.now.me.0 _ c.meet-free.ensures.view) c.take.ensures.events

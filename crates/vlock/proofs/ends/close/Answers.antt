@@ -1,4 +1,4 @@
-use Rattle.std.proofs.Common.{◌≡◌, ◌≢◌, ◌∙◌, ◌∷◌, ℕ, get_or, set, List, sym, arith, subst, length-set, get_or-set_other, get_or-set_same}
+use Rattle.std.proofs.Common.{rules, ◌≡◌, ◌≢◌, ◌∙◌, ◌∷◌, ℕ, get_or, set, List, sym, arith, subst, length-set, get_or-set_other, get_or-set_same}
 use mathlib.Core.Logic.{dite}
 use native.Mathlib.Decide.{ℕ_discrete}
 use Rattle.vlock.specs.Ruling.{word, ground_of}
@@ -18,8 +18,11 @@ loop-i-preserved c =
           (λ (ne : j ≢ at). get_or-set_other xs at j c.word.result 0 ne ∙ i.1 j (omega arith)),
     )
 
-pub returns : goal.returns
-returns c =
+pub returns-clause-length : goal.returns-clause-length
+returns-clause-length c = search rules
+
+pub returns-clause-end : goal.returns-clause-end
+returns-clause-end c =
     let i = c.loop-i.invariant in
     let k = c.args.keeper in
     let f = c.close_with-closed.ensures.values.2 in
