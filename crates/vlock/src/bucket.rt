@@ -23,7 +23,8 @@ use std::marker::Brand;
 /// What came of reading a bucket.
 #[derive(Clone, Copy, Debug, PartialEq, Eq)]
 pub enum ReadReply {
-    /// The 32 words that the bucket had at one moment, at which its lock was free with this version.
+    /// The 32 words that loads found, and that the bucket has all at once in words which meet the invariant with this view
+    /// there; its lock was free with this version before the loads and behind them.
     Clean { version: u64, words: [u64; 32] },
     /// The lock was free both times, with these two values of its word, so the words that were loaded say nothing.
     Moved { before: u64, after: u64 },
