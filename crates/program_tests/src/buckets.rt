@@ -1,5 +1,5 @@
 //! The metadata of buckets, as the file format's own examples have it, and what is chosen by it: each edge, full, empty and mixed.
-use crate::rows::{Tells, first_word, numbers, walk};
+use crate::rows::{TellsOfNumbers, shown, walk_numbers};
 use balance::choose;
 use bucket_meta::Meta;
 use bucket_meta::words::must_visit;
@@ -17,7 +17,7 @@ fn with_mark(mark: u64) -> Meta {
 fn meta_told(alloc: Global, words: [u64; 3]) -> Result<String, Fail> {
     let meta = Meta::read(words);
     let (same, filled, free) = (meta.write() == words, meta.filled(), meta.free_slot());
-    Ok(format!(in alloc; "{meta:?} {same} {filled} {free:?}")?)
+    shown(alloc, &(meta, same, filled, free))
 }
 
 /// The slots with this fingerprint, by both scans.
@@ -26,55 +26,48 @@ fn scans_told(alloc: Global, finger: u8, numbers: &[u64]) -> Result<String, Fail
     for (place, number) in fingers.iter_mut().zip(numbers) {
         *place = u8::try_from(*number)?;
     }
-    let (lanes, plain) = (scan(fingers, finger), scan_plain(fingers, finger));
-    Ok(format!(in alloc; "{lanes:x} {plain:x}")?)
+    shown(alloc, &[scan(fingers, finger), scan_plain(fingers, finger)])
 }
 
 /// Buckets, by words of their metadata.
 #[derive(Drop)]
 struct Buckets;
 
-impl Tells for Buckets {
-    fn told(&mut self, alloc: Global, asked: &str) -> Result<String, Fail> {
-        let (name, rest) = first_word(asked);
-        let numbers = numbers(alloc, rest)?;
-        match (name, numbers.as_slice()) {
+impl TellsOfNumbers for Buckets {
+    fn told(&mut self, alloc: Global, name: &str, numbers: &[u64]) -> Result<String, Fail> {
+        match (name, numbers) {
             ("read", [w1, w2, w3]) => meta_told(alloc, [*w1, *w2, *w3]),
             ("visits", [h1, h3, p1, p3, finger, index]) => {
                 let (finger, index) = (u8::try_from(*finger)?, u8::try_from(*index)?);
-                let visits = must_visit(*h1, *h3, *p1, *p3, finger, index);
-                Ok(format!(in alloc; "{visits}")?)
+                shown(alloc, &must_visit(*h1, *h3, *p1, *p3, finger, index))
             }
             ("choose", [home, probing]) => {
-                let choice = choose(&with_mark(*home), &with_mark(*probing));
-                Ok(format!(in alloc; "{choice:?}")?)
+                shown(alloc, &choose(&with_mark(*home), &with_mark(*probing)))
             }
             ("forward", [probing, next]) => {
-                let slot = forward(&with_mark(*probing), &with_mark(*next));
-                Ok(format!(in alloc; "{slot:?}")?)
+                shown(alloc, &forward(&with_mark(*probing), &with_mark(*next)))
             }
             ("backward", [home, previous]) => {
-                let slot = backward(&with_mark(*home), &with_mark(*previous));
-                Ok(format!(in alloc; "{slot:?}")?)
+                shown(alloc, &backward(&with_mark(*home), &with_mark(*previous)))
             }
             ("scan", [finger, fingers @ ..]) => {
                 scans_told(alloc, u8::try_from(*finger)?, fingers)
             }
-            _ => Err(Fail::new(asked)),
+            _ => Err(Fail::new(name)),
         }
     }
 }
 
 #[test]
 fn buckets_by_their_metadata(rt: HostRuntime) -> Result<(), Fail> {
-    walk(rt.alloc(), &mut Buckets, ROWS)
+    walk_numbers(rt.alloc(), &mut Buckets, ROWS)
 }
 
 const ROWS: &str = "\
 # Words 1 to 3 of a full bucket, of one that is full of members, and of one with a number of its own in each field.
-read 0x03E3D400F0003FFF 0x0E0C0A0806040200 0x1D1C1A1816141210 -> Meta { alloc: 16383, member: 0, used: 15, omember: 0, oindex: 0, ocount: 20, fps: [0, 2, 4, 6, 8, 10, 12, 14, 16, 18, 20, 22, 24, 26], ofps: [28, 29, 30, 31] } true 14 None
-read 0x0464400FFFFFFFFF 0 0 -> Meta { alloc: 16383, member: 16383, used: 15, omember: 15, oindex: 0, ocount: 0, fps: [0, 0, 0, 0, 0, 0, 0, 0, 0, 0, 0, 0, 0, 0], ofps: [0, 0, 34, 35] } true 14 None
-read 0x1A9869145284AA5B 0x8877665544332211 0xB2A1EEDDCCBBAA99 -> Meta { alloc: 10843, member: 2578, used: 5, omember: 4, oindex: 1, ocount: 9, fps: [17, 34, 51, 68, 85, 102, 119, 136, 153, 170, 187, 204, 221, 238], ofps: [161, 178, 195, 212] } true 8 Some(2)
+read 0x03E3D400F0003FFF 0x0E0C0A0806040200 0x1D1C1A1816141210 -> (Meta { alloc: 16383, member: 0, used: 15, omember: 0, oindex: 0, ocount: 20, fps: [0, 2, 4, 6, 8, 10, 12, 14, 16, 18, 20, 22, 24, 26], ofps: [28, 29, 30, 31] }, true, 14, None)
+read 0x0464400FFFFFFFFF 0 0 -> (Meta { alloc: 16383, member: 16383, used: 15, omember: 15, oindex: 0, ocount: 0, fps: [0, 0, 0, 0, 0, 0, 0, 0, 0, 0, 0, 0, 0, 0], ofps: [0, 0, 34, 35] }, true, 14, None)
+read 0x1A9869145284AA5B 0x8877665544332211 0xB2A1EEDDCCBBAA99 -> (Meta { alloc: 10843, member: 2578, used: 5, omember: 4, oindex: 1, ocount: 9, fps: [17, 34, 51, 68, 85, 102, 119, 136, 153, 170, 187, 204, 221, 238], ofps: [161, 178, 195, 212] }, true, 8, Some(2))
 # Words 1 and 3 of a home bucket and of its probing bucket, a fingerprint and a stash bucket. A note of the home's own has fingerprint 0xA1 and is of
 # stash bucket 1, and one of the home before has 0xC3 and is of stash bucket 0.
 visits 0x18601450000000 0xA1000000000000 0 0 0xA1 1 -> true
@@ -130,15 +123,15 @@ backward 0x284AA5A 0x3FFE -> Some(1)
 backward 0x003C010 0x0000 -> None
 backward 0xFFFC000 0x0000 -> None
 # A fingerprint, those of the slots, and the set of slots that have it. Zero is what the two lanes past the slots hold.
-scan 0 0 0 0 0 0 0 0 0 0 0 0 0 0 0 -> 3fff 3fff
-scan 0 1 2 3 4 5 6 7 8 9 10 11 12 13 14 -> 0 0
-scan 255 255 255 255 255 255 255 255 255 255 255 255 255 255 255 -> 3fff 3fff
-scan 7 0 0 0 0 0 0 0 0 0 0 0 0 0 7 -> 2000 2000
-scan 7 7 0 0 0 0 0 0 0 0 0 0 0 0 0 -> 1 1
-scan 0 7 0 0 0 0 0 0 0 0 0 0 0 0 0 -> 3ffe 3ffe
-scan 2 1 2 1 2 1 2 1 2 1 2 1 2 1 2 -> 2aaa 2aaa
-scan 128 128 129 127 0 128 1 255 128 0 0 64 8 128 128 -> 3091 3091
-scan 13 0 1 2 3 4 5 6 7 8 9 10 11 12 13 -> 2000 2000
-scan 14 0 1 2 3 4 5 6 7 8 9 10 11 12 13 -> 0 0
-scan 15 16 16 16 16 16 16 16 16 16 16 16 16 16 16 -> 0 0
+scan 0 0 0 0 0 0 0 0 0 0 0 0 0 0 0 -> [16383, 16383]
+scan 0 1 2 3 4 5 6 7 8 9 10 11 12 13 14 -> [0, 0]
+scan 255 255 255 255 255 255 255 255 255 255 255 255 255 255 255 -> [16383, 16383]
+scan 7 0 0 0 0 0 0 0 0 0 0 0 0 0 7 -> [8192, 8192]
+scan 7 7 0 0 0 0 0 0 0 0 0 0 0 0 0 -> [1, 1]
+scan 0 7 0 0 0 0 0 0 0 0 0 0 0 0 0 -> [16382, 16382]
+scan 2 1 2 1 2 1 2 1 2 1 2 1 2 1 2 -> [10922, 10922]
+scan 128 128 129 127 0 128 1 255 128 0 0 64 8 128 128 -> [12433, 12433]
+scan 13 0 1 2 3 4 5 6 7 8 9 10 11 12 13 -> [8192, 8192]
+scan 14 0 1 2 3 4 5 6 7 8 9 10 11 12 13 -> [0, 0]
+scan 15 16 16 16 16 16 16 16 16 16 16 16 16 16 16 -> [0, 0]
 ";

@@ -4,7 +4,7 @@
 ghost use Rattle.std.specs.Prelude.{◌≡◌, ◌<◌, true};
 ghost use Rattle.image_layout.specs.Volatile.{all_words_of};
 
-use crate::rows::{Tells, first_word, numbers, walk};
+use crate::rows::{TellsOfNumbers, hex, said, shown, walk_numbers};
 use image_file::format;
 use image_layout::Geometry;
 use pm_trace::{Device, next_number};
@@ -64,8 +64,7 @@ fn fence(device: &mut Device, caller: u8) -> &'static str {
 /// The newest and the settled value of a word.
 fn values_told(alloc: Global, device: &Device, w: u64) -> Result<String, Fail> {
     if has_word(device, w) {
-        let (newest, settled) = (device.load(w), device.settled(w));
-        Ok(format!(in alloc; "{newest} {settled}")?)
+        shown(alloc, &(device.load(w), device.settled(w)))
     } else {
         Err(Fail::new("no such word"))
     }
@@ -80,8 +79,7 @@ fn exchange_told(
     new: u64,
 ) -> Result<String, Fail> {
     if has_word(device, w) {
-        let came = device.exchange(0, w, expected, new);
-        Ok(format!(in alloc; "{came:?}")?)
+        shown(alloc, &device.exchange(0, w, expected, new))
     } else {
         Err(Fail::new("no such word"))
     }
@@ -101,7 +99,7 @@ fn cut_told(alloc: Global, choice: u64) -> Result<String, Fail> {
             left.push(*word)?;
         }
     }
-    Ok(format!(in alloc; "{:?}", left.as_slice())?)
+    shown(alloc, &left.as_slice())
 }
 
 /// A memory, and the state of a stream.
@@ -119,31 +117,26 @@ impl Runs {
     }
 }
 
-impl Tells for Runs {
-    fn told(&mut self, alloc: Global, asked: &str) -> Result<String, Fail> {
-        let (name, rest) = first_word(asked);
-        let numbers = numbers(alloc, rest)?;
-        let done = match (name, numbers.as_slice()) {
+impl TellsOfNumbers for Runs {
+    fn told(&mut self, alloc: Global, name: &str, numbers: &[u64]) -> Result<String, Fail> {
+        let done = match (name, numbers) {
             ("new", []) => self.begin(alloc)?,
             ("store", [caller, w, v]) => { store(&mut self.device, u8::try_from(*caller)?, *w, *v) }
             ("flush", [caller, line]) => flush(&mut self.device, u8::try_from(*caller)?, *line),
             ("fence", [caller]) => fence(&mut self.device, u8::try_from(*caller)?),
             ("word", [w]) => return values_told(alloc, &self.device, *w),
             ("unfenced", [caller]) => {
-                let count = self.device.unfenced(u8::try_from(*caller)?);
-                return Ok(format!(in alloc; "{count}")?);
+                return shown(alloc, &self.device.unfenced(u8::try_from(*caller)?));
             }
-            ("draw", []) => return Ok(format!(in alloc; "{}", self.device.draw())?),
+            ("draw", []) => return shown(alloc, &self.device.draw()),
             ("exchange", [w, expected, new]) => {
                 return exchange_told(alloc, &mut self.device, *w, *expected, *new);
             }
             ("cut", [choice]) => return cut_told(alloc, *choice),
-            ("stream", []) => {
-                return Ok(format!(in alloc; "{:x}", next_number(&mut self.state))?);
-            }
-            _ => return Err(Fail::new(asked)),
+            ("stream", []) => return hex(alloc, next_number(&mut self.state)),
+            _ => return Err(Fail::new(name)),
         };
-        Ok(String::from_str(alloc, done)?)
+        said(alloc, done)
     }
 }
 
@@ -153,7 +146,7 @@ fn runs_of_a_memory(rt: HostRuntime) -> Result<(), Fail> {
         device: new_device(rt.alloc())?,
         state: 0,
     };
-    walk(rt.alloc(), &mut runs, ROWS)
+    walk_numbers(rt.alloc(), &mut runs, ROWS)
 }
 
 /// What is done, and what it comes to: `word` tells the newest and the settled value, and `cut` what a cut of a memory of its own leaves of six
@@ -166,20 +159,20 @@ store 2 4 2 -> done
 unfenced 1 -> 1
 fence 1 -> done
 unfenced 1 -> 0
-word 3 -> 1 1
-word 4 -> 2 0
-word 2 -> 1 1
+word 3 -> (1, 1)
+word 4 -> (2, 0)
+word 2 -> (1, 1)
 # A flush alone, and a fence alone, of that caller and of another.
 new -> done
 store 1 3 1 -> done
 fence 1 -> done
-word 3 -> 1 0
+word 3 -> (1, 0)
 flush 1 0 -> done
 fence 2 -> done
-word 3 -> 1 0
+word 3 -> (1, 0)
 store 1 3 2 -> done
 fence 1 -> done
-word 3 -> 2 1
+word 3 -> (2, 1)
 # Two flushes of one line: each settles what the line was then, whichever caller fences first.
 new -> done
 store 1 3 1 -> done
@@ -187,18 +180,18 @@ flush 1 0 -> done
 store 2 3 2 -> done
 flush 2 0 -> done
 fence 1 -> done
-word 3 -> 2 1
+word 3 -> (2, 1)
 fence 2 -> done
-word 3 -> 2 2
+word 3 -> (2, 2)
 new -> done
 store 1 3 1 -> done
 flush 1 0 -> done
 store 2 3 2 -> done
 flush 2 0 -> done
 fence 2 -> done
-word 3 -> 2 2
+word 3 -> (2, 2)
 fence 1 -> done
-word 3 -> 2 2
+word 3 -> (2, 2)
 # Nine lines, in rounds of at most eight. A line that is flushed once more is not one more.
 new -> done
 store 1 160 20 -> done
@@ -224,21 +217,21 @@ fence 1 -> done
 flush 1 28 -> done
 flush 1 28 -> done
 unfenced 1 -> 1
-word 216 -> 27 27
-word 224 -> 28 0
+word 216 -> (27, 27)
+word 224 -> (28, 0)
 fence 1 -> done
-word 224 -> 28 28
+word 224 -> (28, 28)
 # Words behind the image: draws, which begin again at 0, and exchanges. They never settle.
 new -> done
 draw -> 0
 draw -> 1
-word 2208 -> 2 0
+word 2208 -> (2, 0)
 store 0 2208 18446744073709551615 -> done
 draw -> 18446744073709551615
 draw -> 0
 exchange 2212 0 7 -> Ok(())
 exchange 2212 0 8 -> Err(7)
-word 2212 -> 7 0
+word 2212 -> (7, 0)
 # What choices leave: 0 nothing of what is new and 1 all of it, 2 w + 2 word w alone and 2 w + 3 all but that; from 2^63 on the numbers of a stream choose.
 cut 0 -> [0, 0, 0, 0, 0, 0]
 cut 1 -> [2, 3, 4, 5, 6, 7]

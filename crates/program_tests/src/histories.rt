@@ -1,5 +1,5 @@
 //! Whether calls woven by their places are a legal history, and lists for which there is no memory.
-use crate::rows::{Tells, first_word, numbers, walk};
+use crate::rows::{TellsOfNumbers, shown, walk_numbers};
 use map_model::{Call, Entry, Lists, Reply, weave_check};
 use std::alloc::Global;
 use std::test::Fail;
@@ -56,11 +56,9 @@ fn has_room(alloc: Global, entries: u64) -> bool {
 #[derive(Drop)]
 struct Histories;
 
-impl Tells for Histories {
-    fn told(&mut self, alloc: Global, asked: &str) -> Result<String, Fail> {
-        let (name, rest) = first_word(asked);
-        let numbers = numbers(alloc, rest)?;
-        let told = match (name, numbers.as_slice()) {
+impl TellsOfNumbers for Histories {
+    fn told(&mut self, alloc: Global, name: &str, numbers: &[u64]) -> Result<String, Fail> {
+        let told = match (name, numbers) {
             ("own", [value, place]) => is_legal_of_one(alloc, Reply::Found(*value), *place)?,
             ("other", [value, place]) => {
                 is_legal_of_two(alloc, &[], Reply::Found(*value), *place)?
@@ -70,15 +68,15 @@ impl Tells for Histories {
                 is_legal_of_two(alloc, &[(5, *start)], Reply::Found(*value), *place)?
             }
             ("room", [entries]) => has_room(alloc, *entries),
-            _ => return Err(Fail::new(asked)),
+            _ => return Err(Fail::new(name)),
         };
-        Ok(format!(in alloc; "{told}")?)
+        shown(alloc, &told)
     }
 }
 
 #[test]
 fn histories_of_two_calls(rt: HostRuntime) -> Result<(), Fail> {
-    walk(rt.alloc(), &mut Histories, ROWS)
+    walk_numbers(rt.alloc(), &mut Histories, ROWS)
 }
 
 const ROWS: &str = "\

@@ -1,4 +1,5 @@
 //! Images whose words come in pieces, and what is said of bytes that are no image. Files word by word are rows of `rows`.
+use crate::rows::holds;
 use image_file::{ImageFault, Words, format, from_words, read_of_written, to_bytes};
 use image_layout::Geometry;
 use image_rules::Rule;
@@ -25,8 +26,9 @@ fn words_in_pieces(rt: HostRuntime) -> Result<(), Fail> {
     let again = to_bytes(alloc, &from_words(alloc, pieced(alloc, 1, &bytes)?)?)?;
     let same = again.as_slice() == bytes.as_slice();
     let none = from_words(alloc, pieced(alloc, 0, &[])?).err();
-    assert_eq!(rt; (kept, same, none), (true, true, Some(ImageFault::Length)));
-    Ok(())
+    holds(kept, "what was made is read")?;
+    holds(same, "pieces of one word are the words")?;
+    holds(none == Some(ImageFault::Length), "no words are no image")
 }
 
 #[test]

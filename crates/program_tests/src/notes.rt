@@ -3,7 +3,7 @@
 ghost use Rattle.std.specs.Prelude.{All};
 ghost use Rattle.stash.specs.Segment.{IsStashed};
 
-use crate::rows::{Tells, first_word, numbers, walk};
+use crate::rows::{TellsOfNumbers, said, shown, walk_numbers};
 use bucket_meta::Meta;
 use image_layout::HOMES;
 use stash::{must_visit, note, rebuild, unnote};
@@ -73,7 +73,7 @@ impl Notes {
         let own = must_visit(&self.home, &self.probe, finger);
         let before = must_visit(&empty(), &self.home, finger);
         let after = must_visit(&self.probe, &empty(), finger);
-        Ok(format!(in alloc; "{own} {before} {after}")?)
+        shown(alloc, &(own, before, after))
     }
 
     /// Notes a record, where the home's count has room.
@@ -103,30 +103,25 @@ fn words_told(alloc: Global, meta: &Meta) -> Result<String, Fail> {
     Ok(format!(in alloc; "{first:x} {second:x} {third:x}")?)
 }
 
-impl Tells for Notes {
-    fn told(&mut self, alloc: Global, asked: &str) -> Result<String, Fail> {
-        let (name, rest) = first_word(asked);
-        let numbers = numbers(alloc, rest)?;
-        match (name, numbers.as_slice()) {
-            ("fill", []) => Ok(String::from_str(alloc, self.put(two_full_buckets()))?),
-            ("clear", []) => Ok(String::from_str(alloc, self.put((empty(), empty())))?),
-            ("rebuild", [count]) => Ok(format!(in alloc; "{:?}", self.rebuild(*count > 0))?),
+impl TellsOfNumbers for Notes {
+    fn told(&mut self, alloc: Global, name: &str, numbers: &[u64]) -> Result<String, Fail> {
+        match (name, numbers) {
+            ("fill", []) => said(alloc, self.put(two_full_buckets())),
+            ("clear", []) => said(alloc, self.put((empty(), empty()))),
+            ("rebuild", [count]) => shown(alloc, &self.rebuild(*count > 0)),
             ("note", [finger, index]) => {
                 let (finger, index) = (u8::try_from(*finger)?, u8::try_from(*index)?);
-                Ok(String::from_str(alloc, self.note(finger, index))?)
+                said(alloc, self.note(finger, index))
             }
             ("take", [finger, index]) => {
                 let (finger, index) = (u8::try_from(*finger)?, u8::try_from(*index)?);
-                Ok(String::from_str(alloc, self.take(finger, index))?)
+                said(alloc, self.take(finger, index))
             }
             ("visits", [finger]) => self.visits_told(alloc, u8::try_from(*finger)?),
             ("home", []) => words_told(alloc, &self.home),
             ("probe", []) => words_told(alloc, &self.probe),
-            ("counts", []) => {
-                let (count, members) = (self.home.ocount, self.probe.omember);
-                Ok(format!(in alloc; "{count} {members}")?)
-            }
-            _ => Err(Fail::new(asked)),
+            ("counts", []) => shown(alloc, &(self.home.ocount, self.probe.omember)),
+            _ => Err(Fail::new(name)),
         }
     }
 }
@@ -137,7 +132,7 @@ fn notes_of_a_home(rt: HostRuntime) -> Result<(), Fail> {
         home: empty(),
         probe: empty(),
     };
-    walk(rt.alloc(), &mut notes, ROWS)
+    walk_numbers(rt.alloc(), &mut notes, ROWS)
 }
 
 /// What is done, and what it comes to: `home` and `probe` tell the words of the metadata, and `counts` the home's count and the membership bits of
@@ -195,24 +190,24 @@ take 32 0 -> done
 probe -> 464400eefffffff f0d0b0907050301 21001b1917151311
 # Unused note slots name nothing.
 clear -> done
-visits 0 -> 0 0 0
+visits 0 -> (0, 0, 0)
 # A note names its stash bucket for its fingerprint, and for its own home alone.
 note 7 1 -> done
-visits 7 -> 2 0 0
-visits 8 -> 0 0 0
+visits 7 -> (2, 0, 0)
+visits 8 -> (0, 0, 0)
 note 7 0 -> done
-visits 7 -> 3 0 0
+visits 7 -> (3, 0, 0)
 # The home bucket's note slots are used up, and the next note stands in the probing bucket.
 note 5 0 -> done
 note 5 0 -> done
 note 9 1 -> done
-counts -> 0 1
-visits 9 -> 2 0 0
+counts -> (0, 1)
+visits 9 -> (2, 0, 0)
 # Some record has no note.
 note 10 0 -> done
 note 11 0 -> done
 note 12 0 -> done
 note 13 0 -> done
-counts -> 1 15
-visits 200 -> 3 0 0
+counts -> (1, 15)
+visits 200 -> (3, 0, 0)
 ";

@@ -2,9 +2,10 @@
 // tell of: pieces of any length, interrupts, a reason that is kept, and a real file.
 mod files;
 
+use crate::rows::holds;
 use outside::{
-    Failed, MemSink, MemSource, MemStore, Sink, Source, StdSink, StdSource, Store, StoreFault,
-    put_all, take_all,
+    MemSink, MemSource, MemStore, Sink, Source, StdSink, StdSource, Store, StoreFault, put_all,
+    take_all,
 };
 use std::io::{BufWriter, ErrorKind, Read, Write};
 use std::test::Fail;
@@ -14,16 +15,30 @@ use std::{fs, io};
 fn store_in_memory(rt: HostRuntime) -> Result<(), Fail> {
     let alloc = rt.alloc();
     let mut store = MemStore::new(alloc, b"abc", 4, &[2, 5])?;
-    assert_eq!(rt; store.read_all(alloc, 9)?.as_slice(), b"abc".as_slice());
-    assert_eq!(rt; store.write_all(b"xy"), Err(Failed));
-    assert_eq!(rt; store.write_all(b"defg"), Ok(()));
-    assert_eq!(rt; store.read_all(alloc, 1)?.as_slice(), b"de".as_slice());
-    assert!(rt; matches!(store.read_all(alloc, 9), Err(StoreFault::Failed)));
-    assert_eq!(rt; store.write_all(b"hijkl"), Err(Failed));
-    assert_eq!(rt; store.bytes.as_slice(), b"defg".as_slice());
-    assert_eq!(rt; store.faults, 3);
-    assert_eq!(rt; store.writes, 3);
-    Ok(())
+    holds(
+        store.read_all(alloc, 9)?.as_slice() == b"abc".as_slice(),
+        "all is read",
+    )?;
+    holds(store.write_all(b"xy").is_err(), "the second call fails")?;
+    holds(store.write_all(b"defg").is_ok(), "four bytes fit")?;
+    holds(
+        store.read_all(alloc, 1)?.as_slice() == b"de".as_slice(),
+        "one byte is read past the limit",
+    )?;
+    let fault = store.read_all(alloc, 9).err();
+    holds(fault == Some(StoreFault::Failed), "the fifth call fails")?;
+    holds(
+        store.write_all(b"hijkl").is_err(),
+        "five bytes are past the room",
+    )?;
+    holds(
+        store.bytes.as_slice() == b"defg".as_slice(),
+        "a write that failed leaves what was there",
+    )?;
+    holds(
+        [store.faults, store.writes] == [3, 3],
+        "faults and writes are counted",
+    )
 }
 
 #[test]
@@ -32,32 +47,36 @@ fn source_in_memory(rt: HostRuntime) -> Result<(), Fail> {
     let fails = [1].to_vec(alloc)?;
     let mut source = MemSource::new(b"abcdef".to_vec(alloc)?, fails);
     let mut piece = [0; 2];
-    assert_eq!(rt; source.pull(&mut piece), Err(Failed));
-    assert_eq!(rt; source.faults, 1);
-    assert_eq!(rt; source.pull(&mut piece), Ok(2));
-    assert_eq!(rt; piece, *b"ab");
-    assert_eq!(rt;
-        take_all(alloc, &mut source, 2)?.as_slice(),
-        b"cde".as_slice()
-    );
-    assert_eq!(rt;
-        take_all(alloc, &mut source, 2)?.as_slice(),
-        b"f".as_slice()
-    );
-    Ok(())
+    holds(source.pull(&mut piece).is_err(), "the first call fails")?;
+    holds(source.faults == 1, "its fault is counted")?;
+    holds(source.pull(&mut piece) == Ok(2), "two bytes come")?;
+    holds(piece == *b"ab", "they are the first two")?;
+    holds(
+        take_all(alloc, &mut source, 2)?.as_slice() == b"cde".as_slice(),
+        "one is taken past the limit",
+    )?;
+    holds(
+        take_all(alloc, &mut source, 2)?.as_slice() == b"f".as_slice(),
+        "the last byte is left",
+    )
 }
 
 #[test]
 fn sink_in_memory(rt: HostRuntime) -> Result<(), Fail> {
     let alloc = rt.alloc();
     let mut sink = MemSink::new(alloc, 5, [2].to_vec(alloc)?)?;
-    assert_eq!(rt; put_all(&mut sink, b"abc"), Ok(()));
-    assert_eq!(rt; put_all(&mut sink, b"d"), Err(Failed));
-    assert_eq!(rt; put_all(&mut sink, b"def"), Err(Failed));
-    assert_eq!(rt; sink.push(b"de"), Ok(2));
-    assert_eq!(rt; sink.bytes.as_slice(), b"abcde".as_slice());
-    assert_eq!(rt; sink.faults, 2);
-    Ok(())
+    holds(put_all(&mut sink, b"abc").is_ok(), "three bytes fit")?;
+    holds(put_all(&mut sink, b"d").is_err(), "the second call fails")?;
+    holds(
+        put_all(&mut sink, b"def").is_err(),
+        "three more are past the room",
+    )?;
+    holds(sink.push(b"de") == Ok(2), "two more fit")?;
+    holds(
+        sink.bytes.as_slice() == b"abcde".as_slice(),
+        "what was taken stands in order",
+    )?;
+    holds(sink.faults == 2, "faults are counted")
 }
 
 // A reader that gives three bytes at a time, is interrupted before each, and fails where it meets an exclamation mark.
@@ -98,13 +117,19 @@ fn source_over_a_reader(rt: HostRuntime) -> Result<(), Fail> {
     let mut broken = StdSource::new(dripping(b"1 get !"));
     let fault = take_all(rt.alloc(), &mut broken, 99).err();
     let reason = broken.trouble.map(|reason| reason.kind());
-    assert_eq!(rt; all.as_slice(), b"1 get 5\n".as_slice());
-    assert_eq!(rt; [whole.faults, broken.faults], [0, 1]);
-    assert_eq!(rt;
-        (fault, reason),
-        (Some(StoreFault::Failed), Some(ErrorKind::Other))
-    );
-    Ok(())
+    holds(
+        all.as_slice() == b"1 get 5\n".as_slice(),
+        "all pieces are taken",
+    )?;
+    holds(
+        [whole.faults, broken.faults] == [0, 1],
+        "an interrupt is no fault",
+    )?;
+    holds(
+        fault == Some(StoreFault::Failed),
+        "a reader that fails is told",
+    )?;
+    holds(reason == Some(ErrorKind::Other), "its reason is kept")
 }
 
 // A writer that takes two bytes at a time, and is interrupted before each, and once in each flush.
@@ -144,10 +169,15 @@ fn interrupted_writes_are_made_again(rt: HostRuntime) -> Result<(), Fail> {
         taken: Vec::new(rt.alloc()),
         interrupted: false,
     });
-    assert_eq!(rt; put_all(&mut sink, b"1 1 ABSENT @0\n"), Ok(()));
-    assert_eq!(rt; sink.inner.taken.as_slice(), b"1 1 ABSENT @0\n".as_slice());
-    assert_eq!(rt; sink.faults, 0);
-    Ok(())
+    holds(
+        put_all(&mut sink, b"1 1 ABSENT @0\n").is_ok(),
+        "all is taken",
+    )?;
+    holds(
+        sink.inner.taken.as_slice() == b"1 1 ABSENT @0\n".as_slice(),
+        "each byte once",
+    )?;
+    holds(sink.faults == 0, "an interrupt is no fault")
 }
 
 #[test]
@@ -159,9 +189,11 @@ fn sink_over_a_writer(rt: HostRuntime) -> Result<(), Fail> {
     let mut full = [0u8; 4];
     let mut narrow = StdSink::new(full.as_mut_slice());
     let refused = put_all(&mut narrow, b"12345");
-    assert_eq!(rt; (put, refused), (Ok(()), Err(Failed)));
-    assert_eq!(rt; found.as_str(), "1 1 ABSENT @0\n");
-    assert_eq!(rt; narrow.faults, 1);
     fs::remove_file(&rt, "sink.img")?;
-    Ok(())
+    holds(put.is_ok() && refused.is_err(), "a full writer is told")?;
+    holds(
+        found.as_str() == "1 1 ABSENT @0\n",
+        "what was taken is in the file at once",
+    )?;
+    holds(narrow.faults == 1, "a write that failed is counted")
 }

@@ -2,6 +2,7 @@
 //!
 //! A row is what is asked, ` -> `, and what has to be told then. What is meant stands behind `# `.
 use std::alloc::Global;
+use std::fmt::Debug;
 use std::test::Fail;
 
 /// What the rows of a text are about.
@@ -10,16 +11,24 @@ pub trait Tells {
     fn told(&mut self, alloc: Global, asked: &str) -> Result<String, Fail>;
 }
 
+/// What the rows of a text are about, where each asks by a name and numbers.
+pub trait TellsOfNumbers {
+    /// What is told to this name and these numbers.
+    fn told(&mut self, alloc: Global, name: &str, numbers: &[u64]) -> Result<String, Fail>;
+}
+
+/// What a row asks and what has to be told then; of a row that says what is meant, nothing.
+fn parts_of(row: &str) -> Result<Option<(&str, &str)>, Fail> {
+    match row.split_once(" -> ") {
+        Some(parts) => Ok(Some(parts)),
+        None if row.starts_with("# ") => Ok(None),
+        None => Err(Fail::new(row)),
+    }
+}
+
 /// Fails where something else is told than a row says.
-fn check(alloc: Global, subject: &mut impl Tells, row: &str) -> Result<(), Fail> {
-    let Some((asked, wanted)) = row.split_once(" -> ") else {
-        if row.starts_with("# ") {
-            return Ok(());
-        }
-        return Err(Fail::new(row));
-    };
-    let told = subject.told(alloc, asked)?;
-    if told.as_str() == wanted {
+fn judge(row: &str, told: &str, wanted: &str) -> Result<(), Fail> {
+    if told == wanted {
         return Ok(());
     }
     Err(Fail::new(format_args!("{row}, and not {told}")))
@@ -28,9 +37,47 @@ fn check(alloc: Global, subject: &mut impl Tells, row: &str) -> Result<(), Fail>
 /// Walks all rows of a text, and fails at the first to which something else is told.
 pub fn walk(alloc: Global, subject: &mut impl Tells, text: &str) -> Result<(), Fail> {
     for row in text.lines() {
-        check(alloc, subject, row)?;
+        if let Some((asked, wanted)) = parts_of(row)? {
+            judge(row, subject.told(alloc, asked)?.as_str(), wanted)?;
+        }
     }
     Ok(())
+}
+
+/// The same for rows that ask by a name and numbers.
+pub fn walk_numbers(
+    alloc: Global,
+    subject: &mut impl TellsOfNumbers,
+    text: &str,
+) -> Result<(), Fail> {
+    for row in text.lines() {
+        if let Some((asked, wanted)) = parts_of(row)? {
+            let (name, rest) = first_word(asked);
+            let numbers = numbers(alloc, rest)?;
+            judge(row, subject.told(alloc, name, &numbers)?.as_str(), wanted)?;
+        }
+    }
+    Ok(())
+}
+
+/// Fails with these words where something is not so.
+pub fn holds(is_so: bool, what: &str) -> Result<(), Fail> {
+    if is_so { Ok(()) } else { Err(Fail::new(what)) }
+}
+
+/// A text as it is.
+pub fn said(alloc: Global, text: &str) -> Result<String, Fail> {
+    Ok(String::from_str(alloc, text)?)
+}
+
+/// A value as it is written for debugging.
+pub fn shown(alloc: Global, value: &impl Debug) -> Result<String, Fail> {
+    Ok(format!(in alloc; "{value:?}")?)
+}
+
+/// A number in hexadecimal digits.
+pub fn hex(alloc: Global, number: u64) -> Result<String, Fail> {
+    Ok(format!(in alloc; "{number:x}")?)
 }
 
 /// The first word of what is asked, and what stands behind the space after it.

@@ -1,5 +1,5 @@
 //! Edges of the grammar; what is expected was worked out by hand.
-use crate::rows::{Tells, first_word, script_of, walk};
+use crate::rows::{Tells, first_word, script_of, shown, walk};
 use script_text::{Mode, parse};
 use std::alloc::Global;
 use std::test::Fail;
@@ -18,7 +18,7 @@ impl Tells for Scripts {
         };
         let script = script_of(alloc, text)?;
         match parse(alloc, mode, &script) {
-            Ok(script) => Ok(format!(in alloc; "{:?}", script.as_slice())?),
+            Ok(script) => shown(alloc, &script.as_slice()),
             Err(fault) => Ok(format!(in alloc; "{fault}")?),
         }
     }

@@ -1,5 +1,5 @@
 //! Words of the file format and numbers of words, from outside: the first number of the SplitMix64 stream from state 0 is one of the hashes.
-use crate::rows::{Tells, first_word, numbers, walk};
+use crate::rows::{TellsOfNumbers, hex, said, shown, walk_numbers};
 use hash_word::{covers, dir_index, finger, home, next, previous, probing};
 use image_layout::Geometry;
 use segment_head::{Head, version, word};
@@ -11,33 +11,26 @@ use way::{bucket_word, entry_word, head_word, is_covering, is_leading, key_hash}
 #[derive(Drop)]
 struct Hashes;
 
-impl Tells for Hashes {
-    fn told(&mut self, alloc: Global, asked: &str) -> Result<String, Fail> {
-        let (name, rest) = first_word(asked);
-        let numbers = numbers(alloc, rest)?;
-        match (name, numbers.as_slice()) {
+impl TellsOfNumbers for Hashes {
+    fn told(&mut self, alloc: Global, name: &str, numbers: &[u64]) -> Result<String, Fail> {
+        match (name, numbers) {
             ("hash", [kind, key]) => {
                 let geometry = Geometry::new(1, 0, *kind)?;
-                Ok(format!(in alloc; "{:x}", key_hash(&geometry, *key))?)
+                hex(alloc, key_hash(&geometry, *key))
             }
-            ("bits", [hash]) => {
-                let (finger, home) = (finger(*hash), home(*hash));
-                let index = dir_index(*hash, 4);
-                Ok(format!(in alloc; "{finger:x} {home} {index}")?)
-            }
+            ("bits", [hash]) => shown(alloc, &(finger(*hash), home(*hash), dir_index(*hash, 4))),
             ("index", [hash, depth]) if *depth <= 64 => {
-                Ok(format!(in alloc; "{}", dir_index(*hash, *depth as u8))?)
+                shown(alloc, &dir_index(*hash, *depth as u8))
             }
             ("covers", [depth, pattern, hash]) if *depth <= 64 => {
                 let pattern = u32::try_from(*pattern)?;
-                Ok(format!(in alloc; "{}", covers(*depth as u8, pattern, *hash))?)
+                shown(alloc, &covers(*depth as u8, pattern, *hash))
             }
             ("around", [bucket]) if *bucket < 64 => {
                 let bucket = *bucket as u8;
-                let (before, after) = (previous(bucket), probing(bucket));
-                Ok(format!(in alloc; "{before} {after} {}", next(bucket))?)
+                shown(alloc, &(previous(bucket), probing(bucket), next(bucket)))
             }
-            _ => Err(Fail::new(asked)),
+            _ => Err(Fail::new(name)),
         }
     }
 }
@@ -46,29 +39,26 @@ impl Tells for Hashes {
 #[derive(Drop)]
 struct Heads;
 
-impl Tells for Heads {
-    fn told(&mut self, alloc: Global, asked: &str) -> Result<String, Fail> {
-        let (name, rest) = first_word(asked);
-        let numbers = numbers(alloc, rest)?;
-        match (name, numbers.as_slice()) {
+impl TellsOfNumbers for Heads {
+    fn told(&mut self, alloc: Global, name: &str, numbers: &[u64]) -> Result<String, Fail> {
+        match (name, numbers) {
             ("read", [word]) => match Head::read(*word) {
-                Some(head) => Ok(format!(in alloc; "{head:?} {:x}", head.write())?),
-                None => Ok(format!(in alloc; "none")?),
+                Some(head) => shown(alloc, &(head, head.write())),
+                None => said(alloc, "none"),
             },
             ("word", [version, state, depth, pattern]) => {
                 let (version, state) = (u8::try_from(*version)?, u8::try_from(*state)?);
                 let (depth, pattern) = (u8::try_from(*depth)?, u32::try_from(*pattern)?);
-                let word = word::header_of(version, state, depth, pattern);
-                Ok(format!(in alloc; "{word:x}")?)
+                hex(alloc, word::header_of(version, state, depth, pattern))
             }
-            ("unversioned", [word]) => {
-                Ok(format!(in alloc; "{:x}", version::unversioned(*word))?)
-            }
+            ("unversioned", [word]) => hex(alloc, version::unversioned(*word)),
             ("leads", [word, hash]) => {
-                let covering = is_covering(*word, *hash);
-                Ok(format!(in alloc; "{covering} {}", is_leading(*word, *hash))?)
+                shown(
+                    alloc,
+                    &(is_covering(*word, *hash), is_leading(*word, *hash)),
+                )
             }
-            _ => Err(Fail::new(asked)),
+            _ => Err(Fail::new(name)),
         }
     }
 }
@@ -83,7 +73,7 @@ fn shape_told(alloc: Global, geometry: &Geometry) -> Result<String, Fail> {
         geometry.stash_at(last, 1),
         geometry.entry_at(geometry.depth(), (1 << geometry.depth()) - 1),
     ];
-    Ok(format!(in alloc; "{geometry:?} {words:?}")?)
+    shown(alloc, &(geometry, words))
 }
 
 /// The words behind an image.
@@ -97,45 +87,40 @@ fn guards_told(alloc: Global, geometry: &Geometry) -> Result<String, Fail> {
         geometry.segment_guard(0),
         geometry.segment_guard(last),
     ];
-    Ok(format!(in alloc; "{words:?}")?)
+    shown(alloc, &words)
 }
 
 /// How images are laid out, and the words on the way to a bucket.
 #[derive(Drop)]
 struct Places;
 
-impl Tells for Places {
-    fn told(&mut self, alloc: Global, asked: &str) -> Result<String, Fail> {
-        let (name, rest) = first_word(asked);
-        let numbers = numbers(alloc, rest)?;
-        let [segments, depth, kind, others @ ..] = numbers.as_slice() else {
-            return Err(Fail::new(asked));
+impl TellsOfNumbers for Places {
+    fn told(&mut self, alloc: Global, name: &str, numbers: &[u64]) -> Result<String, Fail> {
+        let [segments, depth, kind, others @ ..] = numbers else {
+            return Err(Fail::new(name));
         };
         let geometry = match Geometry::new(*segments, *depth, *kind) {
             Ok(geometry) => geometry,
-            Err(fault) => return Ok(format!(in alloc; "{fault:?}")?),
+            Err(fault) => return shown(alloc, &fault),
         };
         match (name, others) {
             ("shape", []) => shape_told(alloc, &geometry),
             ("guards", []) => guards_told(alloc, &geometry),
-            ("entry", [hash, root]) => {
-                Ok(format!(in alloc; "{}", entry_word(&geometry, *hash, *root))?)
-            }
-            ("head", [segment]) => Ok(format!(in alloc; "{}", head_word(&geometry, *segment))?),
+            ("entry", [hash, root]) => shown(alloc, &entry_word(&geometry, *hash, *root)),
+            ("head", [segment]) => shown(alloc, &head_word(&geometry, *segment)),
             ("bucket", [segment, bucket]) if *bucket < 66 => {
-                let word = bucket_word(&geometry, *segment, *bucket as u8);
-                Ok(format!(in alloc; "{word}")?)
+                shown(alloc, &bucket_word(&geometry, *segment, *bucket as u8))
             }
-            _ => Err(Fail::new(asked)),
+            _ => Err(Fail::new(name)),
         }
     }
 }
 
 #[test]
 fn words_of_the_file_format(rt: HostRuntime) -> Result<(), Fail> {
-    walk(rt.alloc(), &mut Hashes, HASHES)?;
-    walk(rt.alloc(), &mut Heads, HEADS)?;
-    walk(rt.alloc(), &mut Places, PLACES)
+    walk_numbers(rt.alloc(), &mut Hashes, HASHES)?;
+    walk_numbers(rt.alloc(), &mut Heads, HEADS)?;
+    walk_numbers(rt.alloc(), &mut Places, PLACES)
 }
 
 const HASHES: &str = "\
@@ -144,25 +129,25 @@ hash 0 77 -> 4d
 hash 1 0 -> 0
 hash 1 0x9E3779B97F4A7C15 -> e220a8397b1dcdaf
 # The fingerprint of a hash, its home bucket, and its place in a directory of depth 4; and of depth 0.
-bits 0xE220A8397B1DCDAF -> af 13 14
+bits 0xE220A8397B1DCDAF -> (175, 13, 14)
 index 0xE220A8397B1DCDAF 0 -> 0
 # A depth and a pattern, and a hash.
 covers 4 14 0xE220A8397B1DCDAF -> true
 covers 4 15 0xE220A8397B1DCDAF -> false
 # The buckets before a home bucket, after it, and after that.
-around 13 -> 12 14 15
-around 62 -> 61 63 0
-around 63 -> 62 0 1
-around 0 -> 63 1 2
+around 13 -> (12, 14, 15)
+around 62 -> (61, 63, 0)
+around 63 -> (62, 0, 1)
+around 0 -> (63, 1, 2)
 ";
 
 const HEADS: &str = "\
 # A header word, and what is written of what was read.
-read 257 -> Head { version: 1, state: Normal, depth: 0, pattern: 0 } 101
-read 513 -> Head { version: 1, state: Splitting, depth: 0, pattern: 0 } 201
-read 258 -> Head { version: 2, state: Normal, depth: 0, pattern: 0 } 102
-read 4295033601 -> Head { version: 1, state: Fresh, depth: 1, pattern: 1 } 100010301
-read 0 -> Head { version: 0, state: Free, depth: 0, pattern: 0 } 0
+read 257 -> (Head { version: 1, state: Normal, depth: 0, pattern: 0 }, 257)
+read 513 -> (Head { version: 1, state: Splitting, depth: 0, pattern: 0 }, 513)
+read 258 -> (Head { version: 2, state: Normal, depth: 0, pattern: 0 }, 258)
+read 4295033601 -> (Head { version: 1, state: Fresh, depth: 1, pattern: 1 }, 4295033601)
+read 0 -> (Head { version: 0, state: Free, depth: 0, pattern: 0 }, 0)
 read 0x0401 -> none
 # A version, a state byte, a depth and a pattern.
 word 1 1 0 0 -> 101
@@ -171,17 +156,17 @@ word 7 4 0 0 -> 407
 word 0xAB 2 0x10 0xFEDCBA98 -> fedcba98001002ab
 unversioned 511 -> 100
 # Whether a header covers a hash, and whether it leads to it: of another pattern, of more bits than a hash has, and of a splitting segment.
-leads 0x0000000E00040101 0xE220A8397B1DCDAF -> true true
-leads 0x0000000F00040101 0xE220A8397B1DCDAF -> false false
-leads 0x0000000E00410101 0xE220A8397B1DCDAF -> false false
-leads 0x0000000E00040201 0xE220A8397B1DCDAF -> true false
+leads 0x0000000E00040101 0xE220A8397B1DCDAF -> (true, true)
+leads 0x0000000F00040101 0xE220A8397B1DCDAF -> (false, false)
+leads 0x0000000E00410101 0xE220A8397B1DCDAF -> (false, false)
+leads 0x0000000E00040201 0xE220A8397B1DCDAF -> (true, false)
 ";
 
 const PLACES: &str = "\
 # Slots for segments, the greatest depth and the kind of hash; and how many words there are, and the last ones of each part.
-shape 1 0 0 -> Geometry { segments: 1, depth: 0, kind: 0 } [2208, 64, 2112, 2176, 32]
-shape 256 8 1 -> Geometry { segments: 256, depth: 8, kind: 1 } [549408, 547264, 549312, 549376, 542]
-shape 16384 16 0 -> Geometry { segments: 16384, depth: 16, kind: 0 } [35258400, 35256256, 35258304, 35258368, 131102]
+shape 1 0 0 -> (Geometry { segments: 1, depth: 0, kind: 0 }, [2208, 64, 2112, 2176, 32])
+shape 256 8 1 -> (Geometry { segments: 256, depth: 8, kind: 1 }, [549408, 547264, 549312, 549376, 542])
+shape 16384 16 0 -> (Geometry { segments: 16384, depth: 16, kind: 0 }, [35258400, 35256256, 35258304, 35258368, 131102])
 # Out of range, the first fault first.
 shape 0 17 2 -> Segments
 shape 16385 0 0 -> Segments

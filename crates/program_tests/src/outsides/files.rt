@@ -1,7 +1,7 @@
 //! What no clause says of a file. The tests may start in one folder: each makes files of its own there, most of them in folders of their own.
 ghost use Rattle.std.specs.Prelude.{◌≡◌, IfOk};
 
-use crate::rows::{Tells, walk};
+use crate::rows::{Tells, holds, said, shown, walk};
 use outside::{Failed, FileStore, Purpose, Store, Trouble};
 use std::alloc::{AllocError, Global};
 use std::fs::Permissions;
@@ -31,12 +31,17 @@ fn file_is_replaced(rt: HostRuntime) -> Result<(), Fail> {
         bytes.push((number % 251) as u8)?;
     }
     let mut image = store(&rt, "large.img", Purpose::Writing)?;
-    assert_eq!(rt; image.write_all(b"the old bytes"), Ok(()));
-    assert_eq!(rt; image.write_all(&bytes), Ok(()));
-    assert!(rt; image.read_all(alloc, 200_000)?.as_slice() == bytes.as_slice());
-    assert_eq!(rt; image.read_all(alloc, 99_999)?.len(), 100_000);
-    assert_eq!(rt; [image.faults, image.writes], [0, 2]);
-    Ok(())
+    holds(image.write_all(b"the old bytes").is_ok(), "a file is made")?;
+    holds(image.write_all(&bytes).is_ok(), "it is replaced")?;
+    holds(
+        image.read_all(alloc, 200_000)?.as_slice() == bytes.as_slice(),
+        "all is read",
+    )?;
+    holds(
+        image.read_all(alloc, 99_999)?.len() == 100_000,
+        "one byte is read past the limit",
+    )?;
+    holds([image.faults, image.writes] == [0, 2], "writes are counted")
 }
 
 // Why a call on a store failed.
@@ -51,10 +56,10 @@ fn reason(alloc: Global, image: &FileStore<'_, HostRuntime>) -> Result<String, A
 // What has a name: nothing, a link, or a file with its bytes.
 fn found(rt: &HostRuntime, path: &str) -> io::Result<String> {
     if !fs::exists(rt, path)? {
-        return Ok(format!(in rt.alloc(); "nothing")?);
+        return Ok(String::from_str(rt.alloc(), "nothing")?);
     }
     if fs::symlink_metadata(rt, path)?.is_symlink() {
-        return Ok(format!(in rt.alloc(); "a link")?);
+        return Ok(String::from_str(rt.alloc(), "a link")?);
     }
     fs::read_to_string(rt, path)
 }
@@ -119,7 +124,7 @@ impl<'a> Stores<'a> {
             return Err(Fail::new("no more writes are counted"));
         }
         match image.write_all(text.as_bytes()) {
-            Ok(()) => Ok(format!(in alloc; "done")?),
+            Ok(()) => said(alloc, "done"),
             Err(Failed) => Ok(reason(alloc, image)?),
         }
     }
@@ -127,7 +132,7 @@ impl<'a> Stores<'a> {
     // How many calls failed, and how many were writes.
     fn counts(&self, alloc: Global, number: usize) -> Result<String, Fail> {
         match self.images.get(number) {
-            Some(image) => Ok(format!(in alloc; "{} {}", image.faults, image.writes)?),
+            Some(image) => shown(alloc, &(image.faults, image.writes)),
             None => Err(Fail::new("no store")),
         }
     }
@@ -137,8 +142,8 @@ impl<'a> Tells for Stores<'a> {
     fn told(&mut self, alloc: Global, asked: &str) -> Result<String, Fail> {
         let words: Vec<&str> = asked.split(' ').collect(alloc)?;
         match *words.as_slice() {
-            ["reader", path] => Ok(format!(in alloc; "{}", self.open(path, Purpose::Reading)?)?),
-            ["writer", path] => Ok(format!(in alloc; "{}", self.open(path, Purpose::Writing)?)?),
+            ["reader", path] => shown(alloc, &self.open(path, Purpose::Reading)?),
+            ["writer", path] => shown(alloc, &self.open(path, Purpose::Writing)?),
             ["read", number] => self.read(alloc, number.parse()?),
             ["write", number, text] => self.write(alloc, number.parse()?, text),
             ["counts", number] => self.counts(alloc, number.parse()?),
@@ -146,9 +151,9 @@ impl<'a> Tells for Stores<'a> {
             ["mode", path] => Ok(format!(in alloc; "{:o}", mode_of(self.rt, path)?)?),
             ["close"] => {
                 self.images.clear();
-                Ok(format!(in alloc; "done")?)
+                said(alloc, "done")
             }
-            _ => Ok(format!(in alloc; "{}", change(self.rt, &words)?)?),
+            _ => shown(alloc, &change(self.rt, &words)?),
         }
     }
 }
@@ -168,7 +173,7 @@ const ROWS: &str = "\
 writer nowhere/edge.img -> 0
 read 0 -> Missing
 write 0 new -> Missing
-counts 0 -> 2 1
+counts 0 -> (2, 1)
 close -> done
 # A second writer is told, and so is one that writes alone. A reader is not kept out.
 folder two -> true
