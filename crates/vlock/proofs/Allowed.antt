@@ -5,7 +5,7 @@ use prog.Atomic.{either}
 use Rattle.atomic_table.specs.Table.{Me, keeps, Allows}
 use Rattle.trace.specs.Events.{Words, with_word}
 use Rattle.image_layout.specs.Places.{Shape, words_of}
-use Rattle.image_layout.specs.Volatile.{all_words_of}
+use Rattle.image_layout.specs.Volatile.{all_words_of, power_word}
 use Rattle.op_core.specs.declared.want.Want.{Want}
 use Rattle.op_core.specs.declared.want.Want.TheVariants.{Load, Store, Exchange, Flush, Fence, Draw, Power}
 use Rattle.world.specs.Ground.{Ground}
@@ -14,6 +14,7 @@ use Rattle.world.specs.Wants.{word_of, left_by, words_after}
 use Rattle.world.specs.areas.Areas.{Area, Stale, Side}
 use Rattle.world.specs.areas.Kinds.{StructureKind, Guard, takes, takes_for_side, finds_stale, finds_free, finds_side, is_new_side, with_guard, with_guard_for, with_area, with_slot, view_then}
 use Rattle.world.specs.StepKinds.{StepKind, of_call, of_structure, view_by}
+use Rattle.world.specs.StepLaws.{found_of, words_of_step}
 use Rattle.world.specs.Invariant.{Holds}
 use Rattle.world.proofs.basics.Lists.{at_set}
 use Rattle.world.proofs.calls.standing.Every.{every_step}
@@ -24,6 +25,7 @@ use Rattle.vlock.specs.declared.table.Opening.{Opening}
 use Rattle.vlock.specs.Ruling.{word, ground_of, all_views, Kept}
 use Rattle.vlock.specs.Plays.{Met, MayDo, watched, Acted}
 use Rattle.vlock.proofs.Lists.{place, at_place, set_place, stored_word}
+use Rattle.vlock.proofs.Powered.{off_after, off_still}
 
 -- ---- no step changes for how many callers a view stands
 by_guard : (t : Bool) (guard : Guard) (v : View) → (with_guard t guard v).callers ≡ v.callers
@@ -71,7 +73,10 @@ acts site want kind slots id m f inside none may same s h _ at low =
     let bridge : words_after site.shape want j (word s.words) ≡ word (set s.words i (f x)) =
     one_word site.shape want j (word s.words)
     ∙ (ap (λ (y : ℕ). with_word (word s.words) i y) (sym (same x))
-    ∙ stored_word s.words i (f x) (let e = h.words in omega (arith, inside, e))) in (
+    ∙ stored_word s.words i (f x) (let e = h.words in omega (arith, inside, e))) in
+    let went : words_of_step site (kind x) j (word s.words) ≡ word (set s.words i (f x)) =
+    sym (ap (λ (u : Want). words_after site.shape u j (word s.words)) (may.1 x met).0) ∙ bridge in
+    let found_is : x ≡ found_of site (kind x) (word s.words) = ap (λ (u : Want). get_or s.words (word_of site.shape u) 0) (may.1 x met).0 in (
       w,
       keeps,
       tt,
@@ -87,6 +92,11 @@ acts site want kind slots id m f inside none may same s h _ at low =
           | inl e ↦ absurd (let n = may.0 in let k = same_callers site.shape (kind x) x m.0.view in let t = ap (λ (z : Watch). z.view.callers) e.1 in omega (arith, n, k, t, zero_left))
           | inr e ↦ h.idle i p e.1 zero_left
         ];
+        off = λ i p a on. subst (λ (us : Words). us (power_word site.shape) ≡ 1) went (elim (at_set s.views id i w p a) [
+          | inl e ↦ off_after site (word s.words) (all_views s.views) j m.0.view h.holds there (kind x) j x found_is (may.1 x met).1 (λ was. h.off id m.0 at was)
+              (subst (λ (z : Watch). z.view.stored_power ≡ true) (sym e.1) on)
+          | inr e ↦ off_still site (word s.words) (all_views s.views) j m.0.view h.holds there (kind x) j (may.1 x met).1 (h.off i p e.1 on)
+        ]);
       },
       (refl, met),
     )

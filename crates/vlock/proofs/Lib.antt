@@ -1,4 +1,5 @@
 pub mod Lists
+pub mod Powered
 pub mod Allowed
 pub mod Moved
 pub mod Seated

@@ -265,19 +265,19 @@ lost_took site lock free seen p q a =
     ap (λ (w : Watch). w.took) a.2.0 ∙ ap (λ (n : ℕ). (Exchange lock free (free + 1), n) ∷ p.took) b.1
 
 -- and with the look before it
-pub took_behind : (lock free : ℕ) (reply : LockReply) (took seen later : List (Want × ℕ)) → free % 2 ≡ 0 → seen ≡ (Load lock, free) ∷ took → TakeTook lock free seen reply later
+pub took_behind : (lock free : ℕ) (reply : LockReply) (took seen later : List (Want × ℕ)) → free % 2 ≡ 0 → free ≢ 2 ^ 64 - 2 → seen ≡ (Load lock, free) ∷ took → TakeTook lock free seen reply later
     → LockTook lock took reply later
-took_behind lock free (locking.Locked version) took seen later even is t =
+took_behind lock free (locking.Locked version) took seen later even more is t =
     t.1
     ∙ (ap (λ (events : List (Want × ℕ)). (Exchange lock free (free + 1), free) ∷ events) is
     ∙ ap (λ (n : ℕ). (Exchange lock n (n + 1), n) ∷ (Load lock, n) ∷ took) t.0)
-took_behind lock free (locking.Held x) took seen later even is t =
-    inr (free, even, t ∙ ap (λ (events : List (Want × ℕ)). (Exchange lock free (free + 1), x) ∷ events) is)
-took_behind lock free (locking.Moved before after) took seen later even is t =
+took_behind lock free (locking.Held x) took seen later even more is t =
+    (t.0, inr (free, even, more, t.1 ∙ ap (λ (events : List (Want × ℕ)). (Exchange lock free (free + 1), x) ∷ events) is))
+took_behind lock free (locking.Moved before after) took seen later even more is t =
     t.1
     ∙ (ap (λ (events : List (Want × ℕ)). (Exchange lock free (free + 1), after) ∷ events) is
     ∙ ap (λ (n : ℕ). (Exchange lock n (n + 1), after) ∷ (Load lock, n) ∷ took) (sym t.0))
-took_behind lock free locking.Spent took seen later even is t = absurd t
+took_behind lock free locking.Spent took seen later even more is t = absurd t
 
 -- ---- giving it back
 -- what a lock word that is held was found to be

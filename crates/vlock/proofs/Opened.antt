@@ -1,5 +1,6 @@
 -- How the rule begins.
 use Rattle.std.proofs.Common.{◌≡◌, ℕ, zero, suc, List, [], ◌∷◌, refl, sym, ap, ◌∙◌, subst, arith}
+use Rattle.std.proofs.lemmas.Bool.{false≢true}
 use mathlib.Core.Option.{some, some-injective, some-ne-none}
 use lib.ListN.{get_elem?}
 use Rattle.atomic_table.specs.Table.{opening}
@@ -47,4 +48,5 @@ begins key ws same o = subst (λ (xs : List ℕ). Kept (ground_of key) (opening 
     own = refl;
     past = refl;
   });
+  off = λ i p a on. absurd (false≢true (ap (λ (z : Watch). z.view.stored_power) (one_at (first_of key) p i a) ∙ on));
 })

@@ -98,18 +98,20 @@ LockSays site lock v (locking.Moved before after) w =
     (w ≡ v) × (before ≢ after) × (before % 2 ≡ 0) × (after % 2 ≡ 0) × WasAt site v lock before × WasAt site v lock after
 LockSays site lock v locking.Spent w = (w ≡ record v { spent_locks = lock ∷ v.spent_locks }) × WasAt site v lock (2 ^ 64 - 2)
 
--- WHICH EVENTS A TRY TAKES: a look at the lock word, and where that is free and not of the last version one exchange
+-- WHICH EVENTS A TRY TAKES: a look at the lock word, and where that is free and not of the last version one exchange. It gives up a lock as held
+-- where the last of them found an odd value
 abbrev pub LockTook : ℕ → List (Want × ℕ) → LockReply → List (Want × ℕ) → Type 0
 LockTook lock took (locking.Locked version) later = later ≡ (Exchange lock (2 * version) (2 * version + 1), 2 * version) ∷ (Load lock, 2 * version) ∷ took
 LockTook lock took (locking.Held seen) later =
-    (later ≡ (Load lock, seen) ∷ took) ⊎ ((free : ℕ) × (free % 2 ≡ 0) × (later ≡ (Exchange lock free (free + 1), seen) ∷ (Load lock, free) ∷ took))
+    (seen % 2 ≡ 1)
+    × ((later ≡ (Load lock, seen) ∷ took) ⊎ ((free : ℕ) × (free % 2 ≡ 0) × (free ≢ 2 ^ 64 - 2) × (later ≡ (Exchange lock free (free + 1), seen) ∷ (Load lock, free) ∷ took)))
 LockTook lock took (locking.Moved before after) later = later ≡ (Exchange lock before (before + 1), after) ∷ (Load lock, before) ∷ took
 LockTook lock took locking.Spent later = later ≡ (Load lock, 2 ^ 64 - 2) ∷ took
 
 -- the same of the exchange alone, of a word that was found to be `free`
 abbrev pub TakeTook : ℕ → ℕ → List (Want × ℕ) → LockReply → List (Want × ℕ) → Type 0
 TakeTook lock free took (locking.Locked version) later = (free ≡ 2 * version) × (later ≡ (Exchange lock free (free + 1), free) ∷ took)
-TakeTook lock free took (locking.Held seen) later = later ≡ (Exchange lock free (free + 1), seen) ∷ took
+TakeTook lock free took (locking.Held seen) later = (seen % 2 ≡ 1) × (later ≡ (Exchange lock free (free + 1), seen) ∷ took)
 TakeTook lock free took (locking.Moved before after) later = (before ≡ free) × (later ≡ (Exchange lock free (free + 1), after) ∷ took)
 TakeTook lock free took locking.Spent later = ⊥
 

@@ -1,3 +1,4 @@
+pub mod Power
 pub mod Ruling
 pub mod Plays
 pub mod Seats

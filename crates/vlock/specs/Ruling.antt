@@ -12,6 +12,7 @@ use Rattle.world.specs.World.{fresh_view}
 use Rattle.world.specs.Invariant.{Holds}
 use Rattle.vlock.specs.declared.knows.Watch.{Watch}
 use Rattle.vlock.specs.declared.table.Opening.{Opening}
+use Rattle.vlock.specs.Power.{StaysOff}
 
 -- a list of words as a function
 abbrev pub word : List ℕ → Words
@@ -51,10 +52,11 @@ pub record IsIdle (p : Watch) : Type 0 where
   pub own : p.view.own ≡ []
   pub past : p.past ≡ []
 
--- THE RULE: the words and all views meet the invariant of the world; what was taken in owes nothing, and a seat that stands
--- for no caller is idle
+-- THE RULE: the words and all views meet the invariant of the world; what was taken in owes nothing, a seat that stands
+-- for no caller is idle, and where a seat's view has stored the power word, it is 1
 pub record Kept (site : Ground) (s : State ℕ Watch) : Type 0 where
   pub words : length s.words ≡ all_words_of site.shape
   pub holds : Holds site (word s.words) (all_views s.views)
   pub past : (i : ℕ) (p : Watch) (u : View) → get_elem? s.views i ≡ some p → Has u p.past → OwesNothing u
   pub idle : (i : ℕ) (p : Watch) → get_elem? s.views i ≡ some p → p.view.callers ≡ 0 → IsIdle p
+  pub off : StaysOff site (word s.words) s.views

@@ -22,7 +22,10 @@ pub returns-in-Won-clause-events : goal.returns-in-Won-clause-events
 returns-in-Won-clause-events c = won_took (ground_of c.args.image.now.key) c.args.lock c.args.free c.args.seat.now.me.0 _ c.requires.free.0 c.in-Won.ensures.view
 
 pub returns-then-seen-eq1-clause-events : goal.returns-then-seen-eq1-clause-events
-returns-then-seen-eq1-clause-events c = lost_took (ground_of c.args.image.now.key) c.args.lock c.args.free c.in-Lost.seen c.args.seat.now.me.0 _ c.in-Lost.ensures.view
+returns-then-seen-eq1-clause-events c = (
+  c.if-seen-eq1.true,
+  lost_took (ground_of c.args.image.now.key) c.args.lock c.args.free c.in-Lost.seen c.args.seat.now.me.0 _ c.in-Lost.ensures.view,
+)
 
 pub returns-else-seen-eq1-clause-events : goal.returns-else-seen-eq1-clause-events
 returns-else-seen-eq1-clause-events c = (refl, lost_took (ground_of c.args.image.now.key) c.args.lock c.args.free c.in-Lost.seen c.args.seat.now.me.0 _ c.in-Lost.ensures.view)

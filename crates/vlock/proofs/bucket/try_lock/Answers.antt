@@ -41,8 +41,10 @@ returns-else-free-clause-lock c =
     subst (λ (v : View). LockSays (ground_of c.args.image.now.key) c.args.lock v c.take.result c.take.new.seat.me.0.view) e c.take.ensures.lock
 
 pub returns-then-free-eq1-clause-events : goal.returns-then-free-eq1-clause-events
-returns-then-free-eq1-clause-events c =
-    inl (looked_once (ground_of c.args.image.now.key) c.args.lock c.meet-free.result (λ n. of_call (meets_lock c.args.lock)) c.args.seat.now.me.0 _ c.meet-free.ensures.view)
+returns-then-free-eq1-clause-events c = (
+  c.if-free-eq1.true,
+  inl (looked_once (ground_of c.args.image.now.key) c.args.lock c.meet-free.result (λ n. of_call (meets_lock c.args.lock)) c.args.seat.now.me.0 _ c.meet-free.ensures.view),
+)
 
 pub returns-then-free-clause-events : goal.returns-then-free-clause-events
 returns-then-free-clause-events c =
@@ -51,5 +53,5 @@ returns-then-free-clause-events c =
 
 pub returns-else-free-clause-events : goal.returns-else-free-clause-events
 returns-else-free-clause-events c =
-    took_behind c.args.lock c.meet-free.result c.take.result c.args.seat.now.me.0.took c.meet-free.new.seat.me.0.took c.take.new.seat.me.0.took (even_of c.meet-free.result c.if-free-eq1.false)
+    took_behind c.args.lock c.meet-free.result c.take.result c.args.seat.now.me.0.took c.meet-free.new.seat.me.0.took c.take.new.seat.me.0.took (even_of c.meet-free.result c.if-free-eq1.false) c.if-free.false
     (looked_once (ground_of c.args.image.now.key) c.args.lock c.meet-free.result (λ n. of_call (meets_lock c.args.lock)) c.args.seat.now.me.0 _ c.meet-free.ensures.view) c.take.ensures.events

@@ -1,0 +1,12 @@
+-- The power word, by the views of all seats.
+use Rattle.std.specs.Prelude.{◌≡◌, ℕ, true, List}
+use mathlib.Core.Option.{some}
+use lib.ListN.{get_elem?}
+use Rattle.trace.specs.Events.{Words}
+use Rattle.image_layout.specs.Volatile.{power_word}
+use Rattle.world.specs.Ground.{Ground}
+use Rattle.vlock.specs.declared.knows.Watch.{Watch}
+
+-- THE POWER STAYS OFF: where the view of a seat has stored the power word, the word is 1, and so not 0
+abbrev pub StaysOff : Ground → Words → List Watch → Type 0
+StaysOff site words seats = (i : ℕ) (p : Watch) → get_elem? seats i ≡ some p → p.view.stored_power ≡ true → words (power_word site.shape) ≡ 1
