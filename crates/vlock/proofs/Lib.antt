@@ -5,4 +5,5 @@ pub mod Moved
 pub mod Seated
 pub mod Opened
 pub mod Noting
+pub mod Found
 pub mod Ended

@@ -4,3 +4,4 @@ pub mod Plays
 pub mod Seats
 pub mod Ends
 pub mod Buckets
+pub mod Finding

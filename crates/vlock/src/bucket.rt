@@ -47,7 +47,7 @@ pub enum LockReply {
 
 /// A load, as one step. The looks below differ in the kind of their step alone, that is in why they are made: what a seat
 /// knows behind them is another thing each time.
-fn load<N: Acting, E>(
+pub(crate) fn load<N: Acting, E>(
     image: &Image,
     geometry: &Geometry,
     seat: &mut ImageSeat,

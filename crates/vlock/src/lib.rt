@@ -2,11 +2,12 @@
 //! invariant of the world holds.
 //!
 //! `table` has the rule of the shared words, `knows` what a seat knows, `steps` the events, `seats` how seats are cut in
-//! two and joined, `bucket` how a bucket is read and locked, and `ends` how an image is opened and closed.
+//! two and joined, `find` how the segment of a hash is found, `bucket` how a bucket is read and locked, and `ends` how an image is opened and closed.
 #![tactic(auto)]
 
 mod bucket;
 mod ends;
+mod find;
 mod knows;
 mod seats;
 mod steps;
@@ -14,6 +15,7 @@ mod table;
 
 pub use bucket::{LockReply, ReadReply, read_bucket, try_lock, unlock};
 pub use ends::{OwnedImage, close, open};
+pub use find::{FindReply, find_segment};
 pub use knows::Watch;
 pub use seats::{CutsNote, CutsPass, TakesIn, split_note, split_pass, take_in};
 pub use steps::{answer, event, step};
