@@ -1,6 +1,7 @@
 -- What is known when one seat stands for all callers.
-use Rattle.std.proofs.Common.{◌≡◌, ◌≢◌, inl, inr, ℕ, zero, suc, ◌+◌, ◌<◌, ◌≤◌, List, [], ◌∷◌, ◌++◌, length, get_or, refl, sym, ap, ◌∙◌, subst, arith}
+use Rattle.std.proofs.Common.{◌≡◌, ◌≢◌, inl, inr, ℕ, zero, suc, ◌+◌, ◌%◌, ◌<◌, ◌≤◌, List, [], ◌∷◌, ◌++◌, length, get_or, refl, sym, ap, ◌∙◌, subst, arith}
 use Rattle.std.specs.Prelude.{filter}
+use Rattle.std.proofs.lemmas.Bool.{cases_eq}
 use mathlib.Core.Logic.{dite}
 use mathlib.Core.Option.{some, some-injective, some-ne-none}
 use native.Mathlib.Decide.{ℕ_discrete}
@@ -9,12 +10,21 @@ use Rattle.atomic_table.specs.Table.{State}
 use Rattle.map_model.specs.declared.call.Call.{Call}
 use Rattle.map_model.specs.Weave.{draws, drew_at}
 use Rattle.world.specs.Hits.{find}
-use Rattle.world.specs.Ground.{Ground}
-use Rattle.world.specs.Views.{View, Has, At}
+use Rattle.segment_head.specs.HeadWord.{normal}
+use Rattle.image_layout.specs.Places.{bucket_at, buckets}
+use Rattle.sound_image.specs.Segments.{frame_of, state_at}
+use Rattle.bucket_words.specs.Core.{core_of}
+use Rattle.world.specs.Ground.{Ground, IsCurrentIn}
+use Rattle.world.specs.Views.{Move, Owed, View, Has, At}
 use Rattle.world.specs.History.{map_now}
 use Rattle.world.specs.Parts.{total, History}
 use Rattle.world.proofs.basics.Lists.{has_joined}
+use Rattle.world.specs.areas.Areas.{Area, Whole}
+use Rattle.world.specs.areas.Asking.{IsInOrder}
+use Rattle.world.specs.areas.Worlds.{IsWell}
+use Rattle.world.specs.Invariant.{IsWatched}
 use Rattle.world.proofs.Legality.{entries_legal}
+use Rattle.world.proofs.stepping.Rests.{rests_are_quiet, current_segments_rest}
 use Rattle.vlock.specs.declared.knows.Watch.{Watch}
 use Rattle.vlock.specs.Ruling.{word, all_views, IsIdle, OwesNothing, Kept}
 use Rattle.vlock.specs.Ends.{IsEnd}
@@ -116,14 +126,63 @@ module _ (site : Ground) (s : State ℕ Watch) (id : ℕ) (k : Watch) (h : Kept 
   }
 
   module _ (nothing : OwesNothing k.view) where
+    -- each view owes nothing
+    nobody : (u : View) → Has u (all_views s.views) → OwesNothing u
+    nobody u has = each_has OwesNothing s.views
+        (λ i p a. dite (ℕ_discrete i id)
+        (λ (e : i ≡ id). subst (λ (z : Watch). OwesNothing z.view) (some-injective k p (sym at ∙ (sym (ap (λ (n : ℕ). get_elem? s.views n) e) ∙ a))) nothing)
+        (λ (ne : i ≢ id). (others i p ne a).nothing))
+        (λ i p x a in_past. h.past i p x a in_past) u has
+
+    nobody_at : (j : ℕ) (u : View) → At (all_views s.views) j u → OwesNothing u
+    nobody_at j u a = nobody u (has_at (all_views s.views) j u a)
+
+    no_areas : (j : ℕ) (u : View) → At (all_views s.views) j u → u.areas ≡ []
+    no_areas j u a = (nobody_at j u a).areas
+
     -- nobody has a change planned
     nobody_plans : (u : View) (call : Call) → Has u (all_views s.views) → Has call u.planned → ⊥
-    nobody_plans u call = each_has (λ u. Has call u.planned → ⊥) s.views
-        (λ i p a q. dite (ℕ_discrete i id)
-        (λ (e : i ≡ id). let same : p ≡ k = some-injective p k (sym a ∙ (ap (λ (n : ℕ). get_elem? s.views n) e ∙ at)) in
-        subst (λ (calls : List Call). Has call calls) (ap (λ (z : Watch). z.view.planned) same ∙ nothing.planned) q)
-        (λ (ne : i ≢ id). subst (λ (calls : List Call). Has call calls) (others i p ne a).nothing.planned q))
-        (λ i p x a in_past q. subst (λ (calls : List Call). Has call calls) (h.past i p x a in_past).planned q) u
+    nobody_plans u call has q = subst (λ (calls : List Call). Has call calls) (nobody u has).planned q
+
+    -- what a cut would leave is what there is, since nothing is loose
+    well : IsWell site (word s.words) (record { words = word s.words; trace = []; views = all_views s.views })
+    well = record {
+      words_are = refl;
+      holds = h.holds;
+      tied = record {
+        covered = λ i y within had. inl (ap (λ (x : ℕ). core_of site.shape i x) had);
+        fresh = λ c v i x a has. absurd (subst (λ (ps : List (ℕ × ℕ)). Has (i, x) ps) (nobody_at c v a).flushed has);
+      };
+    }
+
+    -- nobody has a segment whole, so that each current one is watched
+    watched : (n : ℕ) → IsCurrentIn site (word s.words) n → IsWatched site (word s.words) (all_views s.views) n
+    watched n current = (current, λ j v a whole. subst (λ (areas : List Area). Has (Whole n) areas) (no_areas j v a) whole)
+
+    -- nobody has a record under way, and nobody owes a note
+    in_order : (n : ℕ) → IsCurrentIn site (word s.words) n → IsInOrder site (word s.words) n
+    in_order n current = record {
+      own = λ b r x hit. h.holds.records.own n b r x (watched n current) hit;
+      once = λ b r c t x one other. elim (h.holds.records.once n b r c t x (watched n current) one other) [
+        | inl same ↦ same
+        | inr p ↦ absurd (subst (λ (moves : List Move). Has p.2 moves) (nobody_at p.0 p.1 p.3).moving p.4)
+      ];
+      exact = λ b near. h.holds.notes_of_homes.exact n b (watched n current) near (λ j v o a has segment home. subst (λ (owed : List Owed). Has o owed) (nobody_at j v a).owed has);
+    }
+
+    -- and nobody holds a lock
+    free : (n : ℕ) → IsCurrentIn site (word s.words) n → (b : ℕ) → b < buckets → word s.words (bucket_at site.shape n b) % 2 ≡ 0
+    free n current b near = elim (cases_eq (word s.words (bucket_at site.shape n b) % 2) 1) [
+      | inl odd ↦ (let o = h.holds.locks.odd (bucket_at site.shape n b) (n, b, current.live.slot, near, refl, current) odd in
+          absurd (subst (λ (held : List (ℕ × ℕ)). Has (bucket_at site.shape n b, o.3.0) held) (nobody_at o.0 o.1 o.2).held o.3.1))
+      | inr other ↦ omega (arith, other)
+    ]
+
+    normal_now : (n : ℕ) → IsCurrentIn site (word s.words) n → state_at (frame_of site.shape (word s.words)) n ≡ normal
+    normal_now n current = elim current.live.live [
+      | inl is ↦ is
+      | inr splits ↦ absurd (current_segments_rest.nobody site (word s.words) (all_views s.views) h.holds no_areas n current splits)
+    ]
 
     pub ended : IsEnd site (word s.words) (k.view ∷ k.past)
     ended =
@@ -138,6 +197,9 @@ module _ (site : Ground) (s : State ℕ Watch) (id : ℕ) (k : Watch) (h : Kept 
           table = h.holds.media.table (word s.words) (λ i _. inl refl);
           pairs = pairs;
           legal = λ start same. (entries_legal site (word s.words) (k.view ∷ k.past) h.holds.log history start same).0;
+          nobody = record { views = all_views s.views; well = well; nothing = nobody_at };
+          guards = λ guard is. rests_are_quiet.guards site (word s.words) (all_views s.views) h.holds no_areas guard is;
+          repaired = λ n current. record { normal = normal_now n current; in_order = in_order n current; free = free n current };
           replay_is = λ start same key. (entries_legal site (word s.words) (k.view ∷ k.past) h.holds.log history start same).1 key ∙ sym (pairs key);
         }
 

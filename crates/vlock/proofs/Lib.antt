@@ -7,3 +7,4 @@ pub mod Opened
 pub mod Noting
 pub mod Found
 pub mod Ended
+pub mod Reopened

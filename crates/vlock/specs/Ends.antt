@@ -1,5 +1,5 @@
 -- How an image is opened, and what is known of it when all callers have ended.
-use Rattle.std.specs.Prelude.{◌≡◌, ℕ, ◌<◌, ◌≤◌, List, length, map}
+use Rattle.std.specs.Prelude.{◌≡◌, ℕ, ◌^◌, ◌<◌, ◌≤◌, List, [], length, map}
 use Rattle.std.specs.FinMap.{get}
 use Rattle.map_model.specs.Map.{Map}
 use Rattle.map_model.specs.Weave.{weave}
@@ -11,12 +11,14 @@ use Rattle.bucket_words.specs.Standing.{IsTable}
 use Rattle.world.specs.Claims.{HasSoundFrame}
 use Rattle.world.specs.Hits.{find}
 use Rattle.world.specs.Ground.{Ground, IsGround, IsStructured, IsCurrentIn}
-use Rattle.world.specs.Views.{View}
+use Rattle.world.specs.Views.{View, At}
 use Rattle.world.specs.History.{Log, map_now}
 use Rattle.world.specs.Parts.{History}
 use Rattle.world.specs.areas.Beginning.{IsRepaired}
+use Rattle.world.specs.areas.Kinds.{Guard, HasGuard, guard_word}
+use Rattle.world.specs.areas.Worlds.{IsWell}
 use Rattle.vlock.specs.declared.table.Opening.{Opening}
-use Rattle.vlock.specs.Ruling.{word, ground_of}
+use Rattle.vlock.specs.Ruling.{word, ground_of, OwesNothing}
 
 -- the words are those of an image as a restart leaves it: its structure is sound, it is a table, and each current segment is repaired; the
 -- words behind it are 0
@@ -28,6 +30,13 @@ pub record IsOpened (key : Opening) : Type 0 where
   pub behind : (i : ℕ) → words_of key.geometry ≤ i → i < all_words_of key.geometry → word key.words.value.items i ≡ 0
   pub repaired : (s : ℕ) → IsCurrentIn (ground_of key) (word key.words.value.items) s → IsRepaired (ground_of key) (word key.words.value.items) s
 
+-- NOBODY IS LEFT: the views of all seats, some of which were taken in and some of which are idle, hold nothing and owe nothing; and with no event
+-- of a device these words are a world of them that is well, as a close asks
+pub record NobodyIsLeft (site : Ground) (words : Words) : Type 0 where
+  pub views : List View
+  pub well : IsWell site words (record { words = words; trace = []; views = views })
+  pub nothing : (j : ℕ) (v : View) → At views j v → OwesNothing v
+
 -- these views have one history, and the words are a table with a sound structure that has what the history leaves
 pub record IsEnd (site : Ground) (words : Words) (views : List View) : Type 0 where
   pub log : Log
@@ -38,3 +47,19 @@ pub record IsEnd (site : Ground) (words : Words) (views : List View) : Type 0 wh
   -- and their replies are one legal history of a plain map, whose replay has what the table has
   pub legal : (start : Map) → ((k : ℕ) → get start k ≡ site.start k) → IsLegal start (map (λ v. v.own) views)
   pub replay_is : (start : Map) → ((k : ℕ) → get start k ≡ site.start k) → (k : ℕ) → get (replay start (weave (map (λ v. v.own) views))) k ≡ find site.shape words k
+  -- no guard is taken, and each current segment is repaired, so that none of its locks is
+  pub nobody : NobodyIsLeft site words
+  pub guards : (guard : Guard) → HasGuard site.shape guard → words (guard_word site.shape guard) ≡ 0
+  pub repaired : (s : ℕ) → IsCurrentIn site words s → IsRepaired site words s
+
+-- an opening of what was left: the words of the image, with 0 in those behind it, for callers that are few enough
+pub record IsOfWhatWasLeft (site : Ground) (words : Words) (key : Opening) : Type 0 where
+  pub geometry : key.geometry ≡ site.shape
+  pub few : key.callers < 2 ^ 32
+  pub length_is : length key.words.value.items ≡ all_words_of key.geometry
+  pub same : (i : ℕ) → i < words_of site.shape → word key.words.value.items i ≡ words i
+  pub behind : (i : ℕ) → words_of key.geometry ≤ i → i < all_words_of key.geometry → word key.words.value.items i ≡ 0
+
+-- WHAT WAS CLOSED MAY BE OPENED AGAIN
+abbrev pub OpensAgain : Type 0
+OpensAgain = (site : Ground) (words : Words) (views : List View) (key : Opening) → IsEnd site words views → IsOfWhatWasLeft site words key → IsOpened key

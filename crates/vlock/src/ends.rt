@@ -3,7 +3,7 @@
 ghost use Rattle.std.specs.Prelude.{◌≡◌, [], ◌∷◌, IfOk, length};
 ghost use Rattle.vlock.specs.Ruling.{word, ground_of, first_of, OwesNothing};
 ghost use Rattle.vlock.specs.Plays.{IsSeatOf};
-ghost use Rattle.vlock.specs.Ends.{IsOpened, IsEnd};
+ghost use Rattle.vlock.specs.Ends.{IsOpened, IsEnd, OpensAgain};
 
 use crate::knows::Watch;
 use crate::table::{ImageSeat, Opening, Rule};
@@ -48,3 +48,8 @@ pub fn close(table: OwnedImage, keeper: ImageSeat, mut room: Vec<u64>) -> Vec<u6
     closed.free();
     room
 }
+
+/// The words that a close gave may be opened again, once those behind the image are 0. This is a law: the function does nothing.
+pub fn ends_open_again()
+    ensures { OpensAgain }
+{}

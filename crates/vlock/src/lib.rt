@@ -14,7 +14,7 @@ mod steps;
 mod table;
 
 pub use bucket::{LockReply, ReadReply, read_bucket, try_lock, unlock};
-pub use ends::{OwnedImage, close, open};
+pub use ends::{OwnedImage, close, ends_open_again, open};
 pub use find::{FindReply, find_segment};
 pub use knows::Watch;
 pub use seats::{CutsNote, CutsPass, TakesIn, split_note, split_pass, take_in};
