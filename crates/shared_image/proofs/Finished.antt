@@ -1,0 +1,118 @@
+-- What the close of a shared image leaves: a clean image, with the pairs of what was replied.
+use Rattle.std.proofs.Common.{◌≡◌, ℕ, zero, suc, ◌-◌, ◌^◌, ◌<◌, ◌≤◌, List, [], ◌∷◌, length, refl, sym, ap, ◌∙◌, subst, arith}
+use Rattle.std.specs.Prelude.{slice_index, take, drop, map}
+use Rattle.std.proofs.lemmas.List.{get_or-take}
+use Rattle.trace.specs.Events.{Words, Event, line_of, value, value_at, after}
+use Rattle.trace.specs.Progress.{settled_moment}
+use Rattle.trace.specs.Steps.{HadSinceSettled}
+use Rattle.trace.specs.Media.{IsPossible}
+use Rattle.trace.proofs.Moments.{value_at_now, had_at}
+use Rattle.trace.proofs.Flushes.{settled_before}
+use Rattle.trace.proofs.Media.{may_of_had}
+use Rattle.image_layout.specs.Places.{Shape, state_word, words_of}
+use Rattle.image_layout.specs.StateWord.{marker_in}
+use Rattle.map_model.specs.declared.entry.Entry.{Entry}
+use Rattle.map_model.specs.Weave.{weave}
+use Rattle.map_model.specs.Legal.{replay}
+use Rattle.sound_image.specs.Segments.{frame_of, IsClean}
+use Rattle.sound_image.specs.Image.{IsSoundImage}
+use Rattle.world.specs.Ground.{Ground}
+use Rattle.world.specs.Views.{View}
+use Rattle.world.specs.World.{World}
+use Rattle.world.specs.Wants.{word_of, event_of}
+use Rattle.restart_op.specs.Close.{wanted}
+use Rattle.restart_op.specs.Closing.{close_after, SaysShapeInFront, HaveFit, AllAreQuiet, IsKept}
+use Rattle.restart_op.proofs.Currents.{current_in}
+use Rattle.restart_op.proofs.closes.CloseKeeping.{close_keeps, close_settles}
+use Rattle.vlock.specs.Ruling.{word}
+use Rattle.vlock.specs.Ends.{IsEnd}
+use Rattle.shared_image.specs.Closed.{IsClosedFrom, HasWhatWasReplied}
+
+-- the words of a close are those that its events made
+made : (shape : Shape) (ws : Words) (n : ℕ) → (close_after shape ws [] n).words ≡ value ws (close_after shape ws [] n).trace
+made shape ws zero = refl
+made shape ws (suc n) =
+    let c = close_after shape ws [] n in
+    ap (λ (f : Words). after (event_of shape (wanted c.op) (c.words (word_of shape (wanted c.op))) 0) f) (made shape ws n)
+
+fits_at_first : (start : Words) → ((i : ℕ) → start i < 2 ^ 64) → HaveFit start []
+fits_at_first start fits i t =
+    let none : length {A = Event} [] - t ≡ 0 = omega arith in
+    subst (λ (n : ℕ). value start (drop n []) i < 2 ^ 64) (sym none) (fits i)
+
+length_taken : (n : ℕ) (xs : List ℕ) → n ≤ length xs → length (take n xs) ≡ n
+length_taken zero [] h = refl
+length_taken zero (x ∷ xs) h = refl
+length_taken (suc n) [] h = absurd (omega (arith, h))
+length_taken (suc n) (x ∷ xs) h = let r = length_taken n xs (omega (arith, h)) in omega (arith, r)
+
+module _ (site : Ground) (before last : List ℕ) (views : List View) (ended : IsEnd site (word before) views) (fits : (i : ℕ) → slice_index before i < 2 ^ 64)
+    (says : SaysShapeInFront site.shape site.front) (unmarked : marker_in (site.front state_word) ≡ 0) (run : IsClosedFrom site.shape (word before) (word last))
+    (long : words_of site.shape ≤ length last) where
+  abbrev world : World
+  world = record { words = word before; trace = []; views = ended.nobody.views }
+
+  abbrev medium : List ℕ
+  medium = take (words_of site.shape) last
+
+  state_stays : word before state_word ≡ site.front state_word
+  state_stays = ended.structure.fixed state_word (omega arith) (λ e. omega (arith, e))
+
+  quiet : AllAreQuiet site (word before) world
+  quiet = record {
+    well = ended.nobody.well;
+    nothing = λ j v at. (let n = ended.nobody.nothing j v at in
+        record { held = n.held; dirty = n.dirty; flushed = n.flushed; planned = n.planned; moving = n.moving; owed = n.owed; areas = n.areas });
+    fits = fits_at_first (word before) fits;
+    says = says;
+    structure = record {
+      frame = ended.structure.sound;
+      not_clean = ap marker_in state_stays ∙ unmarked;
+      takes_calls = λ s current. (ended.repaired s (current_in site (word before) ended.structure s current)).normal;
+    };
+    fenced = refl;
+  }
+
+  pub whole : length medium ≡ words_of site.shape
+  whole = length_taken (words_of site.shape) last long
+
+  -- the newest words are a medium that may be left
+  possible : IsPossible (words_of site.shape) (word before) (close_after site.shape (word before) [] run.events).trace (slice_index medium)
+  possible i within =
+      let es = (close_after site.shape (word before) [] run.events).trace in
+      let is : value_at (word before) es (length es) i ≡ slice_index medium i =
+      value_at_now (word before) es i
+      ∙ sym (ap (λ (ws : Words). ws i) (run.words_are ∙ made site.shape (word before) run.events))
+      ∙ sym (get_or-take (words_of site.shape) last i 0 within) in
+      may_of_had (word before) es i (slice_index medium i)
+      (subst (λ (x : ℕ). HadSinceSettled (word before) es i x) is
+      (had_at (word before) es (settled_moment (line_of i) es) (length es) i (settled_before es (line_of i)) (omega arith)))
+
+  kept : IsKept site (word before) medium
+  kept = close_keeps site (word before) world quiet run.events medium whole possible
+
+  pub sound : IsSoundImage site.shape medium
+  sound = kept.sound
+
+  pub clean : IsClean (frame_of site.shape (slice_index medium))
+  clean = (close_settles site (word before) world quiet run.events run.ended medium whole possible).clean
+
+  pub replied : (replies : List (List Entry)) → map (λ v. v.own) views ≡ replies → HasWhatWasReplied site replies medium
+  replied replies is = subst (λ (rs : List (List Entry)). HasWhatWasReplied site rs medium) is (λ start same. (
+    ended.legal start same,
+    kept.pairs (replay start (weave (map (λ v. v.own) views))) (ended.replay_is start same),
+  ))
+
+-- THE CLOSE IS FINISHED, by another name of the shape, and of the words that are given
+pub finish : (site : Ground) (shape : Shape) (before last out : List ℕ) (views : List View) (replies : List (List Entry)) → shape ≡ site.shape → IsEnd site (word before) views
+    → ((i : ℕ) → slice_index before i < 2 ^ 64) → SaysShapeInFront site.shape site.front → marker_in (site.front state_word) ≡ 0 → IsClosedFrom shape (word before) (word last)
+    → words_of site.shape ≤ length last → out ≡ take (words_of shape) last → map (λ v. v.own) views ≡ replies
+    → IsSoundImage site.shape out × IsClean (frame_of site.shape (slice_index out)) × HasWhatWasReplied site replies out
+finish site shape before last out views replies same ended fits says unmarked run long is told =
+    let here : IsClosedFrom site.shape (word before) (word last) = subst (λ (g : Shape). IsClosedFrom g (word before) (word last)) same run in
+    let given : out ≡ take (words_of site.shape) last = is ∙ ap (λ (g : Shape). take (words_of g) last) same in
+    subst (λ (ws : List ℕ). IsSoundImage site.shape ws × IsClean (frame_of site.shape (slice_index ws)) × HasWhatWasReplied site replies ws) (sym given) (
+      sound site before last views ended fits says unmarked here long,
+      clean site before last views ended fits says unmarked here long,
+      replied site before last views ended fits says unmarked here long replies told,
+    )

@@ -1,0 +1,47 @@
+-- An image that was powered on, and the passes of its threads.
+use Rattle.std.specs.Prelude.{◌≡◌, ℕ, ◌<◌, [], length}
+use Rattle.atomic_table.specs.declared.shared.Seat.{Seat}
+use Rattle.image_layout.specs.Places.{state_word}
+use Rattle.image_layout.specs.StateWord.{marker_in}
+use Rattle.restart_op.specs.Closing.{SaysShapeInFront}
+use Rattle.world.specs.Ground.{Ground, version_of}
+use Rattle.vlock.specs.declared.knows.Watch.{Watch}
+use Rattle.vlock.specs.declared.table.Opening.{Opening}
+use Rattle.vlock.specs.Ruling.{ground_of, OwesNothing}
+use Rattle.vlock.specs.Plays.{IsSeatOf, IsWhole}
+use Rattle.shared_image.specs.declared.image.SharedImage.{SharedImage}
+
+-- what was fixed when the image was opened
+abbrev pub opening : SharedImage → Opening
+opening image = image.table.shared.key
+
+-- its shape, the words of its structure as the restart left them, what each key had then, and how many callers there are
+abbrev pub ground : SharedImage → Ground
+ground image = ground_of (opening image)
+
+-- a pass of this image
+abbrev pub IsPassOf : SharedImage → Seat ℕ Watch → Type 0
+IsPassOf image pass = IsSeatOf image.table.shared.table_id (opening image) pass
+
+-- what the keeper knows, which takes no event of its own: it stands for a caller, owes nothing, has replied nothing, and took in nobody yet
+pub record IsKeeper (keeper : Watch) : Type 0 where
+  pub stands : 0 < keeper.view.callers
+  pub nothing : OwesNothing keeper.view
+  pub own : keeper.view.own ≡ []
+  pub past : keeper.past ≡ []
+
+-- THE IMAGE IS ON: it is laid out as it was opened, the restart left its version, its front says what it is and is not marked clean; and its
+-- keeper is one of its seats
+pub record IsOn (image : SharedImage) : Type 0 where
+  pub whole : IsWhole image.table.shared.table_id (opening image)
+  pub laid_out : image.geometry ≡ (opening image).geometry
+  pub version : image.started.version ≡ version_of (ground image)
+  pub room : length image.room.items ≡ image.table.shared.table_id.words
+  pub keeper : IsPassOf image image.keeper
+  pub keeps : IsKeeper image.keeper.me.0
+  pub says : SaysShapeInFront (ground image).shape (ground image).front
+  pub unmarked : marker_in ((ground image).front state_word) ≡ 0
+
+-- for how many callers the keeper stands still, itself one of them
+abbrev pub callers_left : SharedImage → ℕ
+callers_left image = image.keeper.me.0.view.callers

@@ -1,0 +1,14 @@
+//! An image in memory that many threads share, from power-on to its close.
+//!
+//! [`power_on`] runs the restart over the words of a medium and opens them; a [`SharedImage`] has what threads may do then,
+//! each with a pass of its own; [`close`] takes the passes in, runs the close over the words, and gives a clean image back.
+#![tactic(auto)]
+
+mod closing;
+mod image;
+mod memory;
+mod power;
+
+pub use closing::close;
+pub use image::{Pass, SharedImage};
+pub use power::power_on;

@@ -1,0 +1,102 @@
+//! An image is powered on: its medium is laid out, restarted and opened.
+
+ghost use Rattle.std.specs.Prelude.{◌≡◌, ℕ, ◌+◌, ◌<◌, ◌≤◌, ◌^◌, IfOk, length, slice_index};
+ghost use Rattle.std.specs.FinMap.{get};
+ghost use Rattle.image_layout.specs.Places.{words_of, state_word};
+ghost use Rattle.image_layout.specs.Volatile.{all_words_of};
+ghost use Rattle.map_model.specs.Map.{Map};
+ghost use Rattle.sound_image.specs.Image.{IsSoundImage};
+ghost use Rattle.sound_image.specs.Left.{HasPairsOf};
+ghost use Rattle.restart_op.specs.Restart.{started_for};
+ghost use Rattle.restart_op.specs.Restarted.{words_at_end};
+ghost use Rattle.vlock.specs.Ruling.{word};
+ghost use Rattle.shared_image.specs.Powered.{IsOn, ground, callers_left};
+
+use crate::image::SharedImage;
+use crate::memory::do_event;
+use image_file::Medium;
+use image_layout::Geometry;
+use map_model::NoMemory;
+use op_core::{Machine, Want};
+use restart_op::{RestartOp, Started};
+use std::alloc::Global;
+use std::snapshot::Snapshot;
+use vlock::{Opening, open};
+
+/// How many words stand behind those of the image, beside one for each slot for a segment.
+const VOLATILE: u64 = 4;
+
+/// How many words there are with those of the image.
+fn all_words(geometry: &Geometry) -> usize
+    ensures is { result ≡ all_words_of geometry.now }
+    ensures most { result < 2 ^ 32 }
+{
+    (geometry.words() + VOLATILE + geometry.segments()) as usize
+}
+
+/// The words of a medium, with 0 in those behind them.
+fn laid_out(alloc: Global, medium: &Medium) -> Result<Vec<u64>, NoMemory>
+    requires whole { length medium.now.words ≡ words_of medium.now.geometry }
+    ensures words { IfOk result (λ words. word words.items ≡ slice_index medium.now.words) }
+    ensures length { IfOk result (λ words. length words.items ≡ all_words_of medium.now.geometry) }
+{
+    let total = all_words(&medium.geometry);
+    let mut words = Vec::with_capacity(alloc, total)?;
+    words.extend_from_slice(medium.words.as_slice())?;
+    words.resize(total, 0)?;
+    Ok(words)
+}
+
+/// Runs the restart of a medium over its words, and gives what that leaves.
+fn restart(words: &mut Vec<u64>, medium: &Medium) -> Started
+    requires sound { IsSoundImage medium.now.geometry medium.now.words }
+    requires same { word words.old.items ≡ slice_index medium.now.words }
+    requires whole { length words.old.items ≡ all_words_of medium.now.geometry }
+    ensures words { word words.new.items ≡ words_at_end medium.now.geometry medium.now.words }
+    ensures length { length words.new.items ≡ length words.old.items }
+    ensures started { result ≡ started_for (slice_index medium.now.words state_word) }
+{
+    let mut op = RestartOp::new(medium.geometry);
+    loop {
+        match op.want() {
+            Want::Done => return op.end(),
+            want => {
+                let ans = do_event(words, want);
+                op.take(ans);
+            }
+        }
+    }
+}
+
+/// Powers an image on, for so many callers and a keeper: the restart runs over its words, as after a close or a power cut, and threads
+/// may share what it leaves. The medium stays as it was.
+///
+/// # Errors
+///
+/// `NoMemory` if memory runs out.
+pub fn power_on(alloc: Global, medium: &Medium, callers: u64) -> Result<SharedImage, NoMemory>
+    requires sound { IsSoundImage medium.now.geometry medium.now.words }
+    requires callers { callers + 1 < 2 ^ 32 }
+    ensures on { IfOk result (λ image. IsOn image) }
+    ensures shape { IfOk result (λ image. (ground image).shape ≡ medium.now.geometry) }
+    ensures callers { IfOk result (λ image. (callers_left image ≡ callers + 1) × ((ground image).callers ≡ callers + 1)) }
+    ensures words { IfOk result (λ image. (ground image).front ≡ words_at_end medium.now.geometry medium.now.words) }
+    ensures pairs { IfOk result (λ image. (m : Map) → HasPairsOf medium.now.geometry (slice_index medium.now.words) m → (k : ℕ) → get m k ≡ (ground image).start k) }
+{
+    let geometry = medium.geometry;
+    let mut room = laid_out(alloc, medium)?;
+    let started = restart(&mut room, medium);
+    let key = Opening {
+        geometry,
+        words: Snapshot::of(&room),
+        callers: callers + 1,
+    };
+    let (table, keeper) = open(alloc, &room, &key)?;
+    Ok(SharedImage {
+        table,
+        geometry,
+        started,
+        keeper,
+        room,
+    })
+}
