@@ -21,10 +21,11 @@ use Rattle.restart_op.proofs.restarts.Beginning.{ends_started, restart_begins, k
 use Rattle.restart_op.proofs.Quiet.{quiet_after_restart}
 use Rattle.vlock.specs.declared.table.Opening.{Opening}
 use Rattle.vlock.specs.Ruling.{word, ground_of, first_of}
-use Rattle.vlock.specs.Plays.{IsSeatOf}
+use Rattle.vlock.specs.Plays.{IsSeatOf, IsWhole}
 use Rattle.vlock.specs.Ends.{IsOpened}
 use Rattle.shared_image.specs.declared.image.SharedImage.{SharedImage}
-use Rattle.shared_image.specs.Powered.{IsKeeper, IsOn, ground}
+use Rattle.shared_image.specs.declared.image.Keeper.{Keeper}
+use Rattle.shared_image.specs.Powered.{KeepsStill, IsKeeperOf, IsOn, ground}
 
 -- the ground that words give
 abbrev ground_by : Shape → ℕ → Words → Ground
@@ -66,7 +67,7 @@ module _ (key : Opening) (base : List ℕ) (o : IsOfRestart key base) where
   unmarked : marker_in (word key.words.value.items state_word) ≡ 0
   unmarked = ap (λ (ws : Words). marker_in (ws state_word)) o.words_are ∙ (quiet_after_restart key.geometry base key.callers o.sound o.few).structure.not_clean
 
-  first_keeps : IsKeeper (first_of key)
+  first_keeps : KeepsStill (first_of key)
   first_keeps = record {
     stands = o.some;
     nothing = record { held = refl; dirty = refl; flushed = refl; planned = refl; moving = refl; owed = refl; areas = refl };
@@ -76,17 +77,18 @@ module _ (key : Opening) (base : List ℕ) (o : IsOfRestart key base) where
 
   module _ (image : SharedImage) (same : image.table.shared.key ≡ key) where
     pub on : image.geometry ≡ key.geometry → image.started ≡ started_for (slice_index base state_word) → image.room.items ≡ key.words.value.items
-        → IsSeatOf image.table.shared.table_id image.table.shared.key image.keeper → image.keeper.me ≡ (first_of key, []) → IsOn image
-    on geometry started room seat me = record {
-      whole = seat.1;
+        → IsWhole image.table.shared.table_id image.table.shared.key → IsOn image
+    on geometry started room whole = record {
+      whole = whole;
       laid_out = geometry ∙ sym (ap (λ (k : Opening). k.geometry) same);
       version = ap (λ s. s.version) started ∙ version_is ∙ sym (ap (λ (k : Opening). version_of (ground_of k)) same);
-      room = ap length room ∙ o.whole ∙ sym (ap (λ (k : Opening). all_words_of k.geometry) same) ∙ sym seat.1.words;
-      keeper = seat;
-      keeps = subst IsKeeper (sym (ap (λ m. m.0) me)) first_keeps;
+      room = ap length room ∙ o.whole ∙ sym (ap (λ (k : Opening). all_words_of k.geometry) same) ∙ sym whole.words;
       says = subst (λ (k : Opening). SaysShapeInFront k.geometry (word k.words.value.items)) (sym same) says;
       unmarked = subst (λ (k : Opening). marker_in (word k.words.value.items state_word) ≡ 0) (sym same) unmarked;
     }
+
+    pub keeps : (keeper : Keeper) → IsSeatOf image.table.shared.table_id image.table.shared.key keeper.seat → keeper.seat.me ≡ (first_of key, []) → IsKeeperOf image keeper
+    keeps keeper seat me = record { seat = seat; still = subst KeepsStill (sym (ap (λ m. m.0) me)) first_keeps }
 
     pub starts_with : (m : Map) → HasPairsOf key.geometry (slice_index base) m → (k : ℕ) → get m k ≡ (ground image).start k
     starts_with m has k =

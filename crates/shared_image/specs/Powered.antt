@@ -10,6 +10,7 @@ use Rattle.vlock.specs.declared.table.Opening.{Opening}
 use Rattle.vlock.specs.Ruling.{ground_of, OwesNothing}
 use Rattle.vlock.specs.Plays.{IsSeatOf, IsWhole}
 use Rattle.shared_image.specs.declared.image.SharedImage.{SharedImage}
+use Rattle.shared_image.specs.declared.image.Keeper.{Keeper}
 
 -- what was fixed when the image was opened
 abbrev pub opening : SharedImage → Opening
@@ -23,25 +24,27 @@ ground image = ground_of (opening image)
 abbrev pub IsPassOf : SharedImage → Seat ℕ Watch → Type 0
 IsPassOf image pass = IsSeatOf image.table.shared.table_id (opening image) pass
 
--- what the keeper knows, which takes no event of its own: it stands for a caller, owes nothing, has replied nothing, and took in nobody yet
-pub record IsKeeper (keeper : Watch) : Type 0 where
-  pub stands : 0 < keeper.view.callers
-  pub nothing : OwesNothing keeper.view
-  pub own : keeper.view.own ≡ []
-  pub past : keeper.past ≡ []
-
--- THE IMAGE IS ON: it is laid out as it was opened, the restart left its version, its front says what it is and is not marked clean; and its
--- keeper is one of its seats
+-- THE IMAGE IS ON: it is laid out as it was opened, the restart left its version, and its front says what it is and is not marked clean
 pub record IsOn (image : SharedImage) : Type 0 where
   pub whole : IsWhole image.table.shared.table_id (opening image)
   pub laid_out : image.geometry ≡ (opening image).geometry
   pub version : image.started.version ≡ version_of (ground image)
   pub room : length image.room.items ≡ image.table.shared.table_id.words
-  pub keeper : IsPassOf image image.keeper
-  pub keeps : IsKeeper image.keeper.me.0
   pub says : SaysShapeInFront (ground image).shape (ground image).front
   pub unmarked : marker_in ((ground image).front state_word) ≡ 0
 
--- for how many callers the keeper stands still, itself one of them
-abbrev pub callers_left : SharedImage → ℕ
-callers_left image = image.keeper.me.0.view.callers
+-- what a keeper knows, which takes no event of its own: it stands for a caller, owes nothing, has replied nothing, and took in nobody yet
+pub record KeepsStill (p : Watch) : Type 0 where
+  pub stands : 0 < p.view.callers
+  pub nothing : OwesNothing p.view
+  pub own : p.view.own ≡ []
+  pub past : p.past ≡ []
+
+-- A KEEPER of this image
+pub record IsKeeperOf (image : SharedImage) (keeper : Keeper) : Type 0 where
+  pub seat : IsPassOf image keeper.seat
+  pub still : KeepsStill keeper.seat.me.0
+
+-- for how many callers it stands still, itself one of them
+abbrev pub callers_left : Keeper → ℕ
+callers_left keeper = keeper.seat.me.0.view.callers

@@ -5,10 +5,10 @@ ghost use Rattle.image_layout.specs.Places.{IsShape, words_of};
 ghost use Rattle.sound_image.specs.Image.{IsSoundImage};
 ghost use Rattle.sound_image.specs.Segments.{frame_of, IsClean};
 ghost use Rattle.vlock.specs.Ruling.{word};
-ghost use Rattle.shared_image.specs.Powered.{IsOn, ground, callers_left};
+ghost use Rattle.shared_image.specs.Powered.{IsOn, IsKeeperOf, ground, callers_left};
 ghost use Rattle.shared_image.specs.Closed.{IsClosedFrom, IsDone, callers_of, replies_of, HasWhatWasReplied};
 
-use crate::image::{Pass, SharedImage};
+use crate::image::{Keeper, Pass, SharedImage};
 use crate::memory::do_event;
 use image_layout::Geometry;
 use op_core::{Machine, Want};
@@ -34,12 +34,13 @@ fn run_close(words: &mut Vec<u64>, geometry: Geometry)
     }
 }
 
-/// Closes an image: takes its passes in, in their order, and runs the close over the words. It gives the words of the image, which are a
-/// clean one.
-pub fn close(image: SharedImage, passes: Vec<Pass>) -> Vec<u64>
+/// Closes an image: the keeper takes its passes in, in their order, and the close runs over the words. It gives the words of the image,
+/// which are a clean one.
+pub fn close(image: SharedImage, keeper: Keeper, passes: Vec<Pass>) -> Vec<u64>
     requires on { IsOn image }
+    requires keeper { IsKeeperOf image keeper }
     requires done { All (IsDone image) passes.items }
-    requires all { callers_left image + callers_of passes.items ≡ (ground image).callers }
+    requires all { callers_left keeper + callers_of passes.items ≡ (ground image).callers }
     ensures length { length result.items ≡ words_of (ground image).shape }
     ensures sound { IsSoundImage (ground image).shape result.items }
     ensures clean { IsClean (frame_of (ground image).shape (slice_index result.items)) }
@@ -49,13 +50,13 @@ pub fn close(image: SharedImage, passes: Vec<Pass>) -> Vec<u64>
         table,
         geometry,
         started: _,
-        mut keeper,
         room,
     } = image;
+    let Keeper { mut seat } = keeper;
     for pass in passes {
-        vlock::take_in(&table.shared, &mut keeper, pass);
+        vlock::take_in(&table.shared, &mut seat, pass);
     }
-    let mut words = vlock::close(table, keeper, room);
+    let mut words = vlock::close(table, seat, room);
     each_fits(words.as_slice());
     run_close(&mut words, geometry);
     words.truncate(geometry.words() as usize);

@@ -16,10 +16,16 @@ pub struct SharedImage {
     pub(crate) geometry: Geometry,
     /// What the restart left.
     pub(crate) started: Started,
-    /// The seat of who opened the image, and closes it.
-    pub(crate) keeper: ImageSeat,
     /// Room for the words at the close.
     pub(crate) room: Vec<u64>,
+}
+
+/// The token of who powered the image on: it stands for all callers whose passes are not cut off yet, and for itself, and closes
+/// the image.
+#[derive(Drop)]
+pub struct Keeper {
+    /// Its seat.
+    pub(crate) seat: ImageSeat,
 }
 
 impl SharedImage {
@@ -31,22 +37,20 @@ impl SharedImage {
     ghost use Rattle.world.specs.Conditions.{IsKnownLock};
     ghost use Rattle.vlock.specs.Buckets.{MayCall, IsBesideNotes, ReadSays, LockSays, LockTook, MayUnlock, Unlocks};
     ghost use Rattle.vlock.specs.Finding.{IsBesideWay, Finds};
-    ghost use Rattle.vlock.specs.Seats.{pass_left, pass_right, note_left, note_right, both};
-    ghost use Rattle.shared_image.specs.Powered.{opening, ground, IsPassOf, IsOn, callers_left};
+    ghost use Rattle.vlock.specs.Seats.{pass_right, note_left, note_right, both};
+    ghost use Rattle.shared_image.specs.Powered.{ground, IsPassOf, IsOn, IsKeeperOf, callers_left};
 
-    /// A pass for one caller is cut off; as many as were asked for at power-on may be.
-    pub fn split_pass(&mut self) -> Pass
-        requires on { IsOn self.old }
-        requires callers { 1 < callers_left self.old }
-        ensures on { IsOn self.new }
-        ensures opening { opening self.new ≡ opening self.old }
-        ensures table { self.new.table.shared.table_id ≡ self.old.table.shared.table_id }
-        ensures callers { callers_left self.new ≡ callers_left self.old - 1 }
-        ensures pass { IsPassOf self.new result }
-        ensures view { result.me.0 ≡ pass_right self.old.keeper.me.0 }
+    /// A pass for one caller is cut off the keeper; as many as were asked for at power-on may be.
+    pub fn split_pass(&self, keeper: &mut Keeper) -> Pass
+        requires on { IsOn self.now }
+        requires keeper { IsKeeperOf self.now keeper.old }
+        requires callers { 1 < callers_left keeper.old }
+        ensures keeper { IsKeeperOf self.now keeper.new }
+        ensures callers { callers_left keeper.new ≡ callers_left keeper.old - 1 }
+        ensures pass { IsPassOf self.now result }
+        ensures view { result.me.0 ≡ pass_right keeper.old.seat.me.0 }
     {
-        let table = &self.table;
-        vlock::split_pass(&table.shared, &mut self.keeper)
+        vlock::split_pass(&self.table.shared, &mut keeper.seat)
     }
 
     /// Finds the segment of a hash, by three events.

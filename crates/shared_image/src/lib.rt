@@ -1,7 +1,7 @@
 //! An image in memory that many threads share, from power-on to its close.
 //!
 //! [`power_on`] runs the restart over the words of a medium and opens them; a [`SharedImage`] has what threads may do then,
-//! each with a pass of its own; [`close`] takes the passes in, runs the close over the words, and gives a clean image back.
+//! each with a pass of its own that is cut off the [`Keeper`]; [`close`] takes the passes in, runs the close over the words, and gives a clean image back.
 #![tactic(auto)]
 
 mod closing;
@@ -10,5 +10,5 @@ mod memory;
 mod power;
 
 pub use closing::close;
-pub use image::{Pass, SharedImage};
+pub use image::{Keeper, Pass, SharedImage};
 pub use power::power_on;

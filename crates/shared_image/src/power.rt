@@ -10,9 +10,9 @@ ghost use Rattle.sound_image.specs.Left.{HasPairsOf};
 ghost use Rattle.restart_op.specs.Restart.{started_for};
 ghost use Rattle.restart_op.specs.Restarted.{words_at_end};
 ghost use Rattle.vlock.specs.Ruling.{word};
-ghost use Rattle.shared_image.specs.Powered.{IsOn, ground, callers_left};
+ghost use Rattle.shared_image.specs.Powered.{IsOn, IsKeeperOf, ground, callers_left};
 
-use crate::image::SharedImage;
+use crate::image::{Keeper, SharedImage};
 use crate::memory::do_event;
 use image_file::Medium;
 use image_layout::Geometry;
@@ -74,14 +74,19 @@ fn restart(words: &mut Vec<u64>, medium: &Medium) -> Started
 /// # Errors
 ///
 /// `NoMemory` if memory runs out.
-pub fn power_on(alloc: Global, medium: &Medium, callers: u64) -> Result<SharedImage, NoMemory>
+pub fn power_on(
+    alloc: Global,
+    medium: &Medium,
+    callers: u64,
+) -> Result<(SharedImage, Keeper), NoMemory>
     requires sound { IsSoundImage medium.now.geometry medium.now.words }
     requires callers { callers + 1 < 2 ^ 32 }
-    ensures on { IfOk result (λ image. IsOn image) }
-    ensures shape { IfOk result (λ image. (ground image).shape ≡ medium.now.geometry) }
-    ensures callers { IfOk result (λ image. (callers_left image ≡ callers + 1) × ((ground image).callers ≡ callers + 1)) }
-    ensures words { IfOk result (λ image. (ground image).front ≡ words_at_end medium.now.geometry medium.now.words) }
-    ensures pairs { IfOk result (λ image. (m : Map) → HasPairsOf medium.now.geometry (slice_index medium.now.words) m → (k : ℕ) → get m k ≡ (ground image).start k) }
+    ensures on { IfOk result (λ made. IsOn made.0) }
+    ensures keeper { IfOk result (λ made. IsKeeperOf made.0 made.1) }
+    ensures shape { IfOk result (λ made. (ground made.0).shape ≡ medium.now.geometry) }
+    ensures callers { IfOk result (λ made. (callers_left made.1 ≡ callers + 1) × ((ground made.0).callers ≡ callers + 1)) }
+    ensures words { IfOk result (λ made. (ground made.0).front ≡ words_at_end medium.now.geometry medium.now.words) }
+    ensures pairs { IfOk result (λ made. (m : Map) → HasPairsOf medium.now.geometry (slice_index medium.now.words) m → (k : ℕ) → get m k ≡ (ground made.0).start k) }
 {
     let geometry = medium.geometry;
     let mut room = laid_out(alloc, medium)?;
@@ -91,12 +96,12 @@ pub fn power_on(alloc: Global, medium: &Medium, callers: u64) -> Result<SharedIm
         words: Snapshot::of(&room),
         callers: callers + 1,
     };
-    let (table, keeper) = open(alloc, &room, &key)?;
-    Ok(SharedImage {
+    let (table, seat) = open(alloc, &room, &key)?;
+    let image = SharedImage {
         table,
         geometry,
         started,
-        keeper,
         room,
-    })
+    };
+    Ok((image, Keeper { seat }))
 }

@@ -18,7 +18,7 @@ nothing_left (x ∷ xs) h = absurd (omega arith)
 pub take_in-requires-clause-callers : goal.take_in-requires-clause-callers
 take_in-requires-clause-callers c =
     let at = c.loop-pass in
-    subst (λ (w : Watch). 0 < w.view.callers) (sym at.invariant.taken) (stands_with c.args.image.keeper.me.0 at.yielded c.requires.on.keeps.stands)
+    subst (λ (w : Watch). 0 < w.view.callers) (sym at.invariant.taken) (stands_with c.args.keeper.seat.me.0 at.yielded c.requires.keeper.still.stands)
 
 pub loop-pass-preserved : goal.loop-pass-preserved
 loop-pass-preserved c =
@@ -32,7 +32,7 @@ loop-pass-preserved c =
           let short = ap length steps in
           omega arith);
       seat = c.take_in.ensures.table;
-      taken = c.take_in.ensures.views ∙ ap (λ (w : Watch). both w x.me.0) at.invariant.taken ∙ sym (with_more c.args.image.keeper.me.0 at.yielded x);
+      taken = c.take_in.ensures.views ∙ ap (λ (w : Watch). both w x.me.0) at.invariant.taken ∙ sym (with_more c.args.keeper.seat.me.0 at.yielded x);
     }
 
 pub close-words-requires-clause-callers : goal.close-words-requires-clause-callers
@@ -41,8 +41,8 @@ close-words-requires-clause-callers c =
     let none = c.in-None.ensures.steps in
     let empty : into_iter_items at.pass-iterator ≡ [] = nothing_left _ (sym at.invariant.count ∙ none.0) in
     let all = sym (append-nil at.yielded) ∙ rw empty at at.invariant.rest ∙ c.into_iter-pass-iterator.ensures.into_iter_gives.0 in
-    let p = c.args.image.keeper.me.0 in
-    let keeper_is : at.keeper.me.0 ≡ with_all p c.args.passes.items = at.invariant.taken ∙ ap (λ xs. with_all p xs) all in
+    let p = c.args.keeper.seat.me.0 in
+    let keeper_is : at.seat.me.0 ≡ with_all p c.args.passes.items = at.invariant.taken ∙ ap (λ xs. with_all p xs) all in
     ap (λ (w : Watch). w.view.callers) keeper_is ∙ callers_with p c.args.passes.items ∙ c.requires.all
 
 pub close-words-requires-clause-owes : goal.close-words-requires-clause-owes
@@ -51,9 +51,9 @@ close-words-requires-clause-owes c =
     let none = c.in-None.ensures.steps in
     let empty : into_iter_items at.pass-iterator ≡ [] = nothing_left _ (sym at.invariant.count ∙ none.0) in
     let all = sym (append-nil at.yielded) ∙ rw empty at at.invariant.rest ∙ c.into_iter-pass-iterator.ensures.into_iter_gives.0 in
-    let p = c.args.image.keeper.me.0 in
-    let keeper_is : at.keeper.me.0 ≡ with_all p c.args.passes.items = at.invariant.taken ∙ ap (λ xs. with_all p xs) all in
-    subst (λ (w : Watch). OwesNothing w.view) (sym keeper_is) (owes_nothing_with c.args.image p c.args.passes.items c.requires.on.keeps.nothing c.requires.done)
+    let p = c.args.keeper.seat.me.0 in
+    let keeper_is : at.seat.me.0 ≡ with_all p c.args.passes.items = at.invariant.taken ∙ ap (λ xs. with_all p xs) all in
+    subst (λ (w : Watch). OwesNothing w.view) (sym keeper_is) (owes_nothing_with c.args.image p c.args.passes.items c.requires.keeper.still.nothing c.requires.done)
 
 pub returns-clause-sound : goal.returns-clause-sound
 returns-clause-sound c =
@@ -61,15 +61,15 @@ returns-clause-sound c =
     let none = c.in-None.ensures.steps in
     let empty : into_iter_items at.pass-iterator ≡ [] = nothing_left _ (sym at.invariant.count ∙ none.0) in
     let all = sym (append-nil at.yielded) ∙ rw empty at at.invariant.rest ∙ c.into_iter-pass-iterator.ensures.into_iter_gives.0 in
-    let p = c.args.image.keeper.me.0 in
-    let keeper_is : at.keeper.me.0 ≡ with_all p c.args.passes.items = at.invariant.taken ∙ ap (λ xs. with_all p xs) all in
+    let p = c.args.keeper.seat.me.0 in
+    let keeper_is : at.seat.me.0 ≡ with_all p c.args.passes.items = at.invariant.taken ∙ ap (λ xs. with_all p xs) all in
     let long = c.run_close.ensures.length in
     let given = c.close-words.ensures.length in
     let words = c.requires.on.whole.words in
-    (finish (ground c.args.image) c.args.image.geometry c.close-words.result.items c.run_close.new.words.items c.truncate.new.self.items (at.keeper.me.0.view ∷ at.keeper.me.0.past)
+    (finish (ground c.args.image) c.args.image.geometry c.close-words.result.items c.run_close.new.words.items c.truncate.new.self.items (at.seat.me.0.view ∷ at.seat.me.0.past)
     (replies_of c.args.passes.items) c.requires.on.laid_out c.close-words.ensures.end (subst (λ (ws : List ℕ). (i : ℕ) → slice_index ws i < 2 ^ 64) c.as_slice.ensures.value c.each_fits.ensures)
     c.requires.on.says c.requires.on.unmarked c.run_close.ensures.closed (omega (arith, long, given, words)) (c.truncate.ensures.items ∙ ap (λ (n : ℕ). take n c.run_close.new.words.items) c.words.ensures.is)
-    (ap (λ w. map (λ v. v.own) (w.view ∷ w.past)) keeper_is ∙ replies_with p c.args.passes.items c.requires.on.keeps.own c.requires.on.keeps.past)).0
+    (ap (λ w. map (λ v. v.own) (w.view ∷ w.past)) keeper_is ∙ replies_with p c.args.passes.items c.requires.keeper.still.own c.requires.keeper.still.past)).0
 
 pub returns-clause-clean : goal.returns-clause-clean
 returns-clause-clean c =
@@ -77,15 +77,15 @@ returns-clause-clean c =
     let none = c.in-None.ensures.steps in
     let empty : into_iter_items at.pass-iterator ≡ [] = nothing_left _ (sym at.invariant.count ∙ none.0) in
     let all = sym (append-nil at.yielded) ∙ rw empty at at.invariant.rest ∙ c.into_iter-pass-iterator.ensures.into_iter_gives.0 in
-    let p = c.args.image.keeper.me.0 in
-    let keeper_is : at.keeper.me.0 ≡ with_all p c.args.passes.items = at.invariant.taken ∙ ap (λ xs. with_all p xs) all in
+    let p = c.args.keeper.seat.me.0 in
+    let keeper_is : at.seat.me.0 ≡ with_all p c.args.passes.items = at.invariant.taken ∙ ap (λ xs. with_all p xs) all in
     let long = c.run_close.ensures.length in
     let given = c.close-words.ensures.length in
     let words = c.requires.on.whole.words in
-    (finish (ground c.args.image) c.args.image.geometry c.close-words.result.items c.run_close.new.words.items c.truncate.new.self.items (at.keeper.me.0.view ∷ at.keeper.me.0.past)
+    (finish (ground c.args.image) c.args.image.geometry c.close-words.result.items c.run_close.new.words.items c.truncate.new.self.items (at.seat.me.0.view ∷ at.seat.me.0.past)
     (replies_of c.args.passes.items) c.requires.on.laid_out c.close-words.ensures.end (subst (λ (ws : List ℕ). (i : ℕ) → slice_index ws i < 2 ^ 64) c.as_slice.ensures.value c.each_fits.ensures)
     c.requires.on.says c.requires.on.unmarked c.run_close.ensures.closed (omega (arith, long, given, words)) (c.truncate.ensures.items ∙ ap (λ (n : ℕ). take n c.run_close.new.words.items) c.words.ensures.is)
-    (ap (λ w. map (λ v. v.own) (w.view ∷ w.past)) keeper_is ∙ replies_with p c.args.passes.items c.requires.on.keeps.own c.requires.on.keeps.past)).1
+    (ap (λ w. map (λ v. v.own) (w.view ∷ w.past)) keeper_is ∙ replies_with p c.args.passes.items c.requires.keeper.still.own c.requires.keeper.still.past)).1
 
 pub returns-clause-replies : goal.returns-clause-replies
 returns-clause-replies c =
@@ -93,12 +93,12 @@ returns-clause-replies c =
     let none = c.in-None.ensures.steps in
     let empty : into_iter_items at.pass-iterator ≡ [] = nothing_left _ (sym at.invariant.count ∙ none.0) in
     let all = sym (append-nil at.yielded) ∙ rw empty at at.invariant.rest ∙ c.into_iter-pass-iterator.ensures.into_iter_gives.0 in
-    let p = c.args.image.keeper.me.0 in
-    let keeper_is : at.keeper.me.0 ≡ with_all p c.args.passes.items = at.invariant.taken ∙ ap (λ xs. with_all p xs) all in
+    let p = c.args.keeper.seat.me.0 in
+    let keeper_is : at.seat.me.0 ≡ with_all p c.args.passes.items = at.invariant.taken ∙ ap (λ xs. with_all p xs) all in
     let long = c.run_close.ensures.length in
     let given = c.close-words.ensures.length in
     let words = c.requires.on.whole.words in
-    (finish (ground c.args.image) c.args.image.geometry c.close-words.result.items c.run_close.new.words.items c.truncate.new.self.items (at.keeper.me.0.view ∷ at.keeper.me.0.past)
+    (finish (ground c.args.image) c.args.image.geometry c.close-words.result.items c.run_close.new.words.items c.truncate.new.self.items (at.seat.me.0.view ∷ at.seat.me.0.past)
     (replies_of c.args.passes.items) c.requires.on.laid_out c.close-words.ensures.end (subst (λ (ws : List ℕ). (i : ℕ) → slice_index ws i < 2 ^ 64) c.as_slice.ensures.value c.each_fits.ensures)
     c.requires.on.says c.requires.on.unmarked c.run_close.ensures.closed (omega (arith, long, given, words)) (c.truncate.ensures.items ∙ ap (λ (n : ℕ). take n c.run_close.new.words.items) c.words.ensures.is)
-    (ap (λ w. map (λ v. v.own) (w.view ∷ w.past)) keeper_is ∙ replies_with p c.args.passes.items c.requires.on.keeps.own c.requires.on.keeps.past)).2
+    (ap (λ w. map (λ v. v.own) (w.view ∷ w.past)) keeper_is ∙ replies_with p c.args.passes.items c.requires.keeper.still.own c.requires.keeper.still.past)).2

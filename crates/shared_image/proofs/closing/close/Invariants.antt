@@ -8,6 +8,6 @@ abbrev pub invariant-loop-pass : goal.invariant-loop-pass
 invariant-loop-pass l = record {
   rest : l.yielded ++ into_iter_items l.pass-iterator ≡ into_iter_items l.initial.pass-iterator;
   count : into_iter_len l.pass-iterator ≡ length (into_iter_items l.pass-iterator);
-  seat : IsSeatOf l.fn.image.table.shared.table_id l.fn.image.table.shared.key l.keeper;
-  taken : l.keeper.me.0 ≡ with_all l.initial.keeper.me.0 l.yielded;
+  seat : IsSeatOf l.fn.image.table.shared.table_id l.fn.image.table.shared.key l.seat;
+  taken : l.seat.me.0 ≡ with_all l.initial.seat.me.0 l.yielded;
 }

@@ -2,7 +2,7 @@
 use Rattle.std.proofs.Common.{◌+◌, length, refl, sym, ap, ◌∙◌, arith}
 use Rattle.vlock.specs.declared.table.Opening.{Opening}
 use Rattle.vlock.specs.Ruling.{word}
-use Rattle.shared_image.proofs.Opens.{IsOfRestart, opens, on, starts_with}
+use Rattle.shared_image.proofs.Opens.{IsOfRestart, opens, on, keeps, starts_with}
 use Rattle.shared_image.proofs.power.power_on.Goals as goal
 
 pub open-requires : goal.open-requires
@@ -29,7 +29,22 @@ returns-clause-on c =
       words_are = ap (λ v. word v.items) c.of.ensures ∙ c.restart-started.ensures.words;
       whole = ap (λ v. length v.items) c.of.ensures ∙ c.restart-started.ensures.length ∙ c.in_ok-room.ensures.length;
     } in
-    on key c.args.medium.now.words o _ c.in_ok-table.ensures.table refl c.restart-started.ensures.started (sym (ap (λ v. v.items) c.of.ensures)) c.in_ok-table.ensures.seat.0 c.in_ok-table.ensures.seat.1
+    on key c.args.medium.now.words o _ c.in_ok-table.ensures.table refl c.restart-started.ensures.started (sym (ap (λ v. v.items) c.of.ensures)) c.in_ok-table.ensures.seat.0.1
+
+pub returns-clause-keeper : goal.returns-clause-keeper
+returns-clause-keeper c =
+    let key : Opening = record { geometry = c.args.medium.now.geometry; words = c.of.result; callers = c.args.callers + 1 } in
+    let few = c.requires.callers in
+    let o : IsOfRestart key c.args.medium.now.words = record {
+      sound = c.requires.sound;
+      some = omega arith;
+      few = few;
+      words_are = ap (λ v. word v.items) c.of.ensures ∙ c.restart-started.ensures.words;
+      whole = ap (λ v. length v.items) c.of.ensures ∙ c.restart-started.ensures.length ∙ c.in_ok-room.ensures.length;
+    } in
+    keeps key c.args.medium.now.words o
+    (record { table = c.in_ok-table.table; geometry = c.args.medium.now.geometry; started = c.restart-started.result; room = c.restart-started.new.words })
+    c.in_ok-table.ensures.table (record { seat = c.in_ok-table.seat }) c.in_ok-table.ensures.seat.0 c.in_ok-table.ensures.seat.1
 
 pub returns-clause-pairs : goal.returns-clause-pairs
 returns-clause-pairs c m has k =
@@ -43,5 +58,5 @@ returns-clause-pairs c m has k =
       whole = ap (λ v. length v.items) c.of.ensures ∙ c.restart-started.ensures.length ∙ c.in_ok-room.ensures.length;
     } in
     starts_with key c.args.medium.now.words o
-    (record { table = c.in_ok-table.table; geometry = c.args.medium.now.geometry; started = c.restart-started.result; keeper = c.in_ok-table.keeper; room = c.restart-started.new.words })
+    (record { table = c.in_ok-table.table; geometry = c.args.medium.now.geometry; started = c.restart-started.result; room = c.restart-started.new.words })
     c.in_ok-table.ensures.table m has k
