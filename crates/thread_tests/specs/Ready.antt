@@ -1,0 +1,16 @@
+-- A pass that may read and lock buckets.
+use Rattle.std.specs.Prelude.{◌≡◌, ℕ, ◌<◌, None}
+use Rattle.image_layout.specs.Places.{bucket_at}
+use Rattle.world.specs.Views.{View}
+use Rattle.vlock.specs.Ruling.{OwesNothing}
+use Rattle.vlock.specs.Buckets.{MayCall, MayUnlock}
+use Rattle.shared_image.specs.declared.image.SharedImage.{SharedImage}
+use Rattle.shared_image.specs.Powered.{ground}
+
+-- it stands for a caller, has no answer noted, holds nothing and owes nothing
+abbrev pub IsReady : View → Type 0
+IsReady v = MayCall v × (v.answer ≡ None) × OwesNothing v
+
+-- it holds the lock of bucket 0 of a segment, and may give it back
+abbrev pub HoldsFirst : SharedImage → ℕ → View → Type 0
+HoldsFirst image segment v = (segment < (ground image).shape.segments) × MayCall v × MayUnlock v (bucket_at (ground image).shape segment 0)
