@@ -7,7 +7,7 @@ use script_text::Line;
 use std::alloc::{AllocError, Global};
 
 /// The last caller that the lines give a call, and 0 where there is none.
-pub(crate) fn last_caller(lines: &[Line]) -> u8
+pub fn last_caller(lines: &[Line]) -> u8
     ensures { result ≡ last_caller lines.now }
 {
     let mut last = 0;
@@ -41,11 +41,7 @@ fn count_calls_of(lines: &[Line], caller: u8) -> usize
 /// # Errors
 ///
 /// `AllocError` if there is no memory.
-pub(crate) fn calls_of_caller(
-    alloc: Global,
-    lines: &[Line],
-    caller: u8,
-) -> Result<Vec<Call>, AllocError>
+pub fn calls_of_caller(alloc: Global, lines: &[Line], caller: u8) -> Result<Vec<Call>, AllocError>
     ensures { IfOk result (λ calls. calls.items ≡ calls_of caller lines.now) }
 {
     let mut calls = Vec::with_capacity(alloc, count_calls_of(lines, caller))?;

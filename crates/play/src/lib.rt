@@ -15,5 +15,6 @@ mod playing;
 mod run_state;
 mod starting;
 
+pub use calls::{calls_of_caller, last_caller};
 pub use core_run::sessions_compose;
 pub use playing::play;
