@@ -1,5 +1,5 @@
 -- The law of a kind of step is what a step on the table owes.
-use Rattle.std.proofs.Common.{◌≡◌, inl, inr, ℕ, ◌+◌, ◌*◌, ◌%◌, ◌^◌, ◌<◌, List, [], get_or, set, cond, Bool, true, false, refl, sym, ap, ◌∙◌, subst, arith, length-set}
+use Rattle.std.proofs.Common.{◌≡◌, inl, inr, ℕ, ◌+◌, ◌*◌, ◌%◌, ◌^◌, ◌<◌, List, [], ◌∷◌, get_or, set, cond, Bool, true, false, refl, sym, ap, ◌∙◌, subst, arith, length-set}
 use Rattle.std.specs.Prelude.{◌==◌}
 use prog.Atomic.{either}
 use Rattle.atomic_table.specs.Table.{Me, keeps, Allows}
@@ -23,9 +23,11 @@ use Rattle.world.proofs.stepping.Steps.{callers_stay}
 use Rattle.vlock.specs.declared.knows.Watch.{Watch}
 use Rattle.vlock.specs.declared.table.Opening.{Opening}
 use Rattle.vlock.specs.Ruling.{word, ground_of, all_views, Kept}
+use Rattle.vlock.specs.Refused.{HasNoFreeSlot}
 use Rattle.vlock.specs.Plays.{Met, MayDo, watched, Acted}
 use Rattle.vlock.proofs.Lists.{place, at_place, set_place, stored_word}
 use Rattle.vlock.proofs.Powered.{off_after, off_still}
+use Rattle.vlock.proofs.Refusing.{refused, stays_refused}
 
 -- ---- no step changes for how many callers a view stands
 by_guard : (t : Bool) (guard : Guard) (v : View) → (with_guard t guard v).callers ≡ v.callers
@@ -97,6 +99,17 @@ acts site want kind slots id m f inside none may same s h _ at low =
               (subst (λ (z : Watch). z.view.stored_power ≡ true) (sym e.1) on)
           | inr e ↦ off_still site (word s.words) (all_views s.views) j m.0.view h.holds there (kind x) j (may.1 x met).1 (h.off i p e.1 on)
         ]);
+        full = λ i p u e a among has no_slot. subst (λ (us : Words). HasNoFreeSlot site us) went
+            (stays_refused site (word s.words) (all_views s.views) j m.0.view h.holds there (kind x) j (may.1 x met).1 (elim (at_set s.views id i w p a) [
+              | inl q ↦ elim (subst (λ (z : Watch). Has u (z.view ∷ z.past)) (sym q.1) among) [
+                | inl is ↦ elim (refused site (word s.words) (all_views s.views) j m.0.view h.holds there (kind x) x found_is (may.1 x met).1 e (subst (λ (z : View). Has e z.own) is has) no_slot) [
+                  | inl old ↦ h.full id m.0 m.0.view e at (inl refl) old no_slot
+                  | inr all ↦ all
+                ]
+                | inr past ↦ h.full id m.0 u e at (inr past) has no_slot
+              ]
+              | inr q ↦ h.full i p u e q.1 among has no_slot
+            ]));
       },
       (refl, met),
     )

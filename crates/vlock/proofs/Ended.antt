@@ -199,6 +199,8 @@ module _ (site : Ground) (s : State ℕ Watch) (id : ℕ) (k : Watch) (h : Kept 
           legal = λ start same. (entries_legal site (word s.words) (k.view ∷ k.past) h.holds.log history start same).0;
           nobody = record { views = all_views s.views; well = well; nothing = nobody_at };
           guards = λ guard is. rests_are_quiet.guards site (word s.words) (all_views s.views) h.holds no_areas guard is;
+          spent = λ j v e a has is. (let n = among s.views id k at j v a in h.holds.spending.told n.0 v e n.1 has is);
+          full = λ j v e a has is. h.full id k v e at (has_at (k.view ∷ k.past) j v a) has is;
           repaired = λ n current. record { normal = normal_now n current; in_order = in_order n current; free = free n current };
           replay_is = λ start same key. (entries_legal site (word s.words) (k.view ∷ k.past) h.holds.log history start same).1 key ∙ sym (pairs key);
         }

@@ -1,5 +1,6 @@
 pub mod Lists
 pub mod Powered
+pub mod Refusing
 pub mod Allowed
 pub mod Moved
 pub mod Seated

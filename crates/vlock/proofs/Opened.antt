@@ -1,5 +1,5 @@
 -- How the rule begins.
-use Rattle.std.proofs.Common.{◌≡◌, ℕ, zero, suc, List, [], ◌∷◌, refl, sym, ap, ◌∙◌, subst, arith}
+use Rattle.std.proofs.Common.{◌≡◌, inl, inr, ℕ, zero, suc, List, [], ◌∷◌, refl, sym, ap, ◌∙◌, subst, arith}
 use Rattle.std.proofs.lemmas.Bool.{false≢true}
 use mathlib.Core.Option.{some, some-injective, some-ne-none}
 use lib.ListN.{get_elem?}
@@ -49,4 +49,8 @@ begins key ws same o = subst (λ (xs : List ℕ). Kept (ground_of key) (opening 
     past = refl;
   });
   off = λ i p a on. absurd (false≢true (ap (λ (z : Watch). z.view.stored_power) (one_at (first_of key) p i a) ∙ on));
+  full = λ i p u e a among has no_slot. elim (subst (λ (z : Watch). Has u (z.view ∷ z.past)) (sym (one_at (first_of key) p i a)) among) [
+    | inl is ↦ absurd (subst (λ (z : View). Has e z.own) is has)
+    | inr none ↦ absurd none
+  ];
 })

@@ -65,6 +65,19 @@ cut site id n p fits stays s h at =
         ]
         | inr e ↦ absurd (false≢true (sym (ap (λ (z : Watch). z.view.stored_power) e) ∙ on))
       ];
+      full = λ i q u e a among has no_slot. elim (at_more (set s.views id l) r i q a) [
+        | inl b ↦ elim (at_set s.views id i l q b) [
+          | inl d ↦ elim (subst (λ (z : Watch). Has u (z.view ∷ z.past)) (sym d.1) among) [
+            | inl is ↦ h.full id p p.view e at (inl refl) (subst (λ (z : View). Has e z.own) is has) no_slot
+            | inr past ↦ h.full id p u e at (inr past) has no_slot
+          ]
+          | inr d ↦ h.full i q u e d.1 among has no_slot
+        ]
+        | inr d ↦ elim (subst (λ (z : Watch). Has u (z.view ∷ z.past)) d among) [
+          | inl is ↦ absurd (subst (λ (z : View). Has e z.own) is has)
+          | inr none ↦ absurd none
+        ]
+      ];
     }
 
 pub owes_pass : (site : Ground) (id : ℕ) (p : Watch) → 1 < p.view.callers → Splits (Kept site) id p (pass_left p) (pass_right p)
@@ -222,6 +235,25 @@ owes_take site id p other q counts s h at ne there =
             | inr its ↦ h.off other q at_q its
           ]
           | inr d ↦ h.off n t d.1 on
+        ]
+      ];
+      full = λ n t u e a among has no_slot. elim (at_set (set s.views id (both p q)) other n spent_watch t a) [
+        | inl d ↦ elim (subst (λ (z : Watch). Has u (z.view ∷ z.past)) (sym d.1) among) [
+          | inl is ↦ absurd (subst (λ (z : View). Has e z.own) is has)
+          | inr none ↦ absurd none
+        ]
+        | inr d ↦ elim (at_set s.views id n (both p q) t d.1) [
+          | inl b ↦ elim (subst (λ (z : Watch). Has u (z.view ∷ z.past)) (sym b.1) among) [
+            | inl is ↦ h.full id p p.view e at (inl refl) (subst (λ (z : View). Has e z.own) is has) no_slot
+            | inr past ↦ elim (has_joined p.past (spent q.view ∷ q.past) u past) [
+              | inl mine ↦ h.full id p u e at (inr mine) has no_slot
+              | inr its ↦ elim its [
+                | inl is ↦ h.full other q q.view e at_q (inl refl) (subst (λ (z : View). Has e z.own) is has) no_slot
+                | inr earlier ↦ h.full other q u e at_q (inr earlier) has no_slot
+              ]
+            ]
+          ]
+          | inr b ↦ h.full n t u e b.1 among has no_slot
         ]
       ];
     }

@@ -1,6 +1,8 @@
 -- How an image is opened, and what is known of it when all callers have ended.
-use Rattle.std.specs.Prelude.{◌≡◌, ℕ, ◌^◌, ◌<◌, ◌≤◌, List, [], length, map}
+use Rattle.std.specs.Prelude.{◌≡◌, ◌⊎◌, ℕ, ◌^◌, ◌<◌, ◌≤◌, List, [], length, map}
 use Rattle.std.specs.FinMap.{get}
+use Rattle.map_model.specs.declared.entry.Entry.{Entry}
+use Rattle.map_model.specs.declared.entry.Reply.TheVariants.{Full, Spent}
 use Rattle.map_model.specs.Map.{Map}
 use Rattle.map_model.specs.Weave.{weave}
 use Rattle.map_model.specs.Legal.{replay, IsLegal}
@@ -10,14 +12,15 @@ use Rattle.image_layout.specs.Volatile.{all_words_of}
 use Rattle.bucket_words.specs.Standing.{IsTable}
 use Rattle.world.specs.Claims.{HasSoundFrame}
 use Rattle.world.specs.Hits.{find}
-use Rattle.world.specs.Ground.{Ground, IsGround, IsStructured, IsCurrentIn}
-use Rattle.world.specs.Views.{View, At}
+use Rattle.world.specs.Ground.{Ground, IsGround, IsStructured, IsCurrentIn, HasSpentLock}
+use Rattle.world.specs.Views.{View, Has, At}
 use Rattle.world.specs.History.{Log, map_now}
 use Rattle.world.specs.Parts.{History}
 use Rattle.world.specs.areas.Beginning.{IsRepaired}
 use Rattle.world.specs.areas.Kinds.{Guard, HasGuard, guard_word}
 use Rattle.world.specs.areas.Worlds.{IsWell}
 use Rattle.vlock.specs.declared.table.Opening.{Opening}
+use Rattle.vlock.specs.Refused.{HasNoFreeSlot}
 use Rattle.vlock.specs.Ruling.{word, ground_of, OwesNothing}
 
 -- the words are those of an image as a restart leaves it: its structure is sound, it is a table, and each current segment is repaired; the
@@ -51,6 +54,10 @@ pub record IsEnd (site : Ground) (words : Words) (views : List View) : Type 0 wh
   pub nobody : NobodyIsLeft site words
   pub guards : (guard : Guard) → HasGuard site.shape guard → words (guard_word site.shape guard) ≡ 0
   pub repaired : (s : ℕ) → IsCurrentIn site words s → IsRepaired site words s
+  -- where it was replied that a number is spent, 2 ^ 63 changes are drawn, or some lock word of a live segment is free with the last version; and
+  -- where it was replied that no slot is free, none is that was free at the start
+  pub spent : (j : ℕ) (v : View) (e : Entry) → At views j v → Has e v.own → e.reply ≡ Spent → (2 ^ 63 ≤ length log) ⊎ HasSpentLock site.shape words
+  pub full : (j : ℕ) (v : View) (e : Entry) → At views j v → Has e v.own → e.reply ≡ Full → HasNoFreeSlot site words
 
 -- an opening of what was left: the words of the image, with 0 in those behind it, for callers that are few enough
 pub record IsOfWhatWasLeft (site : Ground) (words : Words) (key : Opening) : Type 0 where

@@ -1,4 +1,5 @@
 pub mod Power
+pub mod Refused
 pub mod Ruling
 pub mod Plays
 pub mod Seats

@@ -13,6 +13,7 @@ use Rattle.world.specs.Invariant.{Holds}
 use Rattle.vlock.specs.declared.knows.Watch.{Watch}
 use Rattle.vlock.specs.declared.table.Opening.{Opening}
 use Rattle.vlock.specs.Power.{StaysOff}
+use Rattle.vlock.specs.Refused.{FullStands}
 
 -- a list of words as a function
 abbrev pub word : List ℕ → Words
@@ -53,10 +54,12 @@ pub record IsIdle (p : Watch) : Type 0 where
   pub past : p.past ≡ []
 
 -- THE RULE: the words and all views meet the invariant of the world; what was taken in owes nothing, a seat that stands
--- for no caller is idle, and where a seat's view has stored the power word, it is 1
+-- for no caller is idle, where a seat's view has stored the power word, it is 1, and where it was replied that no slot is free, none is that
+-- was free at the start
 pub record Kept (site : Ground) (s : State ℕ Watch) : Type 0 where
   pub words : length s.words ≡ all_words_of site.shape
   pub holds : Holds site (word s.words) (all_views s.views)
   pub past : (i : ℕ) (p : Watch) (u : View) → get_elem? s.views i ≡ some p → Has u p.past → OwesNothing u
   pub idle : (i : ℕ) (p : Watch) → get_elem? s.views i ≡ some p → p.view.callers ≡ 0 → IsIdle p
   pub off : StaysOff site (word s.words) s.views
+  pub full : FullStands site (word s.words) s.views
