@@ -1,0 +1,7 @@
+pub mod Machines
+pub mod Deciding
+pub mod Turned
+pub mod Anew
+pub mod Attempted
+pub mod Gating
+pub mod Tried

@@ -1,0 +1,75 @@
+-- What a turn and an attempt rest on: laws of the machines, of an engine and of the world, each of which a contract of those crates says.
+use Rattle.std.specs.Prelude.{◌≡◌, ℕ, ◌<◌, ◌≤◌, ◌⊎◌, false, Some}
+use Rattle.op_core.specs.declared.want.Ans.{Ans}
+use Rattle.op_core.specs.Answers.{IsAnswer}
+use Rattle.map_model.specs.declared.call.Call.{Call}
+use Rattle.map_model.specs.declared.call.Call.TheVariants.{Get}
+use Rattle.world.specs.declared.site.Site.{Site}
+use Rattle.world.specs.Ground.{Ground}
+use Rattle.world.specs.Laws.{CallersStay}
+use Rattle.world.specs.StepLaws.{RepliesComeLater}
+use Rattle.world.specs.areas.Keeping.{StructureStepsReplyNothing}
+use Rattle.part.specs.Doings.{nothing_done}
+use Rattle.part.specs.Outcomes.{finished}
+use Rattle.part.specs.Part.{IsPart, IsWait}
+use Rattle.part.specs.Causes.{EndsByCause}
+use Rattle.part.specs.Splits.{EndsBySplitCause}
+use Rattle.part.specs.Repairs.{EndsByRepairCause}
+use Rattle.read_op.specs.GetPart.{NeverSplits as GetSplits}
+use Rattle.write_op.specs.ChangePart.{NeverSplits as ChangeSplits}
+use Rattle.move_op.specs.MovePart.{MoveNeverSplits as MoveSplits}
+use Rattle.stash_op.specs.StashPart.{NeverSplits as StashSplits}
+use Rattle.release_op.specs.Split.{LeavesThere}
+use Rattle.enclose_op.specs.EnclosePart.{BeginsAsPart as EncloseBegins}
+use Rattle.repair_op.specs.Finishing.{FinishesCurrent}
+use Rattle.repair_op.specs.RepairPart.{BeginsAsRepair as RepairBegins}
+use Rattle.engine.specs.declared.engine.Engine.{Engine}
+use Rattle.engine.specs.Engine.{begun, wanted, taken, IsFresh}
+use Rattle.engine.specs.Left.{left}
+use Rattle.engine.specs.OpPart.{call_part, whole_split, split_segment_in, whole_repair, repaired_segment_in, op_part, calls, work_of}
+use Rattle.engine.specs.Causes.{EndsAreDecided}
+use Rattle.engine.specs.Fits.{BeginsSuited}
+
+-- each outcome has its cause, of the machines of the call itself, of those of a split, and of those of a repair; and where a repair has finished, its
+-- segment has the image's version
+pub record OpCauses : Type 0 where
+  pub call : EndsByCause call_part
+  pub split : EndsBySplitCause whole_split split_segment_in
+  pub repair : EndsByRepairCause whole_repair repaired_segment_in
+  pub current : FinishesCurrent whole_repair repaired_segment_in
+
+-- THE MACHINES are a part, each of whose outcomes has its cause; and where an engine wants nothing more its end is what was decided
+pub record MachineLaws : Type 0 where
+  pub part : IsPart op_part
+  pub causes : OpCauses
+  pub says : EndsAreDecided
+
+-- A TURN: each answer leaves fewer events, or the engine goes on waiting; a step leaves a view for as many callers, and a later one
+pub record TurnLaws : Type 0 where
+  pub machines : MachineLaws
+  pub falls : (e : Engine) (ans : Ans) → IsAnswer (wanted e) ans → (left (taken e ans) < left e) ⊎ IsWait op_part e.op ans
+  pub callers : CallersStay
+  pub structure : StructureStepsReplyNothing
+  pub later : RepliesComeLater
+
+-- THE NEXT ATTEMPT: of the machines of a call a release alone tells that a segment is to be split, and leaves what the split begins with; a split and
+-- a repair begin with a view that suits them
+pub record NextLaws : Type 0 where
+  pub get : GetSplits
+  pub change : ChangeSplits
+  pub move : MoveSplits
+  pub stash : StashSplits
+  pub leaves : LeavesThere
+  pub enclose : EncloseBegins
+  pub repair : RepairBegins
+
+-- AN ATTEMPT OF A CALL begins with a view that suits it, having done nothing; it never waits, takes few events, and does no other work
+pub record AttemptLaws : Type 0 where
+  pub machines : MachineLaws
+  pub begins : BeginsSuited
+  pub remembers : (site : Ground) (here : Site) (e : Engine) → IsFresh here e → op_part.Remembers site e.op nothing_done
+  pub finishes : (e : Engine) → work_of e.op ≡ calls → op_part.outcome e.op ≡ Some finished → ⊥
+  pub waits : (e : Engine) → work_of e.op ≡ calls → op_part.is_waiting e.op ≡ false
+  pub few : (here : Site) (call : Call) → left (begun here call) ≤ 700
+  pub next : NextLaws
+  pub few_of_get : (here : Site) (key : ℕ) → left (begun here (Get key)) ≤ 150

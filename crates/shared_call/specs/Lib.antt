@@ -1,0 +1,6 @@
+pub mod Laws
+pub mod Suited
+pub mod Turns
+pub mod Attempts
+pub mod Gated
+pub mod Tries

@@ -1,0 +1,20 @@
+//! One attempt of a call of the table, by a thread on the shared words of an image.
+//!
+//! `turns` has one event of an engine as a step of a seat, `attempts` an attempt of a call, event by event, `gated` the same behind a
+//! gate, `going` an attempt at whatever work, by so many events, and `tries` what an attempt came to and the next one; `laws` is what
+//! they rest on.
+#![tactic(auto)]
+
+mod attempts;
+mod gated;
+mod going;
+mod laws;
+mod tries;
+mod turns;
+
+pub use attempts::attempt;
+pub use gated::{Gated, attempt_gated};
+pub use going::{Stop, go_on};
+pub use laws::attempts_begin_and_end;
+pub use tries::{Answer, answer_of, try_call, try_on};
+pub use turns::turn;
