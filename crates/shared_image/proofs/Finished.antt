@@ -23,10 +23,11 @@ use Rattle.world.specs.Wants.{word_of, event_of}
 use Rattle.restart_op.specs.Close.{wanted}
 use Rattle.restart_op.specs.Closing.{close_after, SaysShapeInFront, HaveFit, AllAreQuiet, IsKept}
 use Rattle.restart_op.proofs.Currents.{current_in}
+use Rattle.restart_op.proofs.closes.CloseAlong.{changes_state_alone}
 use Rattle.restart_op.proofs.closes.CloseKeeping.{close_keeps, close_settles}
 use Rattle.vlock.specs.Ruling.{word}
 use Rattle.vlock.specs.Ends.{IsEnd}
-use Rattle.shared_image.specs.Closed.{IsClosedFrom, HasWhatWasReplied}
+use Rattle.shared_image.specs.Closed.{IsClosedFrom, HasWhatWasReplied, WasEnded}
 
 -- the words of a close are those that its events made
 made : (shape : Shape) (ws : Words) (n : ℕ) → (close_after shape ws [] n).words ≡ value ws (close_after shape ws [] n).trace
@@ -103,16 +104,27 @@ module _ (site : Ground) (before last : List ℕ) (views : List View) (ended : I
     kept.pairs (replay start (weave (map (λ v. v.own) views))) (ended.replay_is start same),
   ))
 
+  -- and all words but the state word are those of before
+  pub was_ended : (replies : List (List Entry)) → map (λ v. v.own) views ≡ replies → WasEnded site replies medium
+  was_ended replies is = record {
+    words = word before;
+    views = views;
+    ended = ended;
+    told = is;
+    same = λ i within other. get_or-take (words_of site.shape) last i 0 within ∙ ap (λ (ws : Words). ws i) run.words_are ∙ changes_state_alone site.shape (word before) [] run.events i other;
+  }
+
 -- THE CLOSE IS FINISHED, by another name of the shape, and of the words that are given
 pub finish : (site : Ground) (shape : Shape) (before last out : List ℕ) (views : List View) (replies : List (List Entry)) → shape ≡ site.shape → IsEnd site (word before) views
     → ((i : ℕ) → slice_index before i < 2 ^ 64) → SaysShapeInFront site.shape site.front → marker_in (site.front state_word) ≡ 0 → IsClosedFrom shape (word before) (word last)
     → words_of site.shape ≤ length last → out ≡ take (words_of shape) last → map (λ v. v.own) views ≡ replies
-    → IsSoundImage site.shape out × IsClean (frame_of site.shape (slice_index out)) × HasWhatWasReplied site replies out
+    → IsSoundImage site.shape out × IsClean (frame_of site.shape (slice_index out)) × HasWhatWasReplied site replies out × WasEnded site replies out
 finish site shape before last out views replies same ended fits says unmarked run long is told =
     let here : IsClosedFrom site.shape (word before) (word last) = subst (λ (g : Shape). IsClosedFrom g (word before) (word last)) same run in
     let given : out ≡ take (words_of site.shape) last = is ∙ ap (λ (g : Shape). take (words_of g) last) same in
-    subst (λ (ws : List ℕ). IsSoundImage site.shape ws × IsClean (frame_of site.shape (slice_index ws)) × HasWhatWasReplied site replies ws) (sym given) (
+    subst (λ (ws : List ℕ). IsSoundImage site.shape ws × IsClean (frame_of site.shape (slice_index ws)) × HasWhatWasReplied site replies ws × WasEnded site replies ws) (sym given) (
       sound site before last views ended fits says unmarked here long,
       clean site before last views ended fits says unmarked here long,
       replied site before last views ended fits says unmarked here long replies told,
+      was_ended site before last views ended fits says unmarked here long replies told,
     )

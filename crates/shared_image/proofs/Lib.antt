@@ -5,3 +5,5 @@ pub mod ClosesOn
 pub mod Opens
 pub mod TakenIn
 pub mod Finished
+pub mod Waited
+pub mod Repairable

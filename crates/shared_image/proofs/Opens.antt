@@ -25,9 +25,9 @@ use Rattle.vlock.specs.Plays.{IsSeatOf, IsWhole}
 use Rattle.vlock.specs.Ends.{IsOpened}
 use Rattle.shared_image.specs.declared.image.SharedImage.{SharedImage}
 use Rattle.shared_image.specs.declared.image.Keeper.{Keeper}
-use Rattle.shared_image.specs.Powered.{KeepsStill, IsKeeperOf, IsOn, ground}
+use Rattle.shared_image.specs.Powered.{KeepsStill, IsKeeperOf, IsOn, ground_in}
 
--- the ground that words give
+-- what is fixed by words
 abbrev ground_by : Shape → ℕ → Words → Ground
 ground_by shape callers words = record { shape = shape; front = words; start = find shape words; callers = callers }
 
@@ -90,7 +90,7 @@ module _ (key : Opening) (base : List ℕ) (o : IsOfRestart key base) where
     pub keeps : (keeper : Keeper) → IsSeatOf image.table.shared.table_id image.table.shared.key keeper.seat → keeper.seat.me ≡ (first_of key, []) → IsKeeperOf image keeper
     keeps keeper seat me = record { seat = seat; still = subst KeepsStill (sym (ap (λ m. m.0) me)) first_keeps }
 
-    pub starts_with : (m : Map) → HasPairsOf key.geometry (slice_index base) m → (k : ℕ) → get m k ≡ (ground image).start k
+    pub starts_with : (m : Map) → HasPairsOf key.geometry (slice_index base) m → (k : ℕ) → get m k ≡ (ground_in image).start k
     starts_with m has k =
         (keeps_pairs key.geometry base m o.sound).0 has k
         ∙ ap (λ (ws : Words). find key.geometry ws k) (sym o.words_are)

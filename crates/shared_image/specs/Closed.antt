@@ -1,5 +1,5 @@
 -- What a close of a shared image takes in, and what it gives.
-use Rattle.std.specs.Prelude.{◌≡◌, ℕ, ◌+◌, List, [], ◌∷◌, ◌++◌, map, slice_index}
+use Rattle.std.specs.Prelude.{◌≡◌, ◌≢◌, ℕ, ◌+◌, ◌<◌, List, [], ◌∷◌, ◌++◌, map, slice_index}
 use Rattle.std.specs.FinMap.{get}
 use Rattle.atomic_table.specs.declared.shared.Seat.{Seat}
 use Rattle.map_model.specs.declared.entry.Entry.{Entry}
@@ -8,14 +8,16 @@ use Rattle.map_model.specs.Weave.{weave}
 use Rattle.map_model.specs.Legal.{replay, IsLegal}
 use Rattle.sound_image.specs.Left.{HasPairsOf}
 use Rattle.trace.specs.Events.{Words}
-use Rattle.image_layout.specs.Places.{Shape}
+use Rattle.image_layout.specs.Places.{Shape, state_word, words_of}
 use Rattle.op_core.specs.declared.want.Want.TheVariants.{Done}
 use Rattle.restart_op.specs.Close.{wanted}
 use Rattle.restart_op.specs.Closing.{close_after}
 use Rattle.world.specs.Ground.{Ground}
+use Rattle.world.specs.Views.{View}
 use Rattle.vlock.specs.declared.knows.Watch.{Watch}
 use Rattle.vlock.specs.Ruling.{OwesNothing}
 use Rattle.vlock.specs.Seats.{both}
+use Rattle.vlock.specs.Ends.{IsEnd}
 use Rattle.shared_image.specs.declared.image.SharedImage.{SharedImage}
 use Rattle.shared_image.specs.Powered.{IsPassOf}
 
@@ -53,3 +55,12 @@ replies_of passes = [] ∷ replies_in passes
 abbrev pub HasWhatWasReplied : Ground → List (List Entry) → List ℕ → Type 0
 HasWhatWasReplied site replies words =
     (start : Map) → ((k : ℕ) → get start k ≡ site.start k) → IsLegal start replies × HasPairsOf site.shape (slice_index words) (replay start (weave replies))
+
+-- HOW THE IMAGE WAS WHEN ALL CALLERS HAD ENDED: words and views of which `vlock` says what an end is, with these replies; and the words that are
+-- given are those, but for the state word
+pub record WasEnded (site : Ground) (replies : List (List Entry)) (given : List ℕ) : Type 0 where
+  pub words : Words
+  pub views : List View
+  pub ended : IsEnd site words views
+  pub told : map (λ v. v.own) views ≡ replies
+  pub same : (i : ℕ) → i < words_of site.shape → i ≢ state_word → slice_index given i ≡ words i

@@ -1,3 +1,5 @@
 pub mod Memory
 pub mod Powered
 pub mod Closed
+pub mod Calling
+pub mod Waiting

@@ -17,8 +17,8 @@ abbrev pub opening : SharedImage → Opening
 opening image = image.table.shared.key
 
 -- its shape, the words of its structure as the restart left them, what each key had then, and how many callers there are
-abbrev pub ground : SharedImage → Ground
-ground image = ground_of (opening image)
+abbrev pub ground_in : SharedImage → Ground
+ground_in image = ground_of (opening image)
 
 -- a pass of this image
 abbrev pub IsPassOf : SharedImage → Seat ℕ Watch → Type 0
@@ -28,10 +28,10 @@ IsPassOf image pass = IsSeatOf image.table.shared.table_id (opening image) pass
 pub record IsOn (image : SharedImage) : Type 0 where
   pub whole : IsWhole image.table.shared.table_id (opening image)
   pub laid_out : image.geometry ≡ (opening image).geometry
-  pub version : image.started.version ≡ version_of (ground image)
+  pub version : image.started.version ≡ version_of (ground_in image)
   pub room : length image.room.items ≡ image.table.shared.table_id.words
-  pub says : SaysShapeInFront (ground image).shape (ground image).front
-  pub unmarked : marker_in ((ground image).front state_word) ≡ 0
+  pub says : SaysShapeInFront (ground_in image).shape (ground_in image).front
+  pub unmarked : marker_in ((ground_in image).front state_word) ≡ 0
 
 -- what a keeper knows, which takes no event of its own: it stands for a caller, owes nothing, has replied nothing, and took in nobody yet
 pub record KeepsStill (p : Watch) : Type 0 where

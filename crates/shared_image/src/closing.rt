@@ -5,8 +5,8 @@ ghost use Rattle.image_layout.specs.Places.{IsShape, words_of};
 ghost use Rattle.sound_image.specs.Image.{IsSoundImage};
 ghost use Rattle.sound_image.specs.Segments.{frame_of, IsClean};
 ghost use Rattle.vlock.specs.Ruling.{word};
-ghost use Rattle.shared_image.specs.Powered.{IsOn, IsKeeperOf, ground, callers_left};
-ghost use Rattle.shared_image.specs.Closed.{IsClosedFrom, IsDone, callers_of, replies_of, HasWhatWasReplied};
+ghost use Rattle.shared_image.specs.Powered.{IsOn, IsKeeperOf, ground_in, callers_left};
+ghost use Rattle.shared_image.specs.Closed.{IsClosedFrom, IsDone, callers_of, replies_of, HasWhatWasReplied, WasEnded};
 
 use crate::image::{Keeper, Pass, SharedImage};
 use crate::memory::do_event;
@@ -40,11 +40,12 @@ pub fn close(image: SharedImage, keeper: Keeper, passes: Vec<Pass>) -> Vec<u64>
     requires on { IsOn image }
     requires keeper { IsKeeperOf image keeper }
     requires done { All (IsDone image) passes.items }
-    requires all { callers_left keeper + callers_of passes.items ≡ (ground image).callers }
-    ensures length { length result.items ≡ words_of (ground image).shape }
-    ensures sound { IsSoundImage (ground image).shape result.items }
-    ensures clean { IsClean (frame_of (ground image).shape (slice_index result.items)) }
-    ensures replies { HasWhatWasReplied (ground image) (replies_of passes.items) result.items }
+    requires all { callers_left keeper + callers_of passes.items ≡ (ground_in image).callers }
+    ensures length { length result.items ≡ words_of (ground_in image).shape }
+    ensures sound { IsSoundImage (ground_in image).shape result.items }
+    ensures clean { IsClean (frame_of (ground_in image).shape (slice_index result.items)) }
+    ensures replies { HasWhatWasReplied (ground_in image) (replies_of passes.items) result.items }
+    ensures ended { WasEnded (ground_in image) (replies_of passes.items) result.items }
 {
     let SharedImage {
         table,

@@ -38,7 +38,7 @@ impl SharedImage {
     ghost use Rattle.vlock.specs.Buckets.{MayCall, IsBesideNotes, ReadSays, LockSays, LockTook, MayUnlock, Unlocks};
     ghost use Rattle.vlock.specs.Finding.{IsBesideWay, Finds};
     ghost use Rattle.vlock.specs.Seats.{pass_right, note_left, note_right, both};
-    ghost use Rattle.shared_image.specs.Powered.{ground, IsPassOf, IsOn, IsKeeperOf, callers_left};
+    ghost use Rattle.shared_image.specs.Powered.{ground_in, IsPassOf, IsOn, IsKeeperOf, callers_left};
 
     /// A pass for one caller is cut off the keeper; as many as were asked for at power-on may be.
     pub fn split_pass(&self, keeper: &mut Keeper) -> Pass
@@ -62,7 +62,7 @@ impl SharedImage {
         ensures past { pass.new.me.0.past ≡ pass.old.me.0.past }
         ensures view { IsBesideWay pass.old.me.0.view pass.new.me.0.view }
         ensures caller { MayCall pass.new.me.0.view × (pass.old.me.0.view.answer ≡ None → pass.new.me.0.view.answer ≡ None) }
-        ensures finds { Finds (ground self.now) hash pass.old.me.0 result pass.new.me.0 }
+        ensures finds { Finds (ground_in self.now) hash pass.old.me.0 result pass.new.me.0 }
     {
         vlock::find_segment(
             &self.table.shared,
@@ -78,13 +78,13 @@ impl SharedImage {
     pub fn read_bucket(&self, pass: &mut Pass, segment: u64, bucket: u8) -> ReadReply
         requires on { IsOn self.now }
         requires pass { IsPassOf self.now pass.old }
-        requires place { (segment < (ground self.now).shape.segments) × (bucket < buckets) }
+        requires place { (segment < (ground_in self.now).shape.segments) × (bucket < buckets) }
         requires known { Has (Lives segment) pass.old.me.0.view.facts × Has (Current segment) pass.old.me.0.view.facts }
         requires caller { MayCall pass.old.me.0.view × (pass.old.me.0.view.answer ≡ None) }
         ensures pass { IsPassOf self.now pass.new }
         ensures past { pass.new.me.0.past ≡ pass.old.me.0.past }
         ensures view { IsBesideNotes pass.old.me.0.view pass.new.me.0.view }
-        ensures read { ReadSays (ground self.now) (bucket_at (ground self.now).shape segment bucket) pass.old.me.0 result pass.new.me.0 }
+        ensures read { ReadSays (ground_in self.now) (bucket_at (ground_in self.now).shape segment bucket) pass.old.me.0 result pass.new.me.0 }
     {
         vlock::read_bucket(&self.table.shared, &self.geometry, pass, segment, bucket)
     }
@@ -94,13 +94,13 @@ impl SharedImage {
     pub fn try_lock(&self, pass: &mut Pass, segment: u64, bucket: u8) -> LockReply
         requires on { IsOn self.now }
         requires pass { IsPassOf self.now pass.old }
-        requires place { (segment < (ground self.now).shape.segments) × (bucket < buckets) }
+        requires place { (segment < (ground_in self.now).shape.segments) × (bucket < buckets) }
         requires known { Has (Lives segment) pass.old.me.0.view.facts × Has (Current segment) pass.old.me.0.view.facts }
         requires caller { MayCall pass.old.me.0.view }
         ensures pass { IsPassOf self.now pass.new }
         ensures past { pass.new.me.0.past ≡ pass.old.me.0.past }
-        ensures lock { LockSays (ground self.now) (bucket_at (ground self.now).shape segment bucket) pass.old.me.0.view result pass.new.me.0.view }
-        ensures events { LockTook (bucket_at (ground self.now).shape segment bucket) pass.old.me.0.took result pass.new.me.0.took }
+        ensures lock { LockSays (ground_in self.now) (bucket_at (ground_in self.now).shape segment bucket) pass.old.me.0.view result pass.new.me.0.view }
+        ensures events { LockTook (bucket_at (ground_in self.now).shape segment bucket) pass.old.me.0.took result pass.new.me.0.took }
     {
         let lock = self.geometry.bucket_at(segment, bucket);
         vlock::try_lock(&self.table.shared, &self.geometry, pass, lock)
@@ -110,12 +110,12 @@ impl SharedImage {
     pub fn unlock(&self, pass: &mut Pass, segment: u64, bucket: u8)
         requires on { IsOn self.now }
         requires pass { IsPassOf self.now pass.old }
-        requires place { (segment < (ground self.now).shape.segments) × (bucket < buckets) }
+        requires place { (segment < (ground_in self.now).shape.segments) × (bucket < buckets) }
         requires caller { MayCall pass.old.me.0.view }
-        requires held { MayUnlock pass.old.me.0.view (bucket_at (ground self.now).shape segment bucket) }
+        requires held { MayUnlock pass.old.me.0.view (bucket_at (ground_in self.now).shape segment bucket) }
         ensures pass { IsPassOf self.now pass.new }
-        ensures view { (x : ℕ) × Has (bucket_at (ground self.now).shape segment bucket, x) pass.old.me.0.view.held
-            × Unlocks (ground self.now) (bucket_at (ground self.now).shape segment bucket) x pass.old.me.0 pass.new.me.0 }
+        ensures view { (x : ℕ) × Has (bucket_at (ground_in self.now).shape segment bucket, x) pass.old.me.0.view.held
+            × Unlocks (ground_in self.now) (bucket_at (ground_in self.now).shape segment bucket) x pass.old.me.0 pass.new.me.0 }
     {
         let lock = self.geometry.bucket_at(segment, bucket);
         vlock::unlock(&self.table.shared, &self.geometry, pass, lock);

@@ -4,11 +4,15 @@
 //! each with a pass of its own that is cut off the [`Keeper`]; [`close`] takes the passes in, runs the close over the words, and gives a clean image back.
 #![tactic(auto)]
 
+mod caller;
+mod calls;
 mod closing;
 mod image;
 mod memory;
 mod power;
+mod waiting;
 
+pub use caller::Caller;
 pub use closing::close;
 pub use image::{Keeper, Pass, SharedImage};
 pub use power::power_on;

@@ -10,7 +10,7 @@ ghost use Rattle.sound_image.specs.Left.{HasPairsOf};
 ghost use Rattle.restart_op.specs.Restart.{started_for};
 ghost use Rattle.restart_op.specs.Restarted.{words_at_end};
 ghost use Rattle.vlock.specs.Ruling.{word};
-ghost use Rattle.shared_image.specs.Powered.{IsOn, IsKeeperOf, ground, callers_left};
+ghost use Rattle.shared_image.specs.Powered.{IsOn, IsKeeperOf, ground_in, callers_left};
 
 use crate::image::{Keeper, SharedImage};
 use crate::memory::do_event;
@@ -83,10 +83,10 @@ pub fn power_on(
     requires callers { callers + 1 < 2 ^ 32 }
     ensures on { IfOk result (λ made. IsOn made.0) }
     ensures keeper { IfOk result (λ made. IsKeeperOf made.0 made.1) }
-    ensures shape { IfOk result (λ made. (ground made.0).shape ≡ medium.now.geometry) }
-    ensures callers { IfOk result (λ made. (callers_left made.1 ≡ callers + 1) × ((ground made.0).callers ≡ callers + 1)) }
-    ensures words { IfOk result (λ made. (ground made.0).front ≡ words_at_end medium.now.geometry medium.now.words) }
-    ensures pairs { IfOk result (λ made. (m : Map) → HasPairsOf medium.now.geometry (slice_index medium.now.words) m → (k : ℕ) → get m k ≡ (ground made.0).start k) }
+    ensures shape { IfOk result (λ made. (ground_in made.0).shape ≡ medium.now.geometry) }
+    ensures callers { IfOk result (λ made. (callers_left made.1 ≡ callers + 1) × ((ground_in made.0).callers ≡ callers + 1)) }
+    ensures words { IfOk result (λ made. (ground_in made.0).front ≡ words_at_end medium.now.geometry medium.now.words) }
+    ensures pairs { IfOk result (λ made. (m : Map) → HasPairsOf medium.now.geometry (slice_index medium.now.words) m → (k : ℕ) → get m k ≡ (ground_in made.0).start k) }
 {
     let geometry = medium.geometry;
     let mut room = laid_out(alloc, medium)?;

@@ -5,7 +5,7 @@ use Rattle.world.specs.Views.{View}
 use Rattle.vlock.specs.Ruling.{OwesNothing}
 use Rattle.vlock.specs.Buckets.{MayCall, MayUnlock}
 use Rattle.shared_image.specs.declared.image.SharedImage.{SharedImage}
-use Rattle.shared_image.specs.Powered.{ground}
+use Rattle.shared_image.specs.Powered.{ground_in}
 
 -- it stands for a caller, has no answer noted, holds nothing and owes nothing
 abbrev pub IsReady : View → Type 0
@@ -13,4 +13,4 @@ IsReady v = MayCall v × (v.answer ≡ None) × OwesNothing v
 
 -- it holds the lock of bucket 0 of a segment, and may give it back
 abbrev pub HoldsFirst : SharedImage → ℕ → View → Type 0
-HoldsFirst image segment v = (segment < (ground image).shape.segments) × MayCall v × MayUnlock v (bucket_at (ground image).shape segment 0)
+HoldsFirst image segment v = (segment < (ground_in image).shape.segments) × MayCall v × MayUnlock v (bucket_at (ground_in image).shape segment 0)

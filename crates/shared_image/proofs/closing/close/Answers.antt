@@ -5,7 +5,7 @@ use Rattle.std.specs.Vec.Iter.{into_iter_items}
 use Rattle.vlock.specs.declared.knows.Watch.{Watch}
 use Rattle.vlock.specs.Ruling.{OwesNothing}
 use Rattle.vlock.specs.Seats.{both}
-use Rattle.shared_image.specs.Powered.{ground}
+use Rattle.shared_image.specs.Powered.{ground_in}
 use Rattle.shared_image.specs.Closed.{with_all, replies_of}
 use Rattle.shared_image.proofs.TakenIn.{callers_with, replies_with, owes_nothing_with, with_more, stands_with}
 use Rattle.shared_image.proofs.Finished.{finish}
@@ -66,7 +66,7 @@ returns-clause-sound c =
     let long = c.run_close.ensures.length in
     let given = c.close-words.ensures.length in
     let words = c.requires.on.whole.words in
-    (finish (ground c.args.image) c.args.image.geometry c.close-words.result.items c.run_close.new.words.items c.truncate.new.self.items (at.seat.me.0.view ∷ at.seat.me.0.past)
+    (finish (ground_in c.args.image) c.args.image.geometry c.close-words.result.items c.run_close.new.words.items c.truncate.new.self.items (at.seat.me.0.view ∷ at.seat.me.0.past)
     (replies_of c.args.passes.items) c.requires.on.laid_out c.close-words.ensures.end (subst (λ (ws : List ℕ). (i : ℕ) → slice_index ws i < 2 ^ 64) c.as_slice.ensures.value c.each_fits.ensures)
     c.requires.on.says c.requires.on.unmarked c.run_close.ensures.closed (omega (arith, long, given, words)) (c.truncate.ensures.items ∙ ap (λ (n : ℕ). take n c.run_close.new.words.items) c.words.ensures.is)
     (ap (λ w. map (λ v. v.own) (w.view ∷ w.past)) keeper_is ∙ replies_with p c.args.passes.items c.requires.keeper.still.own c.requires.keeper.still.past)).0
@@ -82,7 +82,7 @@ returns-clause-clean c =
     let long = c.run_close.ensures.length in
     let given = c.close-words.ensures.length in
     let words = c.requires.on.whole.words in
-    (finish (ground c.args.image) c.args.image.geometry c.close-words.result.items c.run_close.new.words.items c.truncate.new.self.items (at.seat.me.0.view ∷ at.seat.me.0.past)
+    (finish (ground_in c.args.image) c.args.image.geometry c.close-words.result.items c.run_close.new.words.items c.truncate.new.self.items (at.seat.me.0.view ∷ at.seat.me.0.past)
     (replies_of c.args.passes.items) c.requires.on.laid_out c.close-words.ensures.end (subst (λ (ws : List ℕ). (i : ℕ) → slice_index ws i < 2 ^ 64) c.as_slice.ensures.value c.each_fits.ensures)
     c.requires.on.says c.requires.on.unmarked c.run_close.ensures.closed (omega (arith, long, given, words)) (c.truncate.ensures.items ∙ ap (λ (n : ℕ). take n c.run_close.new.words.items) c.words.ensures.is)
     (ap (λ w. map (λ v. v.own) (w.view ∷ w.past)) keeper_is ∙ replies_with p c.args.passes.items c.requires.keeper.still.own c.requires.keeper.still.past)).1
@@ -98,7 +98,23 @@ returns-clause-replies c =
     let long = c.run_close.ensures.length in
     let given = c.close-words.ensures.length in
     let words = c.requires.on.whole.words in
-    (finish (ground c.args.image) c.args.image.geometry c.close-words.result.items c.run_close.new.words.items c.truncate.new.self.items (at.seat.me.0.view ∷ at.seat.me.0.past)
+    (finish (ground_in c.args.image) c.args.image.geometry c.close-words.result.items c.run_close.new.words.items c.truncate.new.self.items (at.seat.me.0.view ∷ at.seat.me.0.past)
     (replies_of c.args.passes.items) c.requires.on.laid_out c.close-words.ensures.end (subst (λ (ws : List ℕ). (i : ℕ) → slice_index ws i < 2 ^ 64) c.as_slice.ensures.value c.each_fits.ensures)
     c.requires.on.says c.requires.on.unmarked c.run_close.ensures.closed (omega (arith, long, given, words)) (c.truncate.ensures.items ∙ ap (λ (n : ℕ). take n c.run_close.new.words.items) c.words.ensures.is)
     (ap (λ w. map (λ v. v.own) (w.view ∷ w.past)) keeper_is ∙ replies_with p c.args.passes.items c.requires.keeper.still.own c.requires.keeper.still.past)).2
+
+pub returns-clause-ended : goal.returns-clause-ended
+returns-clause-ended c =
+    let at = c.loop-pass in
+    let none = c.in-None.ensures.steps in
+    let empty : into_iter_items at.pass-iterator ≡ [] = nothing_left _ (sym at.invariant.count ∙ none.0) in
+    let all = sym (append-nil at.yielded) ∙ rw empty at at.invariant.rest ∙ c.into_iter-pass-iterator.ensures.into_iter_gives.0 in
+    let p = c.args.keeper.seat.me.0 in
+    let keeper_is : at.seat.me.0 ≡ with_all p c.args.passes.items = at.invariant.taken ∙ ap (λ xs. with_all p xs) all in
+    let long = c.run_close.ensures.length in
+    let given = c.close-words.ensures.length in
+    let words = c.requires.on.whole.words in
+    (finish (ground_in c.args.image) c.args.image.geometry c.close-words.result.items c.run_close.new.words.items c.truncate.new.self.items (at.seat.me.0.view ∷ at.seat.me.0.past)
+    (replies_of c.args.passes.items) c.requires.on.laid_out c.close-words.ensures.end (subst (λ (ws : List ℕ). (i : ℕ) → slice_index ws i < 2 ^ 64) c.as_slice.ensures.value c.each_fits.ensures)
+    c.requires.on.says c.requires.on.unmarked c.run_close.ensures.closed (omega (arith, long, given, words)) (c.truncate.ensures.items ∙ ap (λ (n : ℕ). take n c.run_close.new.words.items) c.words.ensures.is)
+    (ap (λ w. map (λ v. v.own) (w.view ∷ w.past)) keeper_is ∙ replies_with p c.args.passes.items c.requires.keeper.still.own c.requires.keeper.still.past)).3

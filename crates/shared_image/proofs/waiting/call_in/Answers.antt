@@ -1,0 +1,34 @@
+use Rattle.std.proofs.Common.{◌≡◌, ◌∙◌, false}
+use Rattle.shared_image.specs.Powered.{ground_in}
+use Rattle.shared_image.proofs.Waited.{called, trying_of, trying_now, waited_on, not_off, gone_on}
+use Rattle.shared_image.proofs.waiting.call_in.Goals as goal
+
+pub loop-init : goal.loop-init
+loop-init g c = record {
+  pass_of = c.first_try-answer.ensures.pass;
+  waiting = called (ground_in c.args.image.now) c.args.site.now c.args.call c.requires.site.number c.args.pass.now.me.0 _ _ c.args.off.now _ _ _ c.first_try-answer.ensures.called;
+  off_is = c.first_try-answer.ensures.off;
+}
+
+pub next_try-answer-requires : goal.next_try-answer-requires
+next_try-answer-requires g c = record {
+  on = c.requires.on;
+  pass = c.loop.invariant.pass_of;
+  call = c.requires.call;
+  site = c.requires.site;
+  trying = λ on. trying_now (ground_in c.args.image.now) c.args.site.now c.args.call c.requires.site.number c.args.pass.now.me.0 _ _
+      (trying_of (ground_in c.args.image.now) c.args.site.now c.args.call c.requires.site.number c.args.pass.now.me.0 c.loop.answer _ _ c.in_default.not-Replied c.in_default.not-Off
+      c.loop.invariant.waiting.stands);
+}
+
+pub loop-preserved : goal.loop-preserved
+loop-preserved g c =
+    let t = trying_of (ground_in c.args.image.now) c.args.site.now c.args.call c.requires.site.number c.args.pass.now.me.0 c.loop.answer _ _ c.in_default.not-Replied c.in_default.not-Off
+    c.loop.invariant.waiting.stands in
+    let on : c.loop.off ≡ false = c.loop.invariant.off_is ∙ not_off c.loop.answer c.in_default.not-Off in
+    record {
+      pass_of = c.next_try-answer.ensures.pass;
+      waiting = waited_on (ground_in c.args.image.now) c.args.site.now c.args.call c.requires.site.number c.args.pass.now.me.0 _ _ _ 1000 _ _ _ _ _ t c.loop.invariant.waiting.taken
+          (gone_on (ground_in c.args.image.now) c.args.site.now c.args.call 1000 c.loop.off _ _ _ _ _ _ _ on c.next_try-answer.ensures.tried);
+      off_is = c.next_try-answer.ensures.off;
+    }
