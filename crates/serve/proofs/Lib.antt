@@ -1,0 +1,10 @@
+pub mod Causes
+pub mod ToSession
+pub mod Different
+pub mod Told
+pub mod OneByOne
+pub mod Lists
+pub mod Collected
+pub mod Readied
+pub mod Tried
+pub mod Finally
