@@ -49,6 +49,8 @@ pub fn purpose_of(words: &[String]) -> Purpose
 {
     match command_of(words) {
         Command::Check | Command::List => Purpose::Reading,
-        Command::Format(_) | Command::Play | Command::Unknown => Purpose::Writing,
+        Command::Format(_) | Command::Play | Command::Serve | Command::Unknown => {
+            Purpose::Writing
+        }
     }
 }

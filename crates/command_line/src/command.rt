@@ -16,8 +16,10 @@ pub enum Command {
     Check,
     /// `list`: the pairs of the image.
     List,
-    /// `play`: the script's calls on the image.
+    /// `play`: the script's calls on the image, in turns.
     Play,
+    /// `serve`: the script's calls on the image, a thread for each caller.
+    Serve,
     /// Any other words.
     Unknown,
 }
@@ -50,6 +52,7 @@ fn one_word(word: &str) -> Command
         "check" => Command::Check,
         "list" => Command::List,
         "play" => Command::Play,
+        "serve" => Command::Serve,
         _ => Command::Unknown,
     }
 }

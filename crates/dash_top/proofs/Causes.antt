@@ -1,13 +1,14 @@
 -- Why a part of a command stopped is why the command did.
-use Rattle.std.proofs.Common.{◌≡◌, ℕ, List, Result, Ok, Err, sym, subst}
+use Rattle.std.proofs.Common.{◌≡◌, ℕ, List, Result, Ok, Err, refl, sym, subst}
 use Rattle.std.specs.Prelude.{IfErr, IsErrAnd}
 use Rattle.image_layout.specs.Places.{Shape}
+use Rattle.script_text.specs.declared.line.Mode.{Mode}
 use Rattle.dash_top.specs.declared.work.Refused.{Refused}
 use Rattle.dash_top.specs.declared.work.Refused.TheVariants.{Words, Script, Image, Source, Store, NoMemory}
-use Rattle.command_line.specs.Commands.{SaysFormat, ReadsImage, play_words}
+use Rattle.command_line.specs.Commands.{SaysFormat, ReadsImage, RunsScript, words_of_mode}
 use Rattle.dash_top.specs.Bytes.{Bytes, KeepsStore}
-use Rattle.dash_top.specs.Reading.{HasImageCause}
-use Rattle.dash_top.specs.Work.{HasCause, HasFormatCause, FindsScriptGood, IsRefused, StoreFailed}
+use Rattle.dash_top.specs.Reading.{HasScriptCause, HasImageCause}
+use Rattle.dash_top.specs.Work.{HasCause, HasFormatCause, FindsScriptGood, StoreFailed}
 
 module _ (t : Bytes) (words : List (List ℕ)) (source_old source_new store_old store_new : ℕ) where
   -- of a command that reads the image
@@ -31,10 +32,20 @@ module _ (t : Bytes) (words : List (List ℕ)) (source_old source_new store_old 
   cause_of_format Store says h = (h.0, StoreFailed.in_formatting says (record { once = h.1.0; failed = h.1.1 }))
   cause_of_format NoMemory says h = record { same = h.0; unwritten = h.1 }
 
-  -- of a play
-  pub cause_of_play : (refused : Refused) → words ≡ play_words → HasCause t play_words source_old source_new store_old store_new refused
+  -- of a run
+  pub cause_of_run : (mode : Mode) (refused : Refused) → RunsScript words mode → HasCause t (words_of_mode mode) source_old source_new store_old store_new refused
       → HasCause t words source_old source_new store_old store_new refused
-  cause_of_play refused form h = subst (λ w. HasCause t w source_old source_new store_old store_new refused) (sym form) h
+  cause_of_run mode refused form h = subst (λ w. HasCause t w source_old source_new store_old store_new refused) (sym form) h
+
+-- of a script
+pub cause_of_script : (t : Bytes) (mode : Mode) (source_old source_new store_old store_new : ℕ) (refused : Refused) → KeepsStore t
+    → HasScriptCause mode t.source_old t.source_new source_old source_new refused → HasCause t (words_of_mode mode) source_old source_new store_old store_new refused
+cause_of_script t mode source_old source_new store_old store_new Words keeps h = absurd h
+cause_of_script t mode source_old source_new store_old store_new (Script fault) keeps h = ((mode, refl, h), keeps)
+cause_of_script t mode source_old source_new store_old store_new (Image fault) keeps h = absurd h
+cause_of_script t mode source_old source_new store_old store_new Source keeps h = ((mode, refl), h, keeps)
+cause_of_script t mode source_old source_new store_old store_new Store keeps h = absurd h
+cause_of_script t mode source_old source_new store_old store_new NoMemory keeps h = keeps
 
 -- what holds of the error with which a result was made holds of its error
 pub err_of : {T E : Type 0} (P : E → Type 0) (result : Result T E) (e : E) → IsErrAnd result (λ f. f ≡ e) → P e → IfErr result P

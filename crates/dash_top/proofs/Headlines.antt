@@ -1,12 +1,13 @@
--- Where the bytes are told, what was played is the headline.
+-- Where the bytes are told, what was run is the headline.
 use Rattle.std.proofs.Common.{◌≡◌, ℕ, ◌+◌, ◌≤◌, List, ◌++◌, length, take, sym, ap, ◌∙◌, subst, Option, None, Some, arith}
 use Rattle.std.specs.Io.KnownBytes.{Appends, Consumes, IsAtEnd}
 use Rattle.std.proofs.lemmas.Grind.{common_steps}
 use Rattle.outside.specs.Storing.{Holds, IsFront}
 use Rattle.sound_image.specs.Image.{image_bytes}
-use Rattle.dash_top.specs.Played.{IsPlayed}
+use Rattle.script_text.specs.declared.line.Mode.{Mode}
+use Rattle.dash_top.specs.Modes.{IsRunIn}
 use Rattle.dash_top.specs.Bytes.{Bytes}
-use Rattle.dash_top.specs.Work.{Plays}
+use Rattle.dash_top.specs.Work.{Runs}
 use Rattle.dash_top.specs.Top.{Headline}
 
 -- what was read to the end is all that was left
@@ -25,17 +26,16 @@ appended : (now : Option (List ℕ)) (text before : List ℕ) → Appends (Some 
 appended None text before h = absurd h
 appended (Some all) text before h = ap Some h
 
-pub headline : (t : Bytes) (sink_old sink_new : Option (List ℕ)) (transcript : List ℕ) → Plays t transcript → Appends sink_old sink_new transcript → Headline t sink_old sink_new
-headline t sink_old sink_new transcript plays appends start script before store_is source_is sink_is =
-    let short : length plays.script ≤ 16777216 = plays.played.script_is.short.few_bytes in
-    let script_is : script ≡ plays.script =
-    consumed_all t.source_new plays.script script (subst (λ (o : Option (List ℕ)). Consumes o t.source_new plays.script) source_is plays.reads_script.taken) (plays.reads_script.to_its_end short) in
-    let start_is : image_bytes plays.words ≡ start =
-    read_all 282067200 (image_bytes plays.words) start (subst (λ (o : Option (List ℕ)). IsFront o 282067200 (image_bytes plays.words)) store_is plays.reads.front) plays.reads.all in (
+pub headline : (mode : Mode) (t : Bytes) (sink_old sink_new : Option (List ℕ)) (transcript : List ℕ) → Runs mode t transcript → Appends sink_old sink_new transcript → Headline mode t sink_old sink_new
+headline mode t sink_old sink_new transcript runs appends start script before store_is source_is sink_is =
+    let script_is : script ≡ runs.script =
+    consumed_all t.source_new runs.script script (subst (λ (o : Option (List ℕ)). Consumes o t.source_new runs.script) source_is runs.reads_script.taken) (runs.reads_script.to_its_end runs.few) in
+    let start_is : image_bytes runs.words ≡ start =
+    read_all 282067200 (image_bytes runs.words) start (subst (λ (o : Option (List ℕ)). IsFront o 282067200 (image_bytes runs.words)) store_is runs.reads.front) runs.reads.all in (
       transcript,
-      plays.ending,
+      runs.ending,
       appended sink_new transcript before (subst (λ (o : Option (List ℕ)). Appends o sink_new transcript) sink_is appends),
-      subst (λ (o : Option (List ℕ)). Holds o t.store_new plays.ending) store_is plays.stores,
-      subst (λ (x : List ℕ). IsPlayed start x transcript plays.ending) (sym script_is)
-          (subst (λ (x : List ℕ). IsPlayed x plays.script transcript plays.ending) start_is plays.played),
+      subst (λ (o : Option (List ℕ)). Holds o t.store_new runs.ending) store_is runs.stores,
+      subst (λ (x : List ℕ). IsRunIn mode start x transcript runs.ending) (sym script_is)
+          (subst (λ (x : List ℕ). IsRunIn mode x runs.script transcript runs.ending) start_is runs.run),
     )

@@ -5,3 +5,4 @@ pub mod Headlines
 pub mod Complete
 pub mod Causes
 pub mod Chain
+pub mod Ran

@@ -1,5 +1,5 @@
 -- What the store and the source tell before a call and after it, and what was read of them.
-use Rattle.std.specs.Prelude.{◌≡◌, ◌≢◌, ℕ, ◌+◌, ◌≤◌, Bool, true, false, List, length, slice_index, Option}
+use Rattle.std.specs.Prelude.{◌≡◌, ◌≢◌, ℕ, ◌+◌, ◌≤◌, Bool, true, false, List, length, Option}
 use Rattle.std.specs.Io.KnownBytes.{Consumes, IsAtEnd}
 use Rattle.outside.specs.Causes.{Rose}
 use Rattle.outside.specs.Storing.{IsFront}
@@ -8,7 +8,7 @@ use Rattle.sound_image.specs.Image.{image_bytes, IsSoundImage}
 use Rattle.image_file.specs.Fault.{HasFault}
 use Rattle.image_file.specs.declared.fault.ImageFault.{ImageFault}
 use Rattle.image_file.specs.declared.fault.ImageFault.TheVariants.{NoMemory as NoMemoryForImage}
-use Rattle.script_text.specs.declared.line.Mode.TheVariants.{Play}
+use Rattle.script_text.specs.declared.line.Mode.{Mode}
 use Rattle.script_text.specs.declared.fault.ScriptFault.{ScriptFault}
 use Rattle.script_text.specs.declared.fault.ScriptFault.TheVariants.{NoMemory as NoMemoryForScript}
 use Rattle.script_text.specs.declared.line.Line.{Line}
@@ -64,18 +64,18 @@ pub record ReadsScript (source_old source_new : Option (List ℕ)) (script : Lis
   pub to_its_end : length script ≤ script_limit → IsAtEnd source_new
   pub no_more : length script ≤ script_limit + 1
 
--- and it is one of the grammar
-pub record ReadsGoodScript (source_old source_new : Option (List ℕ)) : Type 0 where
+-- and it is one of the grammar of this mode
+pub record ReadsGoodScript (source_old source_new : Option (List ℕ)) (mode : Mode) : Type 0 where
   pub script : List ℕ
   pub reads : ReadsScript source_old source_new script
   pub lines : List Line
-  pub good : IsScript Play script lines
+  pub good : IsScript mode script lines
 
 -- the script that was read has this fault, which is not want of memory
-pub record RefusesScript (source_old source_new : Option (List ℕ)) (fault : ScriptFault) : Type 0 where
+pub record RefusesScript (source_old source_new : Option (List ℕ)) (mode : Mode) (fault : ScriptFault) : Type 0 where
   pub script : List ℕ
   pub reads : ReadsScript source_old source_new script
-  pub has_fault : HasScriptFault Play script fault
+  pub has_fault : HasScriptFault mode script fault
   pub not_memory : fault ≢ NoMemoryForScript
 
 -- THE IMAGE

@@ -1,4 +1,7 @@
 pub mod Played
+pub mod Served
+pub mod Modes
+pub mod Ran
 pub mod Bytes
 pub mod Reading
 pub mod Work

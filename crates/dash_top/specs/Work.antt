@@ -1,5 +1,5 @@
 -- What each command does, and why one stops before it is done.
-use Rattle.std.specs.Prelude.{◌≡◌, ℕ, ◌+◌, ◌↔◌, Option, List, [], length, slice_index, string_bytes, IsTrue, Bool, true}
+use Rattle.std.specs.Prelude.{◌≡◌, ℕ, ◌+◌, ◌≤◌, ◌↔◌, Option, List, [], length, slice_index, string_bytes, IsTrue, Bool, true}
 use Rattle.std.specs.List.Sorted.{IsStrictlyIncreasing}
 use Rattle.outside.specs.Causes.{Rose}
 use Rattle.outside.specs.Storing.{Holds}
@@ -14,10 +14,11 @@ use Rattle.dash_top.specs.declared.work.Output.{Output}
 use Rattle.dash_top.specs.declared.work.Output.TheVariants.{Nothing, Text, Lines}
 use Rattle.dash_top.specs.declared.work.Refused.{Refused}
 use Rattle.dash_top.specs.declared.work.Refused.TheVariants.{Words, Script, Image, Source, Store, NoMemory}
-use Rattle.command_line.specs.Commands.{check_words, list_words, play_words, SaysFormat, IsNoCommand, ReadsImage}
+use Rattle.script_text.specs.declared.line.Mode.{Mode}
+use Rattle.command_line.specs.Commands.{check_words, list_words, SaysFormat, IsNoCommand, ReadsImage, RunsScript, ReadsSource}
 use Rattle.reply_text.specs.Texts.{check_text, list_text}
-use Rattle.dash_top.specs.Played.{IsPlayed}
-use Rattle.dash_top.specs.Bytes.{Bytes, KeepsStore, WritesOnce, LosesWrite, ReadsScript, ReadsGoodScript, RefusesScript, ReadsSound, ReadsSomeSound, RefusesImage}
+use Rattle.dash_top.specs.Modes.{IsRunIn}
+use Rattle.dash_top.specs.Bytes.{Bytes, script_limit, KeepsStore, WritesOnce, LosesWrite, ReadsScript, ReadsGoodScript, RefusesScript, ReadsSound, ReadsSomeSound, RefusesImage}
 
 -- WHAT IS DONE
 -- the file of the image of an empty table of this shape stands in the store
@@ -53,8 +54,8 @@ pub record ListsPairs (store : Option (List ℕ)) (text : List ℕ) : Type 0 whe
   pub rising : IsStrictlyIncreasing (keys_of pairs)
   pub text_is : text ≡ list_text pairs
 
--- the script and the image that were read, the text and what stands in the store now are those of its run, a session
-pub record Plays (t : Bytes) (transcript : List ℕ) : Type 0 where
+-- the script and the image that were read, the text and what stands in the store now are those of a run in this mode, a session
+pub record Runs (mode : Mode) (t : Bytes) (transcript : List ℕ) : Type 0 where
   pub script : List ℕ
   pub reads_script : ReadsScript t.source_old t.source_new script
   pub shape : Shape
@@ -62,18 +63,19 @@ pub record Plays (t : Bytes) (transcript : List ℕ) : Type 0 where
   pub reads : ReadsSound t.store_old shape words
   pub ending : List ℕ
   pub stores : Holds t.store_old t.store_new ending
-  pub played : IsPlayed (image_bytes words) script transcript ending
+  pub few : length script ≤ script_limit
+  pub run : IsRunIn mode (image_bytes words) script transcript ending
 
 -- what the words ask for was done, with one write of the store or none, and this is to be written
 pub data IsDone (t : Bytes) (words : List (List ℕ)) : List ℕ → Type 0 where
   by_format : {shape : Shape} → SaysFormat words shape → StoresNew t.store_old t.store_new shape → WritesOnce t → IsDone t words []
   by_check : {text : List ℕ} → words ≡ check_words → Checks t.store_old text → KeepsStore t → IsDone t words text
   by_list : {text : List ℕ} → words ≡ list_words → ListsPairs t.store_old text → KeepsStore t → IsDone t words text
-  by_play : {transcript : List ℕ} → words ≡ play_words → Plays t transcript → WritesOnce t → IsDone t words transcript
+  by_run : (mode : Mode) {transcript : List ℕ} → RunsScript words mode → Runs mode t transcript → WritesOnce t → IsDone t words transcript
 
 -- THE ORDER: the image is read after the script, where there is one, was read to its end and found good
 abbrev pub FindsScriptGood : Bytes → List (List ℕ) → Type 0
-FindsScriptGood t words = words ≡ play_words → ReadsGoodScript t.source_old t.source_new
+FindsScriptGood t words = (mode : Mode) → RunsScript words mode → ReadsGoodScript t.source_old t.source_new mode
 
 -- WHY AN IMAGE IS REFUSED, by each command that reads it
 pub record IsRefused (t : Bytes) (words : List (List ℕ)) (fault : ImageFault) : Type 0 where
@@ -82,18 +84,18 @@ pub record IsRefused (t : Bytes) (words : List (List ℕ)) (fault : ImageFault) 
   pub refused : RefusesImage t.store_old fault
 
 -- WHERE THE STORE FAILED: in a read, and it is as it was; or in its one write, of a new image, or of the image that a
--- play left which had read script and image and found both good
+-- play or a serve left which had read script and image and found both good
 pub data StoreFailed (t : Bytes) (words : List (List ℕ)) : Type 0 where
   in_reading : ReadsImage words → FindsScriptGood t words → KeepsStore t → StoreFailed t words
   in_formatting : {shape : Shape} → SaysFormat words shape → LosesWrite t → StoreFailed t words
-  in_playing : words ≡ play_words → FindsScriptGood t words → ReadsSomeSound t.store_old → LosesWrite t → StoreFailed t words
+  in_running : ReadsSource words → FindsScriptGood t words → ReadsSomeSound t.store_old → LosesWrite t → StoreFailed t words
 
 -- WHY A COMMAND STOPS, by the counts of faults of the source and of the store
 abbrev pub HasCause : Bytes → List (List ℕ) → ℕ → ℕ → ℕ → ℕ → Refused → Type 0
 HasCause t words source_old source_new store_old store_new Words = IsNoCommand words × KeepsStore t
-HasCause t words source_old source_new store_old store_new (Script fault) = (words ≡ play_words) × RefusesScript t.source_old t.source_new fault × KeepsStore t
+HasCause t words source_old source_new store_old store_new (Script fault) = ((mode : Mode) × RunsScript words mode × RefusesScript t.source_old t.source_new mode fault) × KeepsStore t
 HasCause t words source_old source_new store_old store_new (Image fault) = IsRefused t words fault × KeepsStore t
-HasCause t words source_old source_new store_old store_new Source = (words ≡ play_words) × Rose source_old source_new × KeepsStore t
+HasCause t words source_old source_new store_old store_new Source = ReadsSource words × Rose source_old source_new × KeepsStore t
 HasCause t words source_old source_new store_old store_new Store = Rose store_old store_new × StoreFailed t words
 HasCause t words source_old source_new store_old store_new NoMemory = KeepsStore t
 

@@ -7,6 +7,7 @@
 
 mod laws;
 mod reading;
+mod running;
 mod top;
 mod work;
 

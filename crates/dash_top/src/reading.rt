@@ -2,7 +2,6 @@
 ghost use Rattle.std.specs.Prelude.{◌≡◌, ◌≤◌, ℕ, List, All, length, IfOk, IfErr};
 ghost use Rattle.outside.specs.Causes.{Rose};
 ghost use Rattle.script_text.specs.declared.line.Line.{Line};
-ghost use Rattle.script_text.specs.declared.line.Mode.TheVariants.{Play as PlayMode};
 ghost use Rattle.script_text.specs.Script.{IsScript};
 ghost use Rattle.script_text.specs.Calls.{IsLineSoFar};
 ghost use Rattle.dash_top.specs.Bytes.{ReadsScript, ReadsSound};
@@ -17,19 +16,19 @@ use std::alloc::Global;
 /// The most bytes that an image has.
 pub const MOST_IMAGE_BYTES: u64 = 282_067_200;
 
-/// Reads the script, to its end.
-pub fn read_script<S: Source>(alloc: Global, input: &mut S) -> Result<Script, Refused>
-    ensures ok { IfOk result (λ lines. (script : List ℕ) × ReadsScript (S.left input.old) (S.left input.new) script × IsScript PlayMode script lines) }
+/// Reads a script of this mode, to its end.
+pub fn read_script<S: Source>(alloc: Global, input: &mut S, mode: Mode) -> Result<Script, Refused>
+    ensures ok { IfOk result (λ lines. (script : List ℕ) × ReadsScript (S.left input.old) (S.left input.new) script × IsScript mode script lines) }
     ensures few { IfOk result (λ lines. length lines ≤ 1000000) }
     ensures so_far { IfOk result (All IsLineSoFar) }
-    ensures err { IfErr result (HasScriptCause (S.left input.old) (S.left input.new) (S.faults input.old) (S.faults input.new)) }
+    ensures err { IfErr result (HasScriptCause mode (S.left input.old) (S.left input.new) (S.faults input.old) (S.faults input.new)) }
 {
     let script = match take_all(alloc, input, MOST_BYTES as u64) {
         Ok(script) => script,
         Err(StoreFault::Failed) => return Err(Refused::Source),
         Err(StoreFault::NoMemory) => return Err(Refused::NoMemory),
     };
-    match parse(alloc, Mode::Play, &script) {
+    match parse(alloc, mode, &script) {
         Ok(lines) => Ok(lines),
         Err(ScriptFault::NoMemory) => Err(Refused::NoMemory),
         Err(fault) => Err(Refused::Script(fault)),

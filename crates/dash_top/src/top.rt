@@ -6,7 +6,8 @@ ghost use Rattle.outside.specs.Storing.{most_writes};
 ghost use Rattle.outside.specs.declared.gates.GateState.TheVariants.{Unmade};
 ghost use Rattle.script_text.specs.declared.fault.ScriptFault.{ScriptFault};
 ghost use Rattle.image_file.specs.declared.fault.ImageFault.{ImageFault};
-ghost use Rattle.command_line.specs.Commands.{check_words, list_words, play_words, IsNoCommand};
+ghost use Rattle.script_text.specs.declared.line.Mode.{Mode};
+ghost use Rattle.command_line.specs.Commands.{check_words, list_words, IsNoCommand, RunsScript, ReadsSource};
 ghost use Rattle.reply_text.specs.Texts.{usage_text, script_fault_text, image_fault_text};
 ghost use Rattle.dash_top.specs.Bytes.{bytes_told, counts, NoneRose, KeepsStore, RefusesScript};
 ghost use Rattle.dash_top.specs.Work.{IsDone, IsRefused, StoreFailed};
@@ -39,10 +40,10 @@ fn finish<K: Sink>(out: &mut K, status: u8, text: &[u8]) -> u8
 
 /// Does all that the program does, and answers its status.
 ///
-/// `words` are the words behind the path: `format SEGMENTS DEPTH KIND`, `check`, `list` or `play`. The store holds the
+/// `words` are the words behind the path: `format SEGMENTS DEPTH KIND`, `check`, `list`, `play` or `serve`. The store holds the
 /// image's file, the source gives the script, and the sink takes the text, or the line of a refusal.
 pub fn dash_run<R: Threads + Wait + Sync, I: Store, S: Source, K: Sink, M: Gates>(
-    _rt: &R,
+    rt: &R,
     alloc: Global,
     words: &[String],
     image: &mut I,
@@ -61,28 +62,28 @@ pub fn dash_run<R: Threads + Wait + Sync, I: Store, S: Source, K: Sink, M: Gates
 
     // The headline: wherever all three tell their bytes, these are what the run of the script leaves, and a session,
     // whose calls, woven by their places, are one legal history of a plain map that starts with the image's pairs.
-    ensures headline { result ≡ DONE → map string_bytes words.now ≡ play_words
-        → Headline (bytes_told (I.contents image.old) (I.contents image.new) (I.writes image.old) (I.writes image.new) (I.lost image.new) (S.left input.old) (S.left input.new))
+    ensures headline { result ≡ DONE → (mode : Mode) → RunsScript (map string_bytes words.now) mode
+        → Headline mode (bytes_told (I.contents image.old) (I.contents image.new) (I.writes image.old) (I.writes image.new) (I.lost image.new) (S.left input.old) (S.left input.new))
         (K.taken out.old) (K.taken out.new) }
 
     // The refusals, each with its cause and its line; an image is refused only after the script, where there is one, was
     // found good.
     ensures bad_words { result ≡ BAD_WORDS → IsNoCommand (map string_bytes words.now) × Appends (K.taken out.old) (K.taken out.new) usage_text }
-    ensures bad_script { result ≡ BAD_SCRIPT → (map string_bytes words.now ≡ play_words) × ((fault : ScriptFault)
-        × RefusesScript (S.left input.old) (S.left input.new) fault
+    ensures bad_script { result ≡ BAD_SCRIPT → (mode : Mode) × RunsScript (map string_bytes words.now) mode × ((fault : ScriptFault)
+        × RefusesScript (S.left input.old) (S.left input.new) mode fault
         × Appends (K.taken out.old) (K.taken out.new) (script_fault_text fault)) }
     ensures bad_image { result ≡ BAD_IMAGE → ((fault : ImageFault)
         × IsRefused (bytes_told (I.contents image.old) (I.contents image.new) (I.writes image.old) (I.writes image.new) (I.lost image.new) (S.left input.old) (S.left input.new)) (map string_bytes words.now) fault
         × Appends (K.taken out.old) (K.taken out.new) (image_fault_text fault)) }
 
-    // The outside failed. Where the store failed in a read, it is as it was; only a `format`, or a `play` that had found
+    // The outside failed. Where the store failed in a read, it is as it was; only a `format`, or a `play` or `serve` that had found
     // script and image good, may have failed in a write, its first.
-    ensures source_failed { result ≡ SOURCE_FAILED → (map string_bytes words.now ≡ play_words) × Rose (S.faults input.old) (S.faults input.new) }
+    ensures source_failed { result ≡ SOURCE_FAILED → ReadsSource (map string_bytes words.now) × Rose (S.faults input.old) (S.faults input.new) }
     ensures sink_failed { result ≡ SINK_FAILED → Rose (K.faults out.old) (K.faults out.new) }
     ensures store_failed { result ≡ STORE_FAILED → Rose (I.faults image.old) (I.faults image.new)
         × StoreFailed (bytes_told (I.contents image.old) (I.contents image.new) (I.writes image.old) (I.writes image.new) (I.lost image.new) (S.left input.old) (S.left input.new)) (map string_bytes words.now) }
 
-    // What is unchanged: the store where nothing was done, and by `check` and `list`; the source but by `play`; and the
+    // What is unchanged: the store where nothing was done, and by `check` and `list`; the source but by `play` and `serve`; and the
     // sink where nothing is to be written. A store that is as it was was not written, and none is written twice. Where
     // the sink failed, it has taken a front of what was to be written.
     ensures store_kept { result ≢ DONE → result ≢ SINK_FAILED → result ≢ STORE_FAILED
@@ -90,7 +91,7 @@ pub fn dash_run<R: Threads + Wait + Sync, I: Store, S: Source, K: Sink, M: Gates
     ensures readers_keep { (map string_bytes words.now ≡ check_words) ⊎ (map string_bytes words.now ≡ list_words)
         → KeepsStore (bytes_told (I.contents image.old) (I.contents image.new) (I.writes image.old) (I.writes image.new) (I.lost image.new) (S.left input.old) (S.left input.new)) }
     ensures no_second_write { I.writes image.new ≤ I.writes image.old + 1 }
-    ensures source_kept { map string_bytes words.now ≢ play_words → (S.left input.new ≡ S.left input.old) × (S.faults input.new ≡ S.faults input.old) }
+    ensures source_kept { (ReadsSource (map string_bytes words.now) → ⊥) → (S.left input.new ≡ S.left input.old) × (S.faults input.new ≡ S.faults input.old) }
     ensures sink_kept { (result ≡ SOURCE_FAILED) ⊎ ((result ≡ STORE_FAILED) ⊎ (result ≡ NO_MEMORY)) → K.taken out.new ≡ K.taken out.old }
     ensures sink_front { result ≡ SINK_FAILED → (text : List ℕ) × AppendsFront (K.taken out.old) (K.taken out.new) text
         × IsText (bytes_told (I.contents image.old) (I.contents image.new) (I.writes image.old) (I.writes image.new) (I.lost image.new) (S.left input.old) (S.left input.new)) (map string_bytes words.now) text }
@@ -101,7 +102,7 @@ pub fn dash_run<R: Threads + Wait + Sync, I: Store, S: Source, K: Sink, M: Gates
         → NoneRose (counts (S.faults input.old) (S.faults input.new) (K.faults out.old) (K.faults out.new) (I.faults image.old) (I.faults image.new))
         → (result ≡ DONE) ⊎ (result ≡ NO_MEMORY) }
 {
-    match perform(alloc, words, image, input) {
+    match perform(rt, alloc, words, image, input) {
         Ok(output) => finish(out, DONE, output.as_bytes()),
         Err(Refused::Words) => finish(out, BAD_WORDS, USAGE.as_bytes()),
         Err(Refused::Source) => SOURCE_FAILED,

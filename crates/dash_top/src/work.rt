@@ -1,21 +1,24 @@
 // What each command does between the outside's bytes.
 ghost use Rattle.std.specs.Prelude.{◌≡◌, ◌≢◌, ◌⊎◌, ◌+◌, ◌<◌, ◌≤◌, ℕ, List, OnOk, IfOk, IfErr, map, string_bytes, false};
 ghost use Rattle.outside.specs.Storing.{most_writes};
-ghost use Rattle.command_line.specs.Commands.{check_words, list_words, play_words};
+ghost use Rattle.command_line.specs.Commands.{check_words, list_words, words_of_mode, ReadsSource};
 ghost use Rattle.dash_top.specs.Bytes.{bytes_told};
 ghost use Rattle.dash_top.specs.Reading.{HasImageCause};
-ghost use Rattle.dash_top.specs.Work.{StoresNew, Checks, ListsPairs, Plays, IsDone, HasCause, HasFormatCause, output_bytes};
+ghost use Rattle.dash_top.specs.Work.{StoresNew, Checks, ListsPairs, Runs, IsDone, HasCause, HasFormatCause, output_bytes};
 
 use crate::reading::{read_image, read_script};
+use crate::running::run;
 use command_line::{Command, command_of};
 use image_file::{ImageFault, check, format, list, to_bytes};
 use image_layout::Geometry;
 use map_model::NoMemory;
 use outside::{Failed, Source, Store};
-use play::play;
 use reply_text::{check_line, list_lines, transcript};
-use script_text::ScriptFault;
+use script_text::{Mode, ScriptFault};
 use std::alloc::{AllocError, Global};
+use std::marker::Sync;
+use std::sync::Wait;
+use std::thread::Threads;
 
 /// Why a command is refused: it stops before all is done.
 #[derive(Clone, Copy, Debug, PartialEq, Eq)]
@@ -122,22 +125,24 @@ fn list_image<I: Store>(alloc: Global, image: &mut I) -> Result<String, Refused>
     Ok(text)
 }
 
-// Reads the script and the image, runs the one on the other, writes the image, and answers the transcript.
-fn play_script<I: Store, S: Source>(
+// Reads a script of this mode and the image, runs the one on the other, writes the image, and answers the transcript.
+fn run_script<R: Threads + Wait + Sync, I: Store, S: Source>(
+    rt: &R,
     alloc: Global,
+    mode: Mode,
     image: &mut I,
     input: &mut S,
 ) -> Result<Vec<u8>, Refused>
     requires { I.writes image.old < most_writes }
-    ensures ok { IfOk result (λ lines. Plays (bytes_told (I.contents image.old) (I.contents image.new) (I.writes image.old) (I.writes image.new) (I.lost image.new) (S.left input.old) (S.left input.new)) lines.items) }
+    ensures ok { IfOk result (λ lines. Runs mode (bytes_told (I.contents image.old) (I.contents image.new) (I.writes image.old) (I.writes image.new) (I.lost image.new) (S.left input.old) (S.left input.new)) lines.items) }
     ensures once { IfOk result (λ lines. I.writes image.new ≡ I.writes image.old + 1) }
     ensures kept { IfOk result (λ lines. I.lost image.new ≡ false) }
     ensures err { IfErr result (HasCause (bytes_told (I.contents image.old) (I.contents image.new) (I.writes image.old) (I.writes image.new) (I.lost image.new) (S.left input.old) (S.left input.new))
-        play_words (S.faults input.old) (S.faults input.new) (I.faults image.old) (I.faults image.new)) }
+        (words_of_mode mode) (S.faults input.old) (S.faults input.new) (I.faults image.old) (I.faults image.new)) }
 {
-    let script = read_script(alloc, input)?;
+    let script = read_script(alloc, input, mode)?;
     let medium = read_image(alloc, image)?;
-    let session = play(alloc, medium, &script)?;
+    let session = run(rt, alloc, mode, medium, &script)?;
     let lines = transcript(alloc, &session)?;
     let ending = to_bytes(alloc, &session.medium)?;
     match image.write_all(&ending) {
@@ -147,8 +152,9 @@ fn play_script<I: Store, S: Source>(
 }
 
 /// Does what the words ask for, and answers what is to be written. `check` and `list` leave the store as it is, and only
-/// `play` reads the source.
-pub fn perform<I: Store, S: Source>(
+/// `play` and `serve` read the source.
+pub fn perform<R: Threads + Wait + Sync, I: Store, S: Source>(
+    rt: &R,
     alloc: Global,
     words: &[String],
     image: &mut I,
@@ -162,8 +168,8 @@ pub fn perform<I: Store, S: Source>(
     ensures readers_keep { (map string_bytes words.now ≡ check_words) ⊎ (map string_bytes words.now ≡ list_words) → I.contents image.new ≡ I.contents image.old }
     ensures readers_write_nothing { (map string_bytes words.now ≡ check_words) ⊎ (map string_bytes words.now ≡ list_words) → I.writes image.new ≡ I.writes image.old }
     ensures no_second_write { I.writes image.new ≤ I.writes image.old + 1 }
-    ensures source_left { map string_bytes words.now ≢ play_words → S.left input.new ≡ S.left input.old }
-    ensures source_still { map string_bytes words.now ≢ play_words → S.faults input.new ≡ S.faults input.old }
+    ensures source_left { (ReadsSource (map string_bytes words.now) → ⊥) → S.left input.new ≡ S.left input.old }
+    ensures source_still { (ReadsSource (map string_bytes words.now) → ⊥) → S.faults input.new ≡ S.faults input.old }
 {
     match command_of(words) {
         Command::Format(geometry) => {
@@ -179,7 +185,11 @@ pub fn perform<I: Store, S: Source>(
             Ok(Output::Text(text))
         }
         Command::Play => {
-            let lines = play_script(alloc, image, input)?;
+            let lines = run_script(rt, alloc, Mode::Play, image, input)?;
+            Ok(Output::Lines(lines))
+        }
+        Command::Serve => {
+            let lines = run_script(rt, alloc, Mode::Serve, image, input)?;
             Ok(Output::Lines(lines))
         }
         Command::Unknown => Err(Refused::Words),

@@ -1,7 +1,8 @@
 use Rattle.command_line.specs.Commands.ReadsImage.{for_check, for_list}
-use Rattle.dash_top.specs.Work.{by_format, by_check, by_list, by_play}
-use Rattle.dash_top.proofs.Causes.{cause_of_reading, cause_of_format, cause_of_play, err_of}
-use Rattle.dash_top.proofs.Complete.{check_is_no_play, list_is_no_play}
+use Rattle.script_text.specs.declared.line.Mode.TheVariants.{Play as PlayMode, Serve as ServeMode}
+use Rattle.dash_top.specs.Work.{by_format, by_check, by_list, by_run}
+use Rattle.dash_top.proofs.Causes.{cause_of_reading, cause_of_format, cause_of_run, err_of}
+use Rattle.dash_top.proofs.Complete.{check_is_no_run, list_is_no_run}
 use Rattle.dash_top.proofs.work.perform.Goals as goal
 
 -- FORMAT
@@ -24,7 +25,7 @@ returns-in_ok-text-in-Check-clause-ok g c =
 pub returns-in_err-text-in-Check-clause-err : goal.returns-in_err-text-in-Check-clause-err
 returns-in_err-text-in-Check-clause-err g c =
     err_of _ c.from_residual-in_err-text-in-Check.result c.in_err-text-in-Check.field-0.0 c.from_residual-in_err-text-in-Check.ensures.1
-    (cause_of_reading _ _ _ _ _ _ _ (for_check c.in-Check.ensures) (λ form. absurd (check_is_no_play _ c.in-Check.ensures form))
+    (cause_of_reading _ _ _ _ _ _ _ (for_check c.in-Check.ensures) (λ mode form. absurd (check_is_no_run _ c.in-Check.ensures (mode, form)))
     (record { same = c.in_err-text-in-Check.ensures.keeps; unwritten = c.in_err-text-in-Check.ensures.unwritten }) c.in_err-text-in-Check.ensures.err)
 
 -- LIST
@@ -36,16 +37,27 @@ returns-in_ok-text-in-List-clause-ok g c =
 pub returns-in_err-text-in-List-clause-err : goal.returns-in_err-text-in-List-clause-err
 returns-in_err-text-in-List-clause-err g c =
     err_of _ c.from_residual-in_err-text-in-List.result c.in_err-text-in-List.field-0.0 c.from_residual-in_err-text-in-List.ensures.1
-    (cause_of_reading _ _ _ _ _ _ _ (for_list c.in-List.ensures) (λ form. absurd (list_is_no_play _ c.in-List.ensures form))
+    (cause_of_reading _ _ _ _ _ _ _ (for_list c.in-List.ensures) (λ mode form. absurd (list_is_no_run _ c.in-List.ensures (mode, form)))
     (record { same = c.in_err-text-in-List.ensures.keeps; unwritten = c.in_err-text-in-List.ensures.unwritten }) c.in_err-text-in-List.ensures.err)
 
 -- PLAY
 pub returns-in_ok-lines-in-Play-clause-ok : goal.returns-in_ok-lines-in-Play-clause-ok
 returns-in_ok-lines-in-Play-clause-ok g c =
-    by_play c.in-Play.ensures c.in_ok-lines-in-Play.ensures.ok
+    by_run PlayMode c.in-Play.ensures c.in_ok-lines-in-Play.ensures.ok
     (record { once = c.in_ok-lines-in-Play.ensures.once; kept = c.in_ok-lines-in-Play.ensures.kept })
 
 pub returns-in_err-lines-in-Play-clause-err : goal.returns-in_err-lines-in-Play-clause-err
 returns-in_err-lines-in-Play-clause-err g c =
     err_of _ c.from_residual-in_err-lines-in-Play.result c.in_err-lines-in-Play.field-0.0 c.from_residual-in_err-lines-in-Play.ensures.1
-    (cause_of_play _ _ _ _ _ _ _ c.in-Play.ensures c.in_err-lines-in-Play.ensures.err)
+    (cause_of_run _ _ _ _ _ _ PlayMode _ c.in-Play.ensures c.in_err-lines-in-Play.ensures.err)
+
+-- SERVE
+pub returns-in_ok-lines-in-Serve-clause-ok : goal.returns-in_ok-lines-in-Serve-clause-ok
+returns-in_ok-lines-in-Serve-clause-ok g c =
+    by_run ServeMode c.in-Serve.ensures c.in_ok-lines-in-Serve.ensures.ok
+    (record { once = c.in_ok-lines-in-Serve.ensures.once; kept = c.in_ok-lines-in-Serve.ensures.kept })
+
+pub returns-in_err-lines-in-Serve-clause-err : goal.returns-in_err-lines-in-Serve-clause-err
+returns-in_err-lines-in-Serve-clause-err g c =
+    err_of _ c.from_residual-in_err-lines-in-Serve.result c.in_err-lines-in-Serve.field-0.0 c.from_residual-in_err-lines-in-Serve.ensures.1
+    (cause_of_run _ _ _ _ _ _ ServeMode _ c.in-Serve.ensures c.in_err-lines-in-Serve.ensures.err)
