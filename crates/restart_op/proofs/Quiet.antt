@@ -18,7 +18,8 @@ use Rattle.restart_op.specs.declared.restart.RestartStep.TheVariants.{Load, Load
 use Rattle.restart_op.specs.Restart.{wanted_in}
 use Rattle.restart_op.specs.Budget.{events_of_restart}
 use Rattle.restart_op.specs.Restarted.{restarted, words_at_end, site_of, world_of}
-use Rattle.restart_op.specs.Closing.{OwesNothing, HaveFit, FitsByEvents, QuietAfterRestart}
+use Rattle.world.specs.Attempts.{OwesNothing}
+use Rattle.restart_op.specs.Closing.{HaveFit, FitsByEvents, QuietAfterRestart}
 use Rattle.restart_op.proofs.restarts.Along.{IsKeptBy, along}
 use Rattle.restart_op.proofs.restarts.Phases.{Phase, phase_on}
 use Rattle.restart_op.proofs.restarts.Cuts.{leaving_now}

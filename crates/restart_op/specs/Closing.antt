@@ -18,6 +18,7 @@ use Rattle.world.specs.Views.{View, At}
 use Rattle.world.specs.Wants.{answer_to}
 use Rattle.world.specs.World.{World}
 use Rattle.world.specs.areas.Worlds.{IsWell}
+use Rattle.world.specs.Attempts.{OwesNothing}
 use Rattle.restart_op.specs.declared.close.CloseStep.{CloseStep}
 use Rattle.restart_op.specs.declared.close.CloseStep.TheVariants.{Flush, Fence, Load, Store, FlushState, FenceState, Ended}
 use Rattle.restart_op.specs.declared.close.CloseOp.{CloseOp}
@@ -63,16 +64,6 @@ FewWait = (shape : Shape) (words : Words) (trace : Trace) → pending 0 trace �
     → length (pending 0 (close_after shape words trace n).trace) ≤ 8
 
 -- ---- before a close
--- a view holds no lock and no area, has no record under way, and owes nothing
-pub record OwesNothing (v : View) : Type 0 where
-  pub held : v.held ≡ []
-  pub dirty : v.dirty ≡ []
-  pub flushed : v.flushed ≡ []
-  pub planned : v.planned ≡ []
-  pub moving : v.moving ≡ []
-  pub owed : v.owed ≡ []
-  pub areas : v.areas ≡ []
-
 -- the first four words say what the image is and how it is laid out
 pub record SaysShapeInFront (shape : Shape) (front : Words) : Type 0 where
   pub magic_word : front 0 ≡ magic

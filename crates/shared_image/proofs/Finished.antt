@@ -62,8 +62,7 @@ module _ (site : Ground) (before last : List ℕ) (views : List View) (ended : I
   quiet : AllAreQuiet site (word before) world
   quiet = record {
     well = ended.nobody.well;
-    nothing = λ j v at. (let n = ended.nobody.nothing j v at in
-        record { held = n.held; dirty = n.dirty; flushed = n.flushed; planned = n.planned; moving = n.moving; owed = n.owed; areas = n.areas });
+    nothing = ended.nobody.nothing;
     fits = fits_at_first (word before) fits;
     says = says;
     structure = record {

@@ -5,7 +5,7 @@ use Rattle.atomic_table.specs.declared.shared.Seat.{Seat}
 use Rattle.map_model.specs.declared.entry.Entry.{Entry}
 use Rattle.world.specs.Views.{View}
 use Rattle.vlock.specs.declared.knows.Watch.{Watch}
-use Rattle.vlock.specs.Ruling.{OwesNothing}
+use Rattle.world.specs.Attempts.{OwesNothing}
 use Rattle.vlock.specs.Seats.{both}
 use Rattle.shared_image.specs.declared.image.SharedImage.{SharedImage}
 use Rattle.shared_image.specs.Closed.{IsDone, with_all, callers_of, replies_in, replies_of}

@@ -15,7 +15,7 @@ use Rattle.restart_op.specs.Closing.{close_after}
 use Rattle.world.specs.Ground.{Ground}
 use Rattle.world.specs.Views.{View}
 use Rattle.vlock.specs.declared.knows.Watch.{Watch}
-use Rattle.vlock.specs.Ruling.{OwesNothing}
+use Rattle.world.specs.Attempts.{OwesNothing}
 use Rattle.vlock.specs.Seats.{both}
 use Rattle.vlock.specs.Ends.{IsEnd}
 use Rattle.shared_image.specs.declared.image.SharedImage.{SharedImage}

@@ -7,7 +7,8 @@ use Rattle.restart_op.specs.Closing.{SaysShapeInFront}
 use Rattle.world.specs.Ground.{Ground, version_of}
 use Rattle.vlock.specs.declared.knows.Watch.{Watch}
 use Rattle.vlock.specs.declared.table.Opening.{Opening}
-use Rattle.vlock.specs.Ruling.{ground_of, OwesNothing}
+use Rattle.world.specs.Attempts.{OwesNothing}
+use Rattle.vlock.specs.Ruling.{ground_of}
 use Rattle.vlock.specs.Plays.{IsSeatOf, IsWhole}
 use Rattle.shared_image.specs.declared.image.SharedImage.{SharedImage}
 use Rattle.shared_image.specs.declared.image.Keeper.{Keeper}

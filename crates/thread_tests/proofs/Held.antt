@@ -1,7 +1,7 @@
 -- Who took a lock and owes nothing may give it back.
 use Rattle.std.proofs.Common.{inl, inr, ◌≡◌, ℕ, ◌+◌, ◌*◌, ◌^◌, ◌<◌, List, ◌∷◌, refl, sym, ap, ◌∙◌, subst, arith}
 use Rattle.world.specs.Views.{View, Has}
-use Rattle.vlock.specs.Ruling.{OwesNothing}
+use Rattle.world.specs.Attempts.{OwesNothing}
 use Rattle.vlock.specs.Buckets.{MayCall, MayUnlock}
 use Rattle.vlock.specs.Finding.{IsBesideWay}
 

@@ -2,7 +2,7 @@
 use Rattle.std.specs.Prelude.{◌≡◌, ℕ, ◌<◌, None}
 use Rattle.image_layout.specs.Places.{bucket_at}
 use Rattle.world.specs.Views.{View}
-use Rattle.vlock.specs.Ruling.{OwesNothing}
+use Rattle.world.specs.Attempts.{OwesNothing}
 use Rattle.vlock.specs.Buckets.{MayCall, MayUnlock}
 use Rattle.shared_image.specs.declared.image.SharedImage.{SharedImage}
 use Rattle.shared_image.specs.Powered.{ground_in}

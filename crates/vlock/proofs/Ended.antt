@@ -26,7 +26,8 @@ use Rattle.world.specs.Invariant.{IsWatched}
 use Rattle.world.proofs.Legality.{entries_legal}
 use Rattle.world.proofs.stepping.Rests.{rests_are_quiet, current_segments_rest}
 use Rattle.vlock.specs.declared.knows.Watch.{Watch}
-use Rattle.vlock.specs.Ruling.{word, all_views, IsIdle, OwesNothing, Kept}
+use Rattle.world.specs.Attempts.{OwesNothing}
+use Rattle.vlock.specs.Ruling.{word, all_views, IsIdle, Kept}
 use Rattle.vlock.specs.Ends.{IsEnd}
 use Rattle.vlock.proofs.Lists.{behind}
 

@@ -16,7 +16,8 @@ use Rattle.world.specs.Seats.{cut_off, left_of, joined, spent}
 use Rattle.world.proofs.basics.Lists.{at_set, set_here, set_there, has_joined}
 use Rattle.world.proofs.calls.seating.Moving.{cuts_keep, joins_keep}
 use Rattle.vlock.specs.declared.knows.Watch.{Watch}
-use Rattle.vlock.specs.Ruling.{word, all_views, OwesNothing, IsIdle, Kept}
+use Rattle.world.specs.Attempts.{OwesNothing}
+use Rattle.vlock.specs.Ruling.{word, all_views, IsIdle, Kept}
 use Rattle.vlock.specs.Seats.{pass_left, pass_right, note_left, note_right, both, spent_watch}
 use Rattle.vlock.proofs.Lists.{behind, place, at_place, set_place}
 use Rattle.vlock.proofs.Moved.{HoldsOfSome, moved, swaps, comes_in, grouped, ungrouped, block_left}

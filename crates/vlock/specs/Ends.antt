@@ -21,7 +21,8 @@ use Rattle.world.specs.areas.Kinds.{Guard, HasGuard, guard_word}
 use Rattle.world.specs.areas.Worlds.{IsWell}
 use Rattle.vlock.specs.declared.table.Opening.{Opening}
 use Rattle.vlock.specs.Refused.{HasNoFreeSlot}
-use Rattle.vlock.specs.Ruling.{word, ground_of, OwesNothing}
+use Rattle.world.specs.Attempts.{OwesNothing}
+use Rattle.vlock.specs.Ruling.{word, ground_of}
 
 -- the words are those of an image as a restart leaves it: its structure is sound, it is a table, and each current segment is repaired; the
 -- words behind it are 0

@@ -10,6 +10,7 @@ use Rattle.world.specs.Ground.{Ground}
 use Rattle.world.specs.Views.{View, Has}
 use Rattle.world.specs.World.{fresh_view}
 use Rattle.world.specs.Invariant.{Holds}
+use Rattle.world.specs.Attempts.{OwesNothing}
 use Rattle.vlock.specs.declared.knows.Watch.{Watch}
 use Rattle.vlock.specs.declared.table.Opening.{Opening}
 use Rattle.vlock.specs.Power.{StaysOff}
@@ -36,16 +37,6 @@ first_of key = record { view = fresh_view key.callers; past = []; took = [] }
 abbrev pub all_views : List Watch → List View
 all_views [] = []
 all_views (p ∷ ps) = p.view ∷ (p.past ++ all_views ps)
-
--- a view holds nothing, and has nothing unsettled, planned, under way or owed
-pub record OwesNothing (v : View) : Type 0 where
-  pub held : v.held ≡ []
-  pub dirty : v.dirty ≡ []
-  pub flushed : v.flushed ≡ []
-  pub planned : v.planned ≡ []
-  pub moving : v.moving ≡ []
-  pub owed : v.owed ≡ []
-  pub areas : v.areas ≡ []
 
 -- what a seat knows that stands for no caller: it owes nothing, replied nothing, and took in nothing
 pub record IsIdle (p : Watch) : Type 0 where

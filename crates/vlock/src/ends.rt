@@ -1,7 +1,8 @@
 //! An image is opened for threads, and closed when all callers have ended.
 
 ghost use Rattle.std.specs.Prelude.{◌≡◌, [], ◌∷◌, IfOk, length};
-ghost use Rattle.vlock.specs.Ruling.{word, ground_of, first_of, OwesNothing};
+ghost use Rattle.world.specs.Attempts.{OwesNothing};
+ghost use Rattle.vlock.specs.Ruling.{word, ground_of, first_of};
 ghost use Rattle.vlock.specs.Plays.{IsSeatOf};
 ghost use Rattle.vlock.specs.Ends.{IsOpened, IsEnd, OpensAgain};
 

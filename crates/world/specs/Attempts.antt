@@ -18,6 +18,16 @@ pub record HoldsOnly (locks : List (ℕ × ℕ)) (v : View) : Type 0 where
   pub owed : v.owed ≡ []
   pub areas : v.areas ≡ []
 
+-- it holds no lock and no area, has nothing unsettled, planned or under way, and owes nothing
+pub record OwesNothing (v : View) : Type 0 where
+  pub held : v.held ≡ []
+  pub dirty : v.dirty ≡ []
+  pub flushed : v.flushed ≡ []
+  pub planned : v.planned ≡ []
+  pub moving : v.moving ≡ []
+  pub owed : v.owed ≡ []
+  pub areas : v.areas ≡ []
+
 -- the replies of another view, and it has seen as much
 pub record HasNoMore (before v : View) : Type 0 where
   pub own : v.own ≡ before.own

@@ -15,7 +15,7 @@ use Rattle.world.specs.Laws.{EntriesAreLegal}
 use Rattle.world.specs.Slots.{CurrentSegmentsRest}
 use Rattle.world.specs.areas.Areas.{Whole}
 use Rattle.world.specs.Invariant.{IsWatched}
-use Rattle.restart_op.specs.Closing.{OwesNothing}
+use Rattle.world.specs.Attempts.{OwesNothing}
 use Rattle.restart_op.specs.AtRest.{IsCurrent, IsOpenStructure}
 use Rattle.engine.specs.Core.{Caller, Core}
 use Rattle.engine.specs.Holding.{DoesCall, CallerFits, CoreHolds}

@@ -3,7 +3,7 @@ use Rattle.std.proofs.Common.{◌≡◌, ◌∷◌, [], ℕ, ◌^◌, ◌<◌, L
 use Rattle.std.specs.Prelude.{slice_index, take, map}
 use Rattle.std.specs.Vec.Iter.{into_iter_items}
 use Rattle.vlock.specs.declared.knows.Watch.{Watch}
-use Rattle.vlock.specs.Ruling.{OwesNothing}
+use Rattle.world.specs.Attempts.{OwesNothing}
 use Rattle.vlock.specs.Seats.{both}
 use Rattle.shared_image.specs.Powered.{ground_in}
 use Rattle.shared_image.specs.Closed.{with_all, replies_of}
