@@ -248,4 +248,13 @@ impl Geometry {
     {
         self.words() + 4 + slot
     }
+
+    /// How many words there are with those of the image: behind them stand the commit counter, the power word, the guards
+    /// of free slots and of the directory, and a guard for each slot for a segment.
+    pub fn all_words(&self) -> usize
+        ensures is { result ≡ all_words_of self.now }
+        ensures most { result < 2 ^ 32 }
+    {
+        (self.words() + 4 + self.segments()) as usize
+    }
 }

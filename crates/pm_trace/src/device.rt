@@ -1,6 +1,6 @@
 //! The device.
 
-ghost use Rattle.std.specs.Prelude.{◌≡◌, ℕ, ◌<◌, ◌≤◌, ◌+◌, ◌↔◌, IfOk, IfErr, OnOk, OnErr, IsOk, [], ◌++◌, ◌-◌, ◌^◌, replicate, length, slice_index};
+ghost use Rattle.std.specs.Prelude.{◌≡◌, ℕ, ◌<◌, ◌≤◌, ◌+◌, ◌↔◌, IfOk, IfErr, OnOk, OnErr, IsOk, [], ◌++◌, ◌-◌, replicate, length, slice_index};
 ghost use Rattle.image_layout.specs.Places.{words_of};
 ghost use Rattle.trace.specs.Events.Event.{loaded, stored, exchanged, drawn, flushed, fenced};
 ghost use Rattle.image_layout.specs.Volatile.{all_words_of, counter_word};
@@ -16,19 +16,8 @@ use map_model::NoMemory;
 use std::alloc::{AllocError, Global};
 use std::marker::Model;
 
-/// How many words stand behind those of the image, beside one for each slot for a segment: the commit counter, the
-/// power word, and the guards of free slots and of the directory.
-const VOLATILE: u64 = 4;
 /// How many lines a caller may have flushed and not fenced.
 const LINES: usize = 8;
-
-/// How many words there are with those of the image.
-fn all_words(geometry: &Geometry) -> usize
-    ensures is { result ≡ all_words_of geometry.now }
-    ensures most { result < 2 ^ 32 }
-{
-    (geometry.words() + VOLATILE + geometry.segments()) as usize
-}
 
 /// These words, and zeros behind them: `total` in all.
 fn padded(alloc: Global, words: &[u64], total: usize) -> Result<Vec<u64>, AllocError>
@@ -81,7 +70,7 @@ impl Device {
         ensures callers { IfOk result (λ device. device.callers ≡ callers) }
         ensures begins { IfOk result (λ device. IsTraceOf (slice_index medium.words) [] device) }
     {
-        let total = all_words(&medium.geometry);
+        let total = medium.geometry.all_words();
         let newest = padded(alloc, medium.words.as_slice(), total)?;
         let settled = padded(alloc, medium.words.as_slice(), total)?;
         let flushes = Vec::with_capacity(alloc, LINES * (usize::from(callers) + 1))?;

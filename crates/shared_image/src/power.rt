@@ -15,7 +15,6 @@ ghost use Rattle.shared_image.specs.Powered.{IsOn, IsKeeperOf, ground_in, caller
 use crate::image::{Keeper, SharedImage};
 use crate::memory::do_event;
 use image_file::Medium;
-use image_layout::Geometry;
 use map_model::NoMemory;
 use op_core::{Machine, Want};
 use restart_op::{RestartOp, Started};
@@ -23,24 +22,13 @@ use std::alloc::Global;
 use std::snapshot::Snapshot;
 use vlock::{Opening, open};
 
-/// How many words stand behind those of the image, beside one for each slot for a segment.
-const VOLATILE: u64 = 4;
-
-/// How many words there are with those of the image.
-fn all_words(geometry: &Geometry) -> usize
-    ensures is { result ≡ all_words_of geometry.now }
-    ensures most { result < 2 ^ 32 }
-{
-    (geometry.words() + VOLATILE + geometry.segments()) as usize
-}
-
 /// The words of a medium, with 0 in those behind them.
 fn laid_out(alloc: Global, medium: &Medium) -> Result<Vec<u64>, NoMemory>
     requires whole { length medium.now.words ≡ words_of medium.now.geometry }
     ensures words { IfOk result (λ words. word words.items ≡ slice_index medium.now.words) }
     ensures length { IfOk result (λ words. length words.items ≡ all_words_of medium.now.geometry) }
 {
-    let total = all_words(&medium.geometry);
+    let total = medium.geometry.all_words();
     let mut words = Vec::with_capacity(alloc, total)?;
     words.extend_from_slice(medium.words.as_slice())?;
     words.resize(total, 0)?;
