@@ -1,9 +1,10 @@
 -- The words of one bucket put in: they are there, and the others stay. What is loaded of a bucket are words, and so are those of all
 -- buckets with the words of one put in.
-use Rattle.std.proofs.Common.{◌≡◌, ◌∙◌, ℕ, zero, suc, ◌+◌, ◌^◌, ◌<◌, Bool, true, false, inl, inr, List, refl, sym, ap, subst, arith, length, slice_index, slice_set, get_or-set_same, get_or-set_other, length-set}
+use Rattle.std.proofs.Common.{◌≡◌, ◌∙◌, ℕ, ◌+◌, ◌^◌, ◌<◌, Bool, true, false, inl, inr, List, refl, sym, ap, subst, arith, length, slice_index, slice_set, get_or-set_same, get_or-set_other, length-set}
 use Rattle.std.specs.Prelude.{replicate, nat_lt, if◌then◌else◌}
 use Rattle.std.proofs.lemmas.Bool.{cases_eq, cases_lt}
 use Rattle.std.proofs.lemmas.List.{set_past}
+use Rattle.world.proofs.basics.Lists.{zeros}
 use Rattle.phase.specs.declared.role.Role.{Role}
 use Rattle.phase.specs.declared.role.Role.TheVariants.{Home, Probing, First, Second, Next, Previous}
 use Rattle.phase.specs.declared.load.Load.{Load}
@@ -54,11 +55,6 @@ set_below words at v small all i = elim (cases_lt at (length words)) [
   ]
   | inr far ↦ subst (λ ws. slice_index ws i < 2 ^ 64) (sym (set_past words at v far)) (all i)
 ]
-
-zeros : (n i : ℕ) → slice_index (replicate n 0) i ≡ 0
-zeros zero i = refl
-zeros (suc n) zero = refl
-zeros (suc n) (suc i) = zeros n i
 
 -- none is loaded yet
 pub none_words : AreWords (replicate 32 0)

@@ -26,7 +26,8 @@ use Rattle.restart_op.proofs.restarts.Cuts.{leaving_now}
 use Rattle.restart_op.proofs.restarts.Beginning.{ends_started, restart_begins, ends_open, none_waits}
 
 -- ---- values
-fits_at_first : (start : Words) → ((i : ℕ) → start i < 2 ^ 64) → HaveFit start []
+-- values fit at first where the words do
+pub fits_at_first : (start : Words) → ((i : ℕ) → start i < 2 ^ 64) → HaveFit start []
 fits_at_first start fits i t =
     let none : length {A = Event} [] - t ≡ 0 = omega arith in
     subst (λ (n : ℕ). value start (drop n []) i < 2 ^ 64) (sym none) (fits i)

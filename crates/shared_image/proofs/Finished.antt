@@ -1,8 +1,8 @@
 -- What the close of a shared image leaves: a clean image, with the pairs of what was replied.
-use Rattle.std.proofs.Common.{◌≡◌, ℕ, zero, suc, ◌-◌, ◌^◌, ◌<◌, ◌≤◌, List, [], ◌∷◌, length, refl, sym, ap, ◌∙◌, subst, arith}
-use Rattle.std.specs.Prelude.{slice_index, take, drop, map}
+use Rattle.std.proofs.Common.{◌≡◌, ℕ, zero, suc, ◌^◌, ◌<◌, ◌≤◌, List, [], ◌∷◌, length, refl, sym, ap, ◌∙◌, subst, arith}
+use Rattle.std.specs.Prelude.{slice_index, take, map}
 use Rattle.std.proofs.lemmas.List.{get_or-take}
-use Rattle.trace.specs.Events.{Words, Event, line_of, value, value_at, after}
+use Rattle.trace.specs.Events.{Words, line_of, value, value_at, after}
 use Rattle.trace.specs.Progress.{settled_moment}
 use Rattle.trace.specs.Steps.{HadSinceSettled}
 use Rattle.trace.specs.Media.{IsPossible}
@@ -21,8 +21,9 @@ use Rattle.world.specs.Views.{View}
 use Rattle.world.specs.World.{World}
 use Rattle.world.specs.Wants.{word_of, event_of}
 use Rattle.restart_op.specs.Close.{wanted}
-use Rattle.restart_op.specs.Closing.{close_after, SaysShapeInFront, HaveFit, AllAreQuiet, IsKept}
+use Rattle.restart_op.specs.Closing.{close_after, SaysShapeInFront, AllAreQuiet, IsKept}
 use Rattle.restart_op.proofs.Currents.{current_in}
+use Rattle.restart_op.proofs.Quiet.{fits_at_first}
 use Rattle.restart_op.proofs.closes.CloseAlong.{changes_state_alone}
 use Rattle.restart_op.proofs.closes.CloseKeeping.{close_keeps, close_settles}
 use Rattle.vlock.specs.Ruling.{word}
@@ -35,11 +36,6 @@ made shape ws zero = refl
 made shape ws (suc n) =
     let c = close_after shape ws [] n in
     ap (λ (f : Words). after (event_of shape (wanted c.op) (c.words (word_of shape (wanted c.op))) 0) f) (made shape ws n)
-
-fits_at_first : (start : Words) → ((i : ℕ) → start i < 2 ^ 64) → HaveFit start []
-fits_at_first start fits i t =
-    let none : length {A = Event} [] - t ≡ 0 = omega arith in
-    subst (λ (n : ℕ). value start (drop n []) i < 2 ^ 64) (sym none) (fits i)
 
 length_taken : (n : ℕ) (xs : List ℕ) → n ≤ length xs → length (take n xs) ≡ n
 length_taken zero [] h = refl

@@ -1,5 +1,6 @@
--- Lists with one place changed, and sums over the views.
-use Rattle.std.proofs.Common.{◌≡◌, ◌≢◌, ◌⊎◌, ℕ, zero, suc, ◌+◌, ◌≤◌, List, [], ◌∷◌, ◌++◌, set, inl, inr, ⊎_elim, refl, sym, ap, ◌∙◌, arith}
+-- Lists with one place changed, lists of zeros, and sums over the views.
+use Rattle.std.proofs.Common.{◌≡◌, ◌≢◌, ◌⊎◌, ℕ, zero, suc, ◌+◌, ◌≤◌, List, [], ◌∷◌, ◌++◌, set, slice_index, inl, inr, ⊎_elim, refl, sym, ap, ◌∙◌, arith}
+use Rattle.std.specs.Prelude.{replicate}
 use mathlib.Core.Option.{some, some-injective, some-ne-none}
 use lib.ListN.{get_elem?}
 use Rattle.world.specs.Views.{View, Has, At}
@@ -33,6 +34,12 @@ module _ {A : Type 0} where
   pub has_joined : (xs ys : List A) (a : A) → Has a (xs ++ ys) → Has a xs ⊎ Has a ys
   has_joined [] ys a h = inr h
   has_joined (x ∷ xs) ys a h = elim h [ inl e ↦ inl (inl e) | inr r ↦ elim (has_joined xs ys a r) [ inl s ↦ inl (inr s) | inr s ↦ inr s ] ]
+
+-- a list of zeros has 0 everywhere
+pub zeros : (n i : ℕ) → slice_index (replicate n 0) i ≡ 0
+zeros zero i = refl
+zeros (suc n) zero = refl
+zeros (suc n) (suc i) = zeros n i
 
 module _ (f : View → ℕ) where
   -- a sum over the views after one view is another
