@@ -1,5 +1,6 @@
 -- What it asks for, what it plans, how it begins and ends, and what it hands on.
 use Rattle.std.proofs.Common.{◌≡◌, ℕ, ◌+◌, ◌-◌, ◌*◌, ◌/◌, ◌^◌, ◌<◌, ◌≤◌, true, false, Some, List, [], refl, sym, ap, ◌∙◌, subst, arith}
+use Rattle.std.proofs.lemmas.Option.{none-some, same_Some}
 use Rattle.op_core.specs.declared.want.Want.TheVariants as want
 use Rattle.segment_head.specs.HeadWord.{depth_in}
 use Rattle.image_layout.specs.Places.{Shape, root_word, first_segment, bucket_at, words_of, segment_words}
@@ -19,7 +20,7 @@ use Rattle.world.proofs.fitting.OneHolder.{head_in_slot}
 use Rattle.part.specs.Asks.{IsWithin, PutsWord}
 use Rattle.part.specs.Part.{AsksWithin, PutsWords, EndsAsDone, PlansItsCall, LeavesKnown, KnowsStale, HandsOnAtEnd, KeepsPower}
 use Rattle.rounds.specs.Steps.{event_wanted}
-use Rattle.rounds.proofs.Events.{no_some, some_same, events_end}
+use Rattle.rounds.proofs.Events.{events_end}
 use Rattle.rounds.proofs.Wanted.{by_wanted, event_none}
 use Rattle.rest_op.specs.RestPart.{KeepsSplit}
 use Rattle.split_op.specs.declared.copied.Copied.{Copied}
@@ -123,14 +124,14 @@ module _ (site : Ground) (here : Site) (call : Call) (op : DirectoryOp) (v : Vie
       below h low = omega (arith, low)
 
   store_small : (stage : Stage) → SuitsStore site here op call stage v → (p : ℕ × ℕ) → next_store op stage ≡ Some p → p.1 < 2 ^ 64
-  store_small (Fill place value) s p e = subst (λ (q : ℕ × ℕ). q.1 < 2 ^ 64) (some_same e) s.at.small
-  store_small Filled s p e = absurd (no_some e)
-  store_small Deepen s p e = subst (λ (q : ℕ × ℕ). q.1 < 2 ^ 64) (some_same e) (let root = s.at.doubles.root in omega (arith, root))
-  store_small Deepened s p e = absurd (no_some e)
-  store_small GoLive s p e = subst (λ (q : ℕ × ℕ). q.1 < 2 ^ 64) (some_same e) (live_small s.storing.heads.side (let version = s.at.new.split.is.version in omega (arith, version)))
-  store_small Live s p e = absurd (no_some e)
-  store_small (Enter index) s p e = subst (λ (q : ℕ × ℕ). q.1 < 2 ^ 64) (some_same e) s.at.small
-  store_small Entered s p e = absurd (no_some e)
+  store_small (Fill place value) s p e = subst (λ (q : ℕ × ℕ). q.1 < 2 ^ 64) (same_Some _ _ e) s.at.small
+  store_small Filled s p e = absurd (none-some _ e)
+  store_small Deepen s p e = subst (λ (q : ℕ × ℕ). q.1 < 2 ^ 64) (same_Some _ _ e) (let root = s.at.doubles.root in omega (arith, root))
+  store_small Deepened s p e = absurd (none-some _ e)
+  store_small GoLive s p e = subst (λ (q : ℕ × ℕ). q.1 < 2 ^ 64) (same_Some _ _ e) (live_small s.storing.heads.side (let version = s.at.new.split.is.version in omega (arith, version)))
+  store_small Live s p e = absurd (none-some _ e)
+  store_small (Enter index) s p e = subst (λ (q : ℕ × ℕ). q.1 < 2 ^ 64) (same_Some _ _ e) s.at.small
+  store_small Entered s p e = absurd (none-some _ e)
 
   puts_in : (step : DirectoryStep) → SuitsStep site here op call step v → PutsWord (wanted_in op step)
   puts_in LoadHead s = load_puts (head_word (shape_of op) op.copied.whole.segment)

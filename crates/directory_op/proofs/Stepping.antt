@@ -1,6 +1,7 @@
 -- Each event is of its kind, may be taken, and leaves a view that stands for the next state.
 use Rattle.std.proofs.Common.{◌≡◌, ◌≢◌, ℕ, ◌*◌, ◌/◌, ◌^◌, ◌<◌, ◌≤◌, ◌⊎◌, inl, inr, Bool, true, false, cond, Option, None, Some, List, [], ◌∷◌, refl, sym, ap, ◌∙◌, subst, arith}
 use Rattle.std.specs.Prelude.{◌==◌}
+use Rattle.std.proofs.lemmas.Option.{none-some, same_Some}
 use Rattle.trace.specs.Events.{Words}
 use Rattle.op_core.specs.declared.want.Want.{Want}
 use Rattle.op_core.specs.declared.want.Want.TheVariants as want
@@ -25,7 +26,6 @@ use Rattle.world.specs.areas.Splitting.{MayPublish}
 use Rattle.world.proofs.fitting.OneHolder.{head_in_slot}
 use Rattle.rounds.specs.Steps.{rounds_stores, rounds_wanted, want_or_done, event_wanted, rounds_taken}
 use Rattle.rounds.specs.Events.{IsStore, IsFlush, IsFence}
-use Rattle.rounds.proofs.Events.{no_some, some_same}
 use Rattle.rounds.proofs.Wanted.{by_event, event_is}
 use Rattle.rounds.proofs.Settling.{settled_firm, fence_dirty}
 use Rattle.split_op.specs.Copied.{split_head, side_head, copied_words, KeepsCopied}
@@ -47,9 +47,6 @@ use Rattle.directory_op.proofs.stages.Storing.{fill_stands, deepen_stands, live_
 use Rattle.directory_op.proofs.stages.Fencing.{filled_stands, deepened_stands, live_settled, entered_settled}
 use Rattle.directory_op.proofs.guard.Guarding.{keeps_read, root_stands, old_is, entry_stands, published_left}
 use Rattle.directory_op.proofs.Permitting.{fill_may, root_may, live_may, live_fence_may, enter_may, last_fence_may, new_dead, no_sides, fence_may}
-
-none_some : {A : Type 0} {x : A} → Some x ≡ None → ⊥
-none_some e = cc
 
 -- ---- the kinds of flushes and fences
 kind_flush : (op : DirectoryOp) (stage : Stage) (line : ℕ) → stage_kind op stage (Some (want.Flush line)) ≡ of_call (flushes line)
@@ -95,7 +92,7 @@ module _ (site : Ground) (here : Site) (call : Call) (words : Words) (views : Li
   store_wants Filled s p e = refl
   store_wants Deepen s p e = refl
   store_wants Deepened s p e = refl
-  store_wants GoLive s p e = ap (λ w. want.Store w p.1) (ap (λ (q : ℕ × ℕ). q.0) (sym (some_same e)) ∙ head_is op.copied.whole.site.geometry shape op.copied.side s.at.new.split.is.located.shape s.at.new.split.copy.slot)
+  store_wants GoLive s p e = ap (λ w. want.Store w p.1) (ap (λ (q : ℕ × ℕ). q.0) (sym (same_Some _ _ e)) ∙ head_is op.copied.whole.site.geometry shape op.copied.side s.at.new.split.is.located.shape s.at.new.split.copy.slot)
   store_wants Live s p e = refl
   store_wants (Enter index) s p e = refl
   store_wants Entered s p e = refl
@@ -109,14 +106,14 @@ module _ (site : Ground) (here : Site) (call : Call) (words : Words) (views : Li
 
   -- ---- what may be taken
   store_may : (stage : Stage) → Stood stage → (p : ℕ × ℕ) → next stage ≡ Some p → MayTake site (stage_kind op stage (Some (want.Store p.0 p.1))) v
-  store_may (Fill place value) s p e = subst (λ (q : ℕ × ℕ). MayTake site (stage_kind op (Fill place value) (Some (want.Store q.0 q.1))) v) (some_same e) (fill_may site here call op v ground place value s)
-  store_may Filled s p e = absurd (no_some e)
-  store_may Deepen s p e = subst (λ (q : ℕ × ℕ). MayTake site (stage_kind op Deepen (Some (want.Store q.0 q.1))) v) (some_same e) (root_may site here call op v ground words knows s)
-  store_may Deepened s p e = absurd (no_some e)
-  store_may GoLive s p e = subst (λ (q : ℕ × ℕ). MayTake site (stage_kind op GoLive (Some (want.Store q.0 q.1))) v) (some_same e) (live_may site here call op v ground publish s)
-  store_may Live s p e = absurd (no_some e)
-  store_may (Enter index) s p e = subst (λ (q : ℕ × ℕ). MayTake site (stage_kind op (Enter index) (Some (want.Store q.0 q.1))) v) (some_same e) (enter_may site here call op v ground index s)
-  store_may Entered s p e = absurd (no_some e)
+  store_may (Fill place value) s p e = subst (λ (q : ℕ × ℕ). MayTake site (stage_kind op (Fill place value) (Some (want.Store q.0 q.1))) v) (same_Some _ _ e) (fill_may site here call op v ground place value s)
+  store_may Filled s p e = absurd (none-some _ e)
+  store_may Deepen s p e = subst (λ (q : ℕ × ℕ). MayTake site (stage_kind op Deepen (Some (want.Store q.0 q.1))) v) (same_Some _ _ e) (root_may site here call op v ground words knows s)
+  store_may Deepened s p e = absurd (none-some _ e)
+  store_may GoLive s p e = subst (λ (q : ℕ × ℕ). MayTake site (stage_kind op GoLive (Some (want.Store q.0 q.1))) v) (same_Some _ _ e) (live_may site here call op v ground publish s)
+  store_may Live s p e = absurd (none-some _ e)
+  store_may (Enter index) s p e = subst (λ (q : ℕ × ℕ). MayTake site (stage_kind op (Enter index) (Some (want.Store q.0 q.1))) v) (same_Some _ _ e) (enter_may site here call op v ground index s)
+  store_may Entered s p e = absurd (none-some _ e)
 
   stage_fence_may : (stage : Stage) → Stood stage → v.dirty ≡ [] → MayTake site (stage_kind op stage (Some want.Fence)) v
   stage_fence_may (Fill place value) s dirty = fence_may site here call op v ground (new_dead site here call op v ground s.at.filling.new)
@@ -147,18 +144,18 @@ module _ (site : Ground) (here : Site) (call : Call) (words : Words) (views : Li
     to_store stage w is u stands = subst (λ (o : DirectoryOp). StandsAt o u) (sym (behind_store op stage w is)) stands
 
     store_stands : (stage : Stage) → Stood stage → (p : ℕ × ℕ) → next stage ≡ Some p → rounds_stores op.rounds (next stage) ≡ true → (w : Want) → IsStore op.rounds (next stage) w → Behind stage (Some (want.Store p.0 p.1))
-    store_stands (Fill place value) s p e on w is = subst (λ (q : ℕ × ℕ). Behind (Fill place value) (Some (want.Store q.0 q.1))) (some_same e)
+    store_stands (Fill place value) s p e on w is = subst (λ (q : ℕ × ℕ). Behind (Fill place value) (Some (want.Store q.0 q.1))) (same_Some _ _ e)
         (to_store (Fill place value) w is _ (fill_stands site ground here call op n v place value s on (stored_not_begun op.rounds (next (Fill place value)) w is)))
-    store_stands Filled s p e on w is = absurd (no_some e)
-    store_stands Deepen s p e on w is = subst (λ (q : ℕ × ℕ). Behind Deepen (Some (want.Store q.0 q.1))) (some_same e)
+    store_stands Filled s p e on w is = absurd (none-some _ e)
+    store_stands Deepen s p e on w is = subst (λ (q : ℕ × ℕ). Behind Deepen (Some (want.Store q.0 q.1))) (same_Some _ _ e)
         (to_store Deepen w is _ (deepen_stands site ground here call op n v s on (stored_not_begun op.rounds (next Deepen) w is)))
-    store_stands Deepened s p e on w is = absurd (no_some e)
-    store_stands GoLive s p e on w is = subst (λ (q : ℕ × ℕ). Behind GoLive (Some (want.Store q.0 q.1))) (some_same e)
+    store_stands Deepened s p e on w is = absurd (none-some _ e)
+    store_stands GoLive s p e on w is = subst (λ (q : ℕ × ℕ). Behind GoLive (Some (want.Store q.0 q.1))) (same_Some _ _ e)
         (to_store GoLive w is _ (live_stands site ground here call op n v s on (stored_not_begun op.rounds (next GoLive) w is)))
-    store_stands Live s p e on w is = absurd (no_some e)
-    store_stands (Enter index) s p e on w is = subst (λ (q : ℕ × ℕ). Behind (Enter index) (Some (want.Store q.0 q.1))) (some_same e)
+    store_stands Live s p e on w is = absurd (none-some _ e)
+    store_stands (Enter index) s p e on w is = subst (λ (q : ℕ × ℕ). Behind (Enter index) (Some (want.Store q.0 q.1))) (same_Some _ _ e)
         (to_store (Enter index) w is _ (enter_stands site ground here call op n v index s on (stored_not_begun op.rounds (next (Enter index)) w is)))
-    store_stands Entered s p e on w is = absurd (no_some e)
+    store_stands Entered s p e on w is = absurd (none-some _ e)
 
     stage_flush_stands : (stage : Stage) → Stood stage → (line : ℕ) → rounds_wanted op.rounds (next stage) ≡ Some (want.Flush line) → (w : Want) → IsFlush op.rounds (next stage) w → Behind stage (Some (want.Flush line))
     stage_flush_stands stage s line e w is =
@@ -176,13 +173,13 @@ module _ (site : Ground) (here : Site) (call : Call) (words : Words) (views : Li
     last_fence stage none w is u stands = subst (λ (o : DirectoryOp). StandsAt o u) (sym (behind_last_fence op stage w is none)) stands
 
     stage_fence_stands : (stage : Stage) → Stood stage → rounds_wanted op.rounds (next stage) ≡ Some want.Fence → (w : Want) → IsFence op.rounds (next stage) w → Behind stage (Some want.Fence)
-    stage_fence_stands (Fill place value) s e w is = on_fence (Fill place value) s none_some e w is
+    stage_fence_stands (Fill place value) s e w is = on_fence (Fill place value) s (λ none. none-some _ (sym none)) e w is
     stage_fence_stands Filled s e w is = last_fence Filled refl w is _ (filled_stands site ground here call op n v e is.leaves s)
-    stage_fence_stands Deepen s e w is = on_fence Deepen s none_some e w is
+    stage_fence_stands Deepen s e w is = on_fence Deepen s (λ none. none-some _ (sym none)) e w is
     stage_fence_stands Deepened s e w is = last_fence Deepened refl w is _ (deepened_stands site ground here call op n v e is.leaves s)
-    stage_fence_stands GoLive s e w is = on_fence GoLive s none_some e w is
+    stage_fence_stands GoLive s e w is = on_fence GoLive s (λ none. none-some _ (sym none)) e w is
     stage_fence_stands Live s e w is = last_fence Live refl w is _ (live_settled site ground here call op n v e is.leaves s)
-    stage_fence_stands (Enter index) s e w is = on_fence (Enter index) s none_some e w is
+    stage_fence_stands (Enter index) s e w is = on_fence (Enter index) s (λ none. none-some _ (sym none)) e w is
     stage_fence_stands Entered s e w is = last_fence Entered refl w is _ (entered_settled site ground here call op n v e is.leaves s)
 
     stage_stands : (stage : Stage) → Stood stage → rounds_wanted op.rounds (next stage) ≢ None → Behind stage (rounds_wanted op.rounds (next stage))

@@ -1,5 +1,6 @@
 -- A store to no bucket leaves all records, so owners tell what becomes of a table.
 use Rattle.std.proofs.Common.{◌≡◌, ℕ, ◌+◌, ◌<◌, ◌≤◌, inl, inr, Option, None, Some, refl, sym, ap, subst, ◌∙◌, arith}
+use Rattle.std.proofs.lemmas.Option.{same_Some}
 use Rattle.image_layout.specs.Bucket.{record_slots}
 use Rattle.trace.specs.Events.{Words, with_word}
 use Rattle.trace.proofs.Replaced.{replaced_other}
@@ -89,12 +90,9 @@ module _ (shape : Shape) (word : Words) (i x : ℕ) (apart : IsNoBucketWord shap
     spared : (h : ℕ) → (InOneSide (frame_of shape word) s h → ⊥) → owner_of shape other h ≡ owner_of shape word h
     spared h outside = owner_spared shape.depth is_shape.depth (frame_of shape word) (frame_of shape other) sound s n hands h outside
 
-    same_some : {a b : ℕ} → Some a ≡ Some b → a ≡ b
-    same_some e = cc
-
     -- in the 1-side it is n that owns now
     is_side : (q h : ℕ) → InOneSide (frame_of shape word) s h → owner_of shape other h ≡ Some q → q ≡ n
-    is_side q h inside own = same_some (sym own ∙ (owned h inside).1)
+    is_side q h inside own = same_Some _ _ (sym own ∙ (owned h inside).1)
 
     -- a record of the side is one of s, of the same value
     of_whole : (b r k : ℕ) → InOneSide (frame_of shape word) s (key_hash shape k) → Hit shape word n b r k → Holds shape word s k (value_in word (bucket_at shape n b) r)

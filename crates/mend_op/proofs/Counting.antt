@@ -2,6 +2,7 @@
 use Rattle.std.proofs.Common.{◌≡◌, ℕ, suc, ◌+◌, ◌-◌, ◌*◌, ◌<◌, ◌≤◌, Bool, true, false, Option, None, Some, length, inl, inr, refl, sym, ◌∙◌, subst, arith}
 use Rattle.std.specs.Prelude.{if◌then◌else◌, nat_lt}
 use Rattle.std.proofs.lemmas.Bool.{ltb-true}
+use Rattle.std.proofs.lemmas.Option.{none-some}
 use Rattle.op_core.specs.declared.want.Want.{Want}
 use Rattle.op_core.specs.declared.want.Ans.{Ans}
 use Rattle.op_core.specs.declared.want.Ans.TheVariants.{Passed, Value}
@@ -12,7 +13,6 @@ use Rattle.rounds.specs.Steps.{rounds_stores, rounds_wanted, event_wanted, round
 use Rattle.rounds.specs.Steps as rounds
 use Rattle.rounds.specs.Events.{IsStore, IsRoundEvent}
 use Rattle.rounds.specs.Left.{rounds_left}
-use Rattle.rounds.proofs.Events.{no_some}
 use Rattle.rounds.proofs.Wanted.{asked}
 use Rattle.rounds.proofs.Falling.{step_most, fewer_stores, few_is, few_below, few_most, rounds_fall}
 use Rattle.mend_op.specs.declared.stage.Stage.{Stage}
@@ -93,7 +93,7 @@ module _ (op : MendOp) (stage : Stage) (n : ℕ) (rounds : Rounds) (few : length
 
   other_fewer : rounds_stores rounds (due op stage n) ≡ false → Fewer false
   other_fewer none =
-      let falls = rounds_fall.others rounds (due op stage n) (most stage - n) (λ e. no_some (sym e ∙ is)) none in
+      let falls = rounds_fall.others rounds (due op stage n) (most stage - n) (λ e. none-some _ (sym e ∙ is)) none in
       let left = rounding_left op stage n after (rounds_wanted after (due op stage n)) in
       omega (arith, left, falls)
 

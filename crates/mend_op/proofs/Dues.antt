@@ -2,10 +2,10 @@
 use Rattle.std.proofs.Common.{◌≡◌, ℕ, ◌<◌, ◌≤◌, Bool, true, false, Option, None, Some, refl, sym, ap}
 use Rattle.std.specs.Prelude.{if◌then◌else◌, slice_index, nat_lt}
 use Rattle.std.proofs.lemmas.Bool.{ltb-true, ltb-false}
+use Rattle.std.proofs.lemmas.Option.{none-some, same_Some}
 use Rattle.op_core.specs.declared.want.Ans.{Ans}
 use Rattle.op_core.specs.declared.want.Ans.TheVariants.{Passed}
 use Rattle.op_core.specs.Answers.{IsAnswer}
-use Rattle.rounds.proofs.Events.{no_some, some_same}
 use Rattle.rounds.proofs.Wanted.{store_passed}
 use Rattle.mend_op.specs.declared.stage.Stage.{Stage}
 use Rattle.mend_op.specs.declared.op.MendOp.{MendOp}
@@ -31,15 +31,15 @@ module _ (op : MendOp) (stage : Stage) (n : ℕ) where
 
   due_by : (t : Bool) → nat_lt n (most stage) ≡ t → (i x : ℕ) → due_at t ≡ Some (i, x) → IsDue i x
   due_by true is i x same =
-      let pair : ◌≡◌ {A = ℕ × ℕ} (word, value) (i, x) = some_same same in
+      let pair : ◌≡◌ {A = ℕ × ℕ} (word, value) (i, x) = same_Some _ _ same in
       record { low = ltb-true n (most stage) is; word_is = sym (ap (λ (p : ℕ × ℕ). p.0) pair); value_is = sym (ap (λ (p : ℕ × ℕ). p.1) pair) }
-  due_by false is i x same = absurd (no_some same)
+  due_by false is i x same = absurd (none-some _ same)
 
   pub due_is : (i x : ℕ) → due op stage n ≡ Some (i, x) → IsDue i x
   due_is i x same = due_by (nat_lt n (most stage)) refl i x same
 
   none_by : (t : Bool) → nat_lt n (most stage) ≡ t → due_at t ≡ None → most stage ≤ n
-  none_by true is same = absurd (no_some (sym same))
+  none_by true is same = absurd (none-some _ (sym same))
   none_by false is same = ltb-false n (most stage) is
 
   pub due_none : due op stage n ≡ None → most stage ≤ n

@@ -1,7 +1,8 @@
 -- Behind an entry comes the next one, and behind the last one all is settled; and what an entry leads to, by the header of the segment that it names.
-use Rattle.std.proofs.Common.{◌≡◌, ℕ, suc, ◌+◌, ◌^◌, ◌<◌, ◌≤◌, ◌⊎◌, inl, inr, cond, Option, None, Some, List, refl, sym, ap, ◌∙◌, subst, arith}
+use Rattle.std.proofs.Common.{◌≡◌, ℕ, suc, ◌+◌, ◌^◌, ◌<◌, ◌≤◌, ◌⊎◌, inl, inr, cond, Option, None, List, refl, sym, ap, ◌∙◌, subst, arith}
 use Rattle.std.specs.Prelude.{⊤, min}
 use Rattle.std.proofs.lemmas.Bool.{cases_lt, lt-ltb, le-ltb, le-leb, lt-leb}
+use Rattle.std.proofs.lemmas.Option.{none-some}
 use Rattle.trace.specs.Events.{Words}
 use Rattle.op_core.specs.declared.want.Want.{Want}
 use Rattle.segment_head.specs.HeadWord.{depth_in, pattern_in, state_in}
@@ -36,9 +37,6 @@ use Rattle.redirect_op.specs.Steps.{shape_of, side_head, last_entry, go, settle_
 use Rattle.redirect_op.specs.Stands.{first_of, IsGuarding, IsOfSide, Names, LeadsBehind, LeadBelow, StandsInRounds, ComesNext, SuitsStep}
 use Rattle.redirect_op.proofs.Regions.{is_of_side, first_of as first_entry_of, last_of, first_last, begins_before, begins_behind}
 use Rattle.redirect_op.proofs.Holding.{GoesOn, rooted_stays, guarding_stays, behind_stays}
-
-none_some : {A : Type 0} {x : A} → Some x ≡ None → ⊥
-none_some e = cc
 
 -- a number is below another one, or it is the last before that
 pub below_or_last : (j index : ℕ) → j < index + 1 → (j < index) ⊎ (j ≡ index)
@@ -76,7 +74,7 @@ module _ (site : Ground) (ground : IsGround site) (here : Site) (call : Call) (o
   settles_next : last_entry op ≤ index → StandsAt (settle_by (rounds_wanted op.rounds None))
   settles_next over = elim (cases_wanted (rounds_wanted op.rounds None)) [
     | inl none ↦ subst (λ (o : Option Want). StandsAt (settle_by o)) (sym none) (all_lead over, rounds_settle.ends op.rounds None v in_rounds.round none)
-    | inr some ↦ subst (λ (o : Option Want). StandsAt (settle_by o)) (sym some.1) (record { below = all_lead over; in_rounds = in_rounds; open_round = λ none. none_some (sym some.1 ∙ none) })
+    | inr some ↦ subst (λ (o : Option Want). StandsAt (settle_by o)) (sym some.1) (record { below = all_lead over; in_rounds = in_rounds; open_round = λ none. none-some _ (sym (sym some.1 ∙ none)) })
   ]
 
   pub onward : SuitsStep site here call (behind op index) (behind op index).step v

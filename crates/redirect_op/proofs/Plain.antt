@@ -1,6 +1,7 @@
 -- What it asks for and puts, what it plans and replies, and how it ends.
 use Rattle.std.proofs.Common.{◌≡◌, ◌≢◌, ℕ, ◌+◌, ◌*◌, ◌^◌, ◌<◌, ◌≤◌, inl, inr, true, false, cond, None, Some, List, [], refl, sym, ap, ◌∙◌, subst, arith}
 use Rattle.std.proofs.lemmas.Bool.{cases_lt, lt-ltb, le-ltb}
+use Rattle.std.proofs.lemmas.Option.{none-some, same_Some}
 use Rattle.op_core.specs.declared.want.Want.TheVariants as want
 use Rattle.image_layout.specs.Places.{Shape, root_word, first_segment, words_of, segment_words}
 use Rattle.image_layout.specs.Volatile.{directory_guard, all_words_of}
@@ -23,7 +24,7 @@ use Rattle.part.specs.Part.{LeavesKnown}
 use Rattle.part.specs.Asks.{IsWithin, PutsWord}
 use Rattle.repair_op.proofs.Handing.{same_more}
 use Rattle.rounds.specs.Steps.{rounds_wanted}
-use Rattle.rounds.proofs.Events.{no_some, some_same, events_end}
+use Rattle.rounds.proofs.Events.{events_end}
 use Rattle.rounds.proofs.Wanted.{by_wanted, event_none}
 use Rattle.rounds.proofs.Silent.{IsStill, round_still, round_power}
 use Rattle.repair_op.specs.Guarded.{KeepsRedirected}
@@ -83,10 +84,10 @@ module _ (site : Ground) (ground : IsGround site) (here : Site) (call : Call) (o
   within_at (Entry index) s = load_within _ (entry_low site ground here call op v index s)
   within_at (Head index slot) s = load_within _ (head_near slot s.0.below.rooted.guarding.here_is.shape)
   within_at (Store index) s = by_wanted op.rounds (Some (store_to op index)) (IsWithin shape) done_within
-      (λ p e. store_within p.0 p.1 (subst (λ (q : ℕ × ℕ). q.0 < all_words_of shape) (some_same e) (let low = entry_low site ground here call op v index s.0 in omega (arith, low))))
+      (λ p e. store_within p.0 p.1 (subst (λ (q : ℕ × ℕ). q.0 < all_words_of shape) (same_Some _ _ e) (let low = entry_low site ground here call op v index s.0 in omega (arith, low))))
       (λ line has. flush_within line (s.0.in_rounds.lines line has))
       fence_within
-  within_at Settle s = by_wanted op.rounds None (IsWithin shape) done_within (λ p e. absurd (no_some e)) (λ line has. flush_within line (s.in_rounds.lines line has)) fence_within
+  within_at Settle s = by_wanted op.rounds None (IsWithin shape) done_within (λ p e. absurd (none-some _ e)) (λ line has. flush_within line (s.in_rounds.lines line has)) fence_within
   within_at Fence s = fence_within
   within_at GiveDirectory s = subst (λ (t : Shape). IsWithin shape (want.Store (directory_guard t) 0)) (sym s.guarding.here_is.shape) (record { word = omega arith; line = λ l e. absurd (cc) })
   within_at (Give end) s = store_within _ 0 (guard_low site op.guarded s.0.shape)
@@ -121,9 +122,9 @@ module _ (site : Ground) (here : Site) (call : Call) (op : RedirectOp) (v : View
   puts_at (Entry index) s = load_puts _
   puts_at (Head index slot) s = load_puts _
   puts_at (Store index) s = by_wanted op.rounds (Some (store_to op index)) PutsWord done_puts
-      (λ p e. store_puts p.0 p.1 (subst (λ (q : ℕ × ℕ). q.1 < 2 ^ 64) (some_same e) (subst (λ x. x < 2 ^ 64) (sym (ap slot_or_zero s.0.below.rooted.guarding.side_is)) s.0.below.rooted.guarding.small)))
+      (λ p e. store_puts p.0 p.1 (subst (λ (q : ℕ × ℕ). q.1 < 2 ^ 64) (same_Some _ _ e) (subst (λ x. x < 2 ^ 64) (sym (ap slot_or_zero s.0.below.rooted.guarding.side_is)) s.0.below.rooted.guarding.small)))
       (λ line has. flush_puts line) fence_puts
-  puts_at Settle s = by_wanted op.rounds None PutsWord done_puts (λ p e. absurd (no_some e)) (λ line has. flush_puts line) fence_puts
+  puts_at Settle s = by_wanted op.rounds None PutsWord done_puts (λ p e. absurd (none-some _ e)) (λ line has. flush_puts line) fence_puts
   puts_at Fence s = fence_puts
   puts_at GiveDirectory s = store_puts _ 0 (omega arith)
   puts_at (Give end) s = store_puts _ 0 (omega arith)
@@ -171,7 +172,7 @@ module _ (site : Ground) (here : Site) (call : Call) (op : RedirectOp) (v : View
   ended_at (Store index) s done = absurd (some_next (event_none op.rounds (Some (store_to op index)) s.0.in_rounds.round.few done))
     where
       some_next : rounds_wanted op.rounds (Some (store_to op index)) ≡ None → ⊥
-      some_next none = no_some (sym (events_end op.rounds (Some (store_to op index)) none).1)
+      some_next none = none-some _ (sym (events_end op.rounds (Some (store_to op index)) none).1)
   ended_at Settle s done = absurd (s.open_round (event_none op.rounds None s.in_rounds.round.few done))
   ended_at Fence s done = absurd (let no : want.Fence ≡ want.Done = done in cc)
   ended_at GiveDirectory s done = absurd (let no : want.Store (directory_guard (shape_of op)) 0 ≡ want.Done = done in cc)

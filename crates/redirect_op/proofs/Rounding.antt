@@ -1,6 +1,7 @@
 -- An entry is stored in rounds, and all that was stored is settled by the last fence.
 use Rattle.std.proofs.Common.{◌≡◌, ◌≢◌, ℕ, ◌+◌, ◌*◌, ◌^◌, ◌<◌, ◌≤◌, inl, inr, true, false, Option, None, Some, [], refl, sym, ap, ◌∙◌, subst, arith}
 use Rattle.std.specs.Prelude.{⊤}
+use Rattle.std.proofs.lemmas.Option.{none-some, same_Some}
 use Rattle.op_core.specs.declared.want.Want.{Want}
 use Rattle.op_core.specs.declared.want.Want.TheVariants as want
 use Rattle.segment_head.specs.HeadWord.{depth_in, pattern_in}
@@ -23,7 +24,7 @@ use Rattle.rounds.specs.declared.rounds.Rounds.{Rounds}
 use Rattle.rounds.specs.Steps.{rounds_stores, rounds_wanted, want_or_done, rounds_taken}
 use Rattle.rounds.specs.Events.{IsFlush, IsFence}
 use Rattle.rounds.specs.Stands.{kind_of, rounds_kind, RoundStands, IsSettled}
-use Rattle.rounds.proofs.Events.{no_some, some_same, store_wanted}
+use Rattle.rounds.proofs.Events.{store_wanted}
 use Rattle.rounds.proofs.Lines.{lines_are_stored}
 use Rattle.rounds.proofs.Wanted.{by_event, flushed_wants}
 use Rattle.rounds.proofs.Settling.{fence_dirty, round_behind, begun_settled}
@@ -108,7 +109,7 @@ module _ (site : Ground) (ground : IsGround site) (here : Site) (call : Call) (o
 
     lines_behind : (line : ℕ) → Has line (rounds_taken op.rounds next).round → 8 * line + 8 ≤ words_of shape
     lines_behind = (lines_are_stored (λ line. 8 * line + 8 ≤ words_of shape)).keeps op.rounds next c.in_rounds.lines
-        (λ word value e. line_within shape word (subst (λ (p : ℕ × ℕ). p.0 < words_of shape) (some_same e) entry_low))
+        (λ word value e. line_within shape word (subst (λ (p : ℕ × ℕ). p.0 < words_of shape) (same_Some _ _ e) entry_low))
 
     -- it is not loose before
     entry_firm : (y : ℕ) → IsLoose v (entry, y) → ⊥
@@ -118,7 +119,7 @@ module _ (site : Ground) (ground : IsGround site) (here : Site) (call : Call) (o
         other i j same low = omega (arith, same, low)
 
     pub store_may : LeadsPast site here g op.root index v → (p : ℕ × ℕ) → next ≡ Some p → MayAt site (sets p.0 p.1) v
-    store_may past p e = subst (λ (q : ℕ × ℕ). MayAt site (sets q.0 q.1) v) (some_same e)
+    store_may past p e = subst (λ (q : ℕ × ℕ). MayAt site (sets q.0 q.1) v) (same_Some _ _ e)
         (subst (λ i. MayAt site (sets i (side_of op)) v) (sym entry_here) (subst (λ x. MayAt site (sets entry x) v) (sym side_here)
         (enter_may site ground here g op.root v rooted (λ q loose. (let e = c.below.loose q loose in (e.0, e.2, e.3))) index c.of_side entry_firm past)))
 
@@ -219,7 +220,7 @@ module _ (site : Ground) (ground : IsGround site) (here : Site) (call : Call) (o
 
       pub store_stands : rounds_wanted op.rounds next ≢ None → Behind (rounds_wanted op.rounds next)
       store_stands some = by_event op.rounds next Behind
-          (λ p e on d is. subst (λ (q : ℕ × ℕ). Behind (Some (want.Store q.0 q.1))) (some_same e) (entered_stands n on (store_wanted op.rounds w (side_of op) on)))
+          (λ p e on d is. subst (λ (q : ℕ × ℕ). Behind (Some (want.Store q.0 q.1))) (same_Some _ _ e) (entered_stands n on (store_wanted op.rounds w (side_of op) on)))
           (λ line e has d is. still_next (flushed n line) (keeps_flushed n line) (flushed_loose n line) (round_behind shape op.rounds next n v c.in_rounds.round [] (want.Flush line) e) is.stores)
           (λ e d is. still_next (fenced n) (keeps_fenced n) (fenced_loose n) (round_behind shape op.rounds next n v c.in_rounds.round [] want.Fence e) is.stores)
           some
@@ -238,7 +239,7 @@ module _ (site : Ground) (ground : IsGround site) (here : Site) (call : Call) (o
   -- ---- all is settled
   module _ (s : AreToSettle site here g op.root op.rounds v) where
     settle_lines : (line : ℕ) → Has line (rounds_taken op.rounds None).round → 8 * line + 8 ≤ words_of shape
-    settle_lines = (lines_are_stored (λ line. 8 * line + 8 ≤ words_of shape)).keeps op.rounds None s.in_rounds.lines (λ word value e. absurd (no_some e))
+    settle_lines = (lines_are_stored (λ line. 8 * line + 8 ≤ words_of shape)).keeps op.rounds None s.in_rounds.lines (λ word value e. absurd (none-some _ e))
 
     pub last_may : v.dirty ≡ [] → MayAt site (settles (facts_of g)) v
     last_may clean = settle_may site ground here g op.root v s.below.rooted (λ q loose. (let e = s.below.loose q loose in (e.0, e.2, e.3))) s.below.behind clean
@@ -257,7 +258,7 @@ module _ (site : Ground) (ground : IsGround site) (here : Site) (call : Call) (o
           subst (λ (o : Option Want). SuitsStep site here call (go later (settled_to o)) (settled_to o) (flushed n line)) (sym wants) (record {
             below = below_stays site here g op.root op.rounds (rounds_taken op.rounds None) v (flushed n line) (keeps_flushed n line) (2 ^ op.root) (flushed_loose n line) s.below;
             in_rounds = record { round = round_behind shape op.rounds None n v s.in_rounds.round (facts_of g) (want.Flush line) e; lines = settle_lines };
-            open_round = λ none. no_some (sym none ∙ wants);
+            open_round = λ none. none-some _ (sym none ∙ wants);
           })
 
       fence_settles : rounds_wanted op.rounds None ≡ Some want.Fence → (d : Want) → IsFence op.rounds None d → Settled (Some want.Fence)
@@ -267,14 +268,14 @@ module _ (site : Ground) (ground : IsGround site) (here : Site) (call : Call) (o
           (told_settled n s.below.rooted.guarding (begun_settled (rounds_taken op.rounds None) (told n) is.leaves round))
 
       pub settle_stands : Settled (rounds_wanted op.rounds None)
-      settle_stands = by_event op.rounds None Settled (λ p e on d is. absurd (no_some e)) (λ line e has d is. flush_settles line e d is) (λ e d is. fence_settles e d is) s.open_round
+      settle_stands = by_event op.rounds None Settled (λ p e on d is. absurd (none-some _ e)) (λ line e has d is. flush_settles line e d is) (λ e d is. fence_settles e d is) s.open_round
 
       pub settle_wants : want_or_done (rounds_wanted op.rounds None) ≡ wanted_of shape (rounds_kind op.rounds None (facts_of g))
       settle_wants = by_event op.rounds None (λ o. want_or_done o ≡ wanted_of shape (kind_of (facts_of g) o)) (λ p e on d is. refl) (λ line e has d is. refl) (λ e d is. refl) s.open_round
 
       pub settle_takes : MayTake site (rounds_kind op.rounds None (facts_of g)) v
       settle_takes = by_event op.rounds None (λ o. MayTake site (kind_of (facts_of g) o) v)
-          (λ p e on d is. absurd (no_some e))
+          (λ p e on d is. absurd (none-some _ e))
           (λ line e has d is. (tt, tt))
           (λ e d is. last_may (fence_dirty op.rounds None d v s.in_rounds.round is))
           s.open_round

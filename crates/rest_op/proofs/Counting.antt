@@ -2,6 +2,7 @@
 use Rattle.std.proofs.Common.{◌≡◌, ◌≢◌, ℕ, suc, ◌+◌, ◌-◌, ◌*◌, ◌<◌, ◌≤◌, Bool, true, false, Option, None, Some, length, inl, inr, refl, sym, ap, ◌∙◌, subst, arith}
 use Rattle.std.specs.Prelude.{if◌then◌else◌, nat_lt}
 use Rattle.std.proofs.lemmas.Bool.{cases_lt, ltb-true}
+use Rattle.std.proofs.lemmas.Option.{none-some}
 use Rattle.op_core.specs.declared.want.Want.{Want}
 use Rattle.op_core.specs.declared.want.Want.TheVariants as wants
 use Rattle.op_core.specs.declared.want.Ans.{Ans}
@@ -14,7 +15,6 @@ use Rattle.rounds.specs.Steps.{rounds_stores, rounds_wanted, event_wanted, round
 use Rattle.rounds.specs.Events.{IsStore, IsRoundEvent}
 use Rattle.rounds.specs.Waiting.{rounds_waiting}
 use Rattle.rounds.specs.Left.{rounds_left}
-use Rattle.rounds.proofs.Events.{no_some}
 use Rattle.rounds.proofs.Wanted.{IsAsked, asked}
 use Rattle.rounds.proofs.Falling.{step_most, fewer_stores, few_is, few_below, few_most, rounds_fall}
 use Rattle.rounds.proofs.Waiting.{most_wait, none_waits, event_ends, event_flushes, event_keeps}
@@ -55,7 +55,7 @@ module _ (op : RestOp) (b : ℕ) (rounds : Rounds) (few : length rounds.round �
       omega (arith, less, falls)
 
   other_fewer : rounds_stores rounds (due op b) ≡ false → rounds_left after (buckets - b) < rounds_left rounds (buckets - b)
-  other_fewer none = rounds_fall.others rounds (due op b) (buckets - b) (λ e. no_some (sym e ∙ is)) none
+  other_fewer none = rounds_fall.others rounds (due op b) (buckets - b) (λ e. none-some _ (sym e ∙ is)) none
 
   fewer : IsRoundEvent rounds (due op b) want → rounds_left after (buckets - next_clear op (rounds_stores rounds (due op b)) b) < rounds_left rounds (buckets - b)
   fewer event = elim event [

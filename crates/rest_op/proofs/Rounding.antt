@@ -2,6 +2,7 @@
 use Rattle.std.proofs.Common.{◌≡◌, ◌≢◌, ℕ, ◌+◌, ◌^◌, ◌<◌, ◌≤◌, Bool, true, false, Option, None, Some, List, [], inl, inr, refl, sym, ap, ◌∙◌, subst, arith}
 use Rattle.std.specs.Prelude.{◌==◌, if◌then◌else◌, slice_index, nat_lt}
 use Rattle.std.proofs.lemmas.Bool.{cases_eq, ltb-true, ltb-false, eq-eqb, ne_eqb}
+use Rattle.std.proofs.lemmas.Option.{none-some, same_Some}
 use Rattle.trace.specs.Events.{line_of}
 use Rattle.op_core.specs.declared.want.Want.{Want}
 use Rattle.op_core.specs.declared.want.Want.TheVariants as wants
@@ -24,7 +25,7 @@ use Rattle.rounds.specs.declared.rounds.Rounds.{Rounds}
 use Rattle.rounds.specs.Steps.{rounds_stores, rounds_wanted, rounds_taken}
 use Rattle.rounds.specs.Events.{IsStore, IsFlush, IsFence, IsRoundEvent}
 use Rattle.rounds.specs.Stands.{kind_of, rounds_kind, RoundStands}
-use Rattle.rounds.proofs.Events.{no_some, some_same, event_cases, events_end}
+use Rattle.rounds.proofs.Events.{event_cases, events_end}
 use Rattle.rounds.proofs.Lines.{lines_are_stored}
 use Rattle.rounds.proofs.Wanted.{event_of, event_answer}
 use Rattle.rounds.proofs.Settling.{rounds_settle}
@@ -52,15 +53,15 @@ module _ (op : RestOp) (b : ℕ) where
   due_by : (t : Bool) → nat_lt b buckets ≡ t → (word value : ℕ) → due_at t ≡ Some (word, value)
       → (b < buckets) × (word ≡ lock_of op.whole b + 1) × (value ≡ slice_index op.cleared b)
   due_by true is word value same =
-      let pair : ◌≡◌ {A = ℕ × ℕ} (lock_of op.whole b + 1, slice_index op.cleared b) (word, value) = some_same same in
+      let pair : ◌≡◌ {A = ℕ × ℕ} (lock_of op.whole b + 1, slice_index op.cleared b) (word, value) = same_Some _ _ same in
       (ltb-true b buckets is, sym (ap (λ (p : ℕ × ℕ). p.0) pair), sym (ap (λ (p : ℕ × ℕ). p.1) pair))
-  due_by false is word value same = absurd (no_some same)
+  due_by false is word value same = absurd (none-some _ same)
 
   pub due_is : (word value : ℕ) → due op b ≡ Some (word, value) → (b < buckets) × (word ≡ lock_of op.whole b + 1) × (value ≡ slice_index op.cleared b)
   due_is word value same = due_by (nat_lt b buckets) refl word value same
 
   none_by : (t : Bool) → nat_lt b buckets ≡ t → due_at t ≡ None → buckets ≤ b
-  none_by true is same = absurd (no_some (sym same))
+  none_by true is same = absurd (none-some _ (sym same))
   none_by false is same = ltb-false b buckets is
 
   pub due_none : due op b ≡ None → buckets ≤ b
@@ -90,7 +91,7 @@ module _ (site : Ground) (op : RestOp) (l : IsLocated site op.whole.site op.whol
   }
 
   suits_by : (b : ℕ) (rounds : Rounds) (v : View) → IsClearing site op b rounds v → (want : Option Want) → rounds_wanted rounds (due op b) ≡ want → SuitsStep site op (clearing_by op want b rounds) v
-  suits_by b rounds v c (Some want) is = (c, λ none. no_some (sym none ∙ is))
+  suits_by b rounds v c (Some want) is = (c, λ none. none-some _ (sym none ∙ is))
   suits_by b rounds v c None is =
       let over = events_end rounds (due op b) is in
       (split_end b v (at_end b c.near (due_none op b over.1)) c.split, rounds_settle.ends rounds (due op b) v c.stands is)

@@ -1,6 +1,6 @@
 -- Fewer events are left after each.
 use Rattle.std.proofs.Common.{◌≡◌, ◌≢◌, ℕ, suc, ◌+◌, ◌-◌, ◌*◌, ◌<◌, ◌≤◌, inl, inr, true, false, cond, Option, None, List, [], ◌∷◌, ◌++◌, length, sym, ap, ◌∙◌, arith, length-append}
-use Rattle.std.proofs.lemmas.Bool.{cases_Bool, cases_lt, lt-ltb, le-ltb}
+use Rattle.std.proofs.lemmas.Bool.{cases_Bool, cases_lt, lt-ltb, le-ltb, true≢false}
 use Rattle.op_core.specs.declared.want.Want.{Want}
 use Rattle.op_core.specs.declared.want.Want.TheVariants.{Store}
 use Rattle.trace.specs.Events.{line_of}
@@ -12,7 +12,7 @@ use Rattle.rounds.specs.Steps.{at_step, begun, flushed_to, rounds_stores, rounds
 use Rattle.rounds.specs.Events.{IsStore, IsFlush, IsFence}
 use Rattle.rounds.specs.Left.{round_left, left_at, rounds_left, few_left}
 use Rattle.rounds.specs.Laws.{RoundsFall}
-use Rattle.rounds.proofs.Events.{no_false, event_cases, some_store, cases_wanted}
+use Rattle.rounds.proofs.Events.{event_cases, some_store, cases_wanted}
 
 -- ---- what a round has left
 module _ (lines : List ℕ) where
@@ -88,7 +88,7 @@ stores_fall rounds next stores is =
     let want : Want = Store s.0 s.1 in
     elim (event_cases rounds next want s.2) [
       | inl store ↦ store_falls rounds next want stores store
-      | inr f ↦ elim f [ inl f ↦ absurd (no_false (sym is ∙ f.stores)) | inr f ↦ absurd (no_false (sym is ∙ f.stores)) ]
+      | inr f ↦ elim f [ inl f ↦ absurd (true≢false (sym is ∙ f.stores)) | inr f ↦ absurd (true≢false (sym is ∙ f.stores)) ]
     ]
 
 others_fall : (rounds : Rounds) (next : Option (ℕ × ℕ)) (stores : ℕ) → rounds_wanted rounds next ≢ None → rounds_stores rounds next ≡ false
@@ -96,7 +96,7 @@ others_fall : (rounds : Rounds) (next : Option (ℕ × ℕ)) (stores : ℕ) → 
 others_fall rounds next stores some other = elim (cases_wanted (rounds_wanted rounds next)) [
   | inl none ↦ absurd (some none)
   | inr want ↦ elim (event_cases rounds next want.0 want.1) [
-    | inl s ↦ absurd (no_false (sym s.stores ∙ other))
+    | inl s ↦ absurd (true≢false (sym s.stores ∙ other))
     | inr f ↦ elim f [ inl f ↦ flush_falls rounds next want.0 stores f | inr f ↦ fence_falls rounds next want.0 stores f ]
   ]
 ]

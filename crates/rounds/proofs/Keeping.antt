@@ -1,5 +1,6 @@
 -- What each event leaves of a view as it was, and that it may be taken.
 use Rattle.std.proofs.Common.{◌≡◌, ◌≢◌, ℕ, ◌⊎◌, inl, inr, true, false, Option, None, Some, List, ◌++◌, refl, sym, ◌∙◌, subst}
+use Rattle.std.proofs.lemmas.Bool.{true≢false}
 use Rattle.op_core.specs.declared.want.Want.{Want}
 use Rattle.op_core.specs.declared.want.Want.TheVariants.{Load, Store, Exchange, Flush, Fence, Draw, Power, Done}
 use Rattle.image_layout.specs.Places.{Shape}
@@ -14,7 +15,7 @@ use Rattle.rounds.specs.declared.rounds.Rounds.{Rounds}
 use Rattle.rounds.specs.Steps.{rounds_stores, rounds_wanted}
 use Rattle.rounds.specs.Stands.{kind_of, rounds_kind, IsButRound}
 use Rattle.rounds.specs.Laws.{RoundsKeep, RoundsMay}
-use Rattle.rounds.proofs.Events.{no_false, event_cases, store_wanted}
+use Rattle.rounds.proofs.Events.{event_cases, store_wanted}
 
 -- ---- by what is wanted
 module _ (shape : Shape) (facts : List Fact) (n : ℕ) (v : View) where
@@ -80,7 +81,7 @@ store_comes rounds next i x e = elim (event_cases rounds next (Store i x) e) [
     no_fence e = cc
 
 no_store : (rounds : Rounds) (next : Option (ℕ × ℕ)) → rounds_stores rounds next ≡ false → (i x : ℕ) → rounds_wanted rounds next ≡ Some (Store i x) → ⊥
-no_store rounds next other i x e = let comes = store_comes rounds next i x e in no_false (sym comes.1 ∙ other)
+no_store rounds next other i x e = let comes = store_comes rounds next i x e in true≢false (sym comes.1 ∙ other)
 
 -- ---- the words that are known behind a store
 module _ (shape : Shape) (facts : List Fact) (rounds : Rounds) (word value n : ℕ) (v : View) (stores : rounds_stores rounds (Some (word, value)) ≡ true) where

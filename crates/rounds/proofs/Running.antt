@@ -3,6 +3,7 @@ use Rattle.std.proofs.Common.{◌≡◌, ℕ, zero, suc, ◌+◌, ◌<◌, ◌�
 use Rattle.std.specs.Prelude.{nat_lt, slice_index}
 use Rattle.std.proofs.lemmas.Bool.{cases_Bool, cases_lt, lt-ltb, le-ltb}
 use Rattle.std.proofs.lemmas.List.{drop_more, drop_all}
+use Rattle.std.proofs.lemmas.Option.{none-some, same_Some}
 use Rattle.trace.specs.Events.{line_of}
 use Rattle.op_core.specs.declared.want.Want.{Want}
 use Rattle.op_core.specs.declared.want.Want.TheVariants.{Store, Flush, Fence}
@@ -17,7 +18,7 @@ use Rattle.rounds.specs.Events.{IsStore, IsFlush, IsFence}
 use Rattle.rounds.specs.Runs.{next_of, rest_by, Runs, deed_by, deeds_of, stored_by, stored_of, lines_of}
 use Rattle.rounds.specs.Left.{rounds_left}
 use Rattle.rounds.specs.Laws.{RoundsRun}
-use Rattle.rounds.proofs.Events.{no_some, some_same, event_cases, events_end, none_stored, cases_wanted}
+use Rattle.rounds.proofs.Events.{event_cases, events_end, none_stored, cases_wanted}
 use Rattle.rounds.proofs.Falling.{rounds_fall}
 
 -- ---- the deeds that are left
@@ -109,7 +110,7 @@ module _ (r : Rounds) (stores : List (ℕ × ℕ)) (want : Want) where
 -- the store of the first of them
 module _ (r : Rounds) (store : ℕ × ℕ) (stores : List (ℕ × ℕ)) (want : Want) (s : IsStore r (Some store) want) where
   is_first : (s.word, s.value) ≡ store
-  is_first = sym (some_same s.comes)
+  is_first = sym (same_Some _ _ s.comes)
 
   first_wanted : want ≡ Store store.0 store.1
   first_wanted = s.wants ∙ ap (λ (p : ℕ × ℕ). Store p.0 p.1) is_first
@@ -139,7 +140,7 @@ module _ (r : Rounds) (want : Want) where
     where
       by_store : (stores : List (ℕ × ℕ)) → IsStore r (next_of stores) want
           → deeds_left r (lines_of stores) ≡ deed_by want (deeds_left (rounds_taken r (next_of stores)) (lines_of (rest_by (rounds_stores r (next_of stores)) stores)))
-      by_store [] s = absurd (no_some s.comes)
+      by_store [] s = absurd (none-some _ s.comes)
       by_store (store ∷ stores) s = first_step r store stores want s
 
   stored_step : (stores : List (ℕ × ℕ)) → rounds_wanted r (next_of stores) ≡ Some want → stored_by want (rest_by (rounds_stores r (next_of stores)) stores) ≡ stores
@@ -152,7 +153,7 @@ module _ (r : Rounds) (want : Want) where
   ]
     where
       by_store : (stores : List (ℕ × ℕ)) → IsStore r (next_of stores) want → stored_by want (rest_by (rounds_stores r (next_of stores)) stores) ≡ stores
-      by_store [] s = absurd (no_some s.comes)
+      by_store [] s = absurd (none-some _ s.comes)
       by_store (store ∷ stores) s = first_stored r store stores want s
 
   -- fewer events are left
@@ -161,7 +162,7 @@ module _ (r : Rounds) (want : Want) where
   left_step stores e = elim (cases_Bool (rounds_stores r (next_of stores))) [
     | inl on ↦ by_store stores on
     | inr off ↦ subst (λ b. rounds_left (rounds_taken r (next_of stores)) (length (rest_by b stores)) < rounds_left r (length stores)) (sym off)
-        (rounds_fall.others r (next_of stores) (length stores) (λ none. no_some (sym none ∙ e)) off)
+        (rounds_fall.others r (next_of stores) (length stores) (λ none. none-some _ (sym none ∙ e)) off)
   ]
     where
       by_store : (stores : List (ℕ × ℕ)) → rounds_stores r (next_of stores) ≡ true
@@ -173,13 +174,13 @@ module _ (r : Rounds) (want : Want) where
 -- ---- all events
 run_deeds : (wants : List Want) (r : Rounds) (stores : List (ℕ × ℕ)) → Runs r stores wants → deeds_of wants ≡ deeds_left r (lines_of stores)
 run_deeds [] r [] runs = ap (λ (r : Rounds). deeds_left r []) (sym (events_end r None runs).0)
-run_deeds [] r (store ∷ stores) runs = absurd (no_some (sym (events_end r (Some store) runs).1))
+run_deeds [] r (store ∷ stores) runs = absurd (none-some _ (sym (events_end r (Some store) runs).1))
 run_deeds (want ∷ wants) r stores runs =
     ap (deed_by want) (run_deeds wants (rounds_taken r (next_of stores)) (rest_by (rounds_stores r (next_of stores)) stores) runs.1) ∙ sym (deeds_step r want stores runs.0)
 
 run_stored : (wants : List Want) (r : Rounds) (stores : List (ℕ × ℕ)) → Runs r stores wants → stored_of wants ≡ stores
 run_stored [] r [] runs = refl
-run_stored [] r (store ∷ stores) runs = absurd (no_some (sym (events_end r (Some store) runs).1))
+run_stored [] r (store ∷ stores) runs = absurd (none-some _ (sym (events_end r (Some store) runs).1))
 run_stored (want ∷ wants) r stores runs =
     ap (stored_by want) (run_stored wants (rounds_taken r (next_of stores)) (rest_by (rounds_stores r (next_of stores)) stores) runs.1) ∙ stored_step r want stores runs.0
 

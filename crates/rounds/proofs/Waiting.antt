@@ -1,7 +1,7 @@
 -- One line more waits behind each flush, none before a store, and none behind a fence.
 use Rattle.std.proofs.Common.{◌≡◌, ◌≢◌, ℕ, ◌+◌, ◌<◌, ◌≤◌, inl, inr, true, cond, Option, None, Some, List, length, refl, sym, ap, ◌∙◌, arith}
 use Rattle.std.specs.Prelude.{slice_index}
-use Rattle.std.proofs.lemmas.Bool.{cases_lt, lt-ltb, le-ltb}
+use Rattle.std.proofs.lemmas.Bool.{cases_lt, lt-ltb, le-ltb, true≢false}
 use Rattle.op_core.specs.declared.want.Want.{Want}
 use Rattle.op_core.specs.declared.want.Want.TheVariants.{Store, Flush, Fence, Done}
 use Rattle.whole_segment.specs.Rounds.{most_lines}
@@ -12,7 +12,7 @@ use Rattle.rounds.specs.Steps.{at_step, flushed_to, rounds_stores, rounds_wanted
 use Rattle.rounds.specs.Events.{IsStore, IsFlush, IsFence}
 use Rattle.rounds.specs.Waiting.{round_waiting, rounds_waiting}
 use Rattle.rounds.specs.Laws.{RoundsWait}
-use Rattle.rounds.proofs.Events.{no_false, event_cases, events_end, cases_wanted, some_store}
+use Rattle.rounds.proofs.Events.{event_cases, events_end, cases_wanted, some_store}
 use Rattle.rounds.proofs.Wanted.{event_is, event_of, event_none}
 
 -- ---- of a round
@@ -77,7 +77,7 @@ module _ (rounds : Rounds) (next : Option (ℕ × ℕ)) where
       let want : Want = Store s.0 s.1 in
       elim (event_cases rounds next want s.2) [
         | inl store ↦ store_waits rounds next want store
-        | inr f ↦ elim f [ inl f ↦ absurd (no_false (sym is ∙ f.stores)) | inr f ↦ absurd (no_false (sym is ∙ f.stores)) ]
+        | inr f ↦ elim f [ inl f ↦ absurd (true≢false (sym is ∙ f.stores)) | inr f ↦ absurd (true≢false (sym is ∙ f.stores)) ]
       ]
 
   flushes_wait : (line : ℕ) → length rounds.round ≤ most_lines → rounds_wanted rounds next ≡ Some (Flush line) → rounds_waiting (rounds_taken rounds next) ≡ rounds_waiting rounds + 1

@@ -2,6 +2,7 @@
 use Rattle.std.proofs.Common.{◌≡◌, ◌≢◌, ℕ, ◌+◌, ◌≤◌, Bool, true, false, cond, Option, None, Some, List, length, inl, inr, refl, sym, ap, ◌∙◌, subst}
 use Rattle.std.specs.Prelude.{nat_lt, slice_index}
 use Rattle.std.proofs.lemmas.Bool.{cases_lt, ltb-false, lt-ltb, le-ltb}
+use Rattle.std.proofs.lemmas.Option.{none-some}
 use Rattle.op_core.specs.declared.want.Want.{Want}
 use Rattle.op_core.specs.declared.want.Want.TheVariants.{Store, Flush, Fence, Done}
 use Rattle.op_core.specs.declared.want.Ans.{Ans}
@@ -14,7 +15,7 @@ use Rattle.rounds.specs.declared.rounds.RoundStep.TheVariants.{Flushing, Fencing
 use Rattle.rounds.specs.declared.rounds.Rounds.{Rounds}
 use Rattle.rounds.specs.Steps.{at_step, flushed_to, rounds_stores, rounds_wanted, want_or_done, event_wanted}
 use Rattle.rounds.specs.Events.{IsStore, IsFlush, IsFence, IsRoundEvent}
-use Rattle.rounds.proofs.Events.{no_some, event_cases, cases_wanted}
+use Rattle.rounds.proofs.Events.{event_cases, cases_wanted}
 use Rattle.rounds.proofs.Lines.{has_at}
 
 -- ---- the events of the rounds, by cases
@@ -64,7 +65,7 @@ module _ (rounds : Rounds) (next : Option (ℕ × ℕ)) where
     pub by_wanted : ((p : ℕ × ℕ) → next ≡ Some p → P (Store p.0 p.1)) → ((line : ℕ) → Has line rounds.round → P (Flush line)) → P Fence → P (event_wanted rounds next)
     by_wanted store flush fence = few_wanted (elim (cases_wanted (rounds_wanted rounds next)) [
       | inl none ↦ subst (λ (o : Option Want). P (want_or_done o)) (sym none) done
-      | inr some ↦ by_event rounds next (λ o. P (want_or_done o)) (λ p e on w is. store p e) (λ line e has w is. flush line has) (λ e w is. fence) (λ none. no_some (sym none ∙ some.1))
+      | inr some ↦ by_event rounds next (λ o. P (want_or_done o)) (λ p e on w is. store p e) (λ line e has w is. flush line has) (λ e w is. fence) (λ none. none-some _ (sym none ∙ some.1))
     ])
 
   -- ---- where nothing is
@@ -136,4 +137,4 @@ module _ (rounds : Rounds) (next : Option (ℕ × ℕ)) where
   asked a answer = asked_by a (nat_lt most_lines (length rounds.round)) refl answer
 
   pub asked_some : (a : Ans) → IsAsked a → rounds_wanted rounds next ≢ None
-  asked_some a q none = no_some (sym none ∙ q.is)
+  asked_some a q none = none-some _ (sym none ∙ q.is)

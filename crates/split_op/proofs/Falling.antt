@@ -4,6 +4,7 @@ use Rattle.std.specs.Prelude.{nat_lt, ◌==◌, ◌&&◌, not, min, if◌then◌
 use Rattle.whole_segment.specs.Rounds.{most_lines}
 use Rattle.image_layout.specs.Places.{Shape, segment_words, buckets, most_segments}
 use Rattle.std.proofs.lemmas.Bool.{ltb-true}
+use Rattle.std.proofs.lemmas.Option.{none-some}
 use Rattle.op_core.specs.declared.want.Want.{Want}
 use Rattle.op_core.specs.declared.want.Want.TheVariants as want
 use Rattle.op_core.specs.declared.want.Ans.{Ans}
@@ -33,7 +34,7 @@ use Rattle.split_op.specs.declared.op.SplitOp.{SplitOp}
 use Rattle.split_op.specs.Batches.{first_of, after_empty, copied_from, due, after}
 use Rattle.split_op.specs.Steps.{finished, put_by, put_to, batch_after, stored, copying, last_slot, searched, given_to, wanted_in, next_in}
 use Rattle.split_op.specs.SplitPart.{stores_left, left_behind, put_left, events_in, left_at, left_of, IsWithinImage, waiting_at}
-use Rattle.split_op.proofs.Cases.{choose, none_some, came}
+use Rattle.split_op.proofs.Cases.{choose, came}
 use Rattle.split_op.proofs.sides.Seeking.{copied_behind}
 
 -- ---- a batch goes on
@@ -55,20 +56,20 @@ record IsLess (batch next : Batch) : Type 0 where
 module _ (c : Copied) (locks : List ℕ) where
   empty_less : (i : ℕ) (b : Bool) (w : ℕ × ℕ) (x : ℕ × ℕ) → nat_lt i segment_words ≡ b → (if b then Some x else None) ≡ Some w → IsLess (Empty i) (if b then Empty (after_empty locks i) else Empty i)
   empty_less i true w x is e = let low = ltb-true i segment_words is in let far = empty_behind locks i low in record { stores = omega (arith, low, far); behind = refl }
-  empty_less i false w x is e = absurd (none_some e)
+  empty_less i false w x is e = absurd (none-some _ e)
 
   copy_less : (i : ℕ) (b : Bool) (w : ℕ × ℕ) (x : ℕ × ℕ) → nat_lt i segment_words ≡ b → (if b then Some x else None) ≡ Some w → IsLess (Copy i) (if b then Copy (copied_from c.words (i + 1)) else Copy i)
   copy_less i true w x is e = let low = ltb-true i segment_words is in let far = copied_behind c.words (i + 1) (omega (arith, low)) in record { stores = omega (arith, low, far); behind = refl }
-  copy_less i false w x is e = absurd (none_some e)
+  copy_less i false w x is e = absurd (none-some _ e)
 
   less : (batch : Batch) (w : ℕ × ℕ) → due c locks batch ≡ Some w → IsLess batch (after c locks batch)
   less (Empty i) w e = empty_less i (nat_lt i segment_words) w _ refl e
   less (Link false) w e = record { stores = omega arith; behind = refl }
-  less (Link true) w e = absurd (none_some e)
+  less (Link true) w e = absurd (none-some _ e)
   less (Mark false) w e = record { stores = omega arith; behind = refl }
-  less (Mark true) w e = absurd (none_some e)
+  less (Mark true) w e = absurd (none-some _ e)
   less (New false) w e = record { stores = omega arith; behind = refl }
-  less (New true) w e = absurd (none_some e)
+  less (New true) w e = absurd (none-some _ e)
   less (Copy i) w e = copy_less i (nat_lt i segment_words) w _ refl e
 
 -- so many at the most

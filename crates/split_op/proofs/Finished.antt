@@ -2,6 +2,7 @@
 use Rattle.std.proofs.Common.{◌≡◌, ◌≢◌, ℕ, suc, ◌+◌, ◌-◌, ◌*◌, ◌/◌, ◌%◌, ◌<◌, ◌≤◌, ◌⊎◌, Bool, true, false, Option, None, Some, List, slice_index, inl, inr, refl, sym, ap, ◌∙◌, subst, arith}
 use Rattle.std.specs.Prelude.{nat_lt, nat_le, ◌==◌, ◌&&◌, not, if◌then◌else◌}
 use Rattle.std.proofs.lemmas.Bool.{cases_Bool, lt-ltb, le-ltb, ltb-true, ltb-false, le-leb, leb-true, eq-eqb, ne_eqb, eqb-true, and_parts}
+use Rattle.std.proofs.lemmas.Option.{none-some}
 use Rattle.op_core.specs.declared.want.Want.{Want}
 use Rattle.word_bits.specs.Bits.{bit}
 use Rattle.bucket_meta.specs.Bucket.{record_slots, allocated}
@@ -30,7 +31,6 @@ use Rattle.split_op.specs.Copied.{split_head, side_head, copied_words, KeepsCopi
 use Rattle.split_op.specs.Batches.{empty_value, is_copied, due}
 use Rattle.split_op.specs.Steps.{finished, put_by}
 use Rattle.split_op.specs.Fits.{side_at, IsEmptying, IsCopying, IsSplitting, SuitsStep}
-use Rattle.split_op.proofs.Cases.{none_some}
 use Rattle.split_op.proofs.Places.{in_slot_at, slot_apart, number_apart, bucket_number, lock_number, bucket_no_head, other_value, lock_value}
 
 -- ---- a word is in a slot
@@ -225,7 +225,7 @@ module _ (site : Ground) (here : Site) (call : Call) (c : Copied) (locks : List 
   -- ---- WHAT COMES THEN
   module _ (rounds : Rounds) (stands : RoundStands rounds u) (lines : (line : ℕ) → Has line rounds.round → 8 * line + 8 ≤ words_of site.shape) where
     past_by : {X : Type 0} (k : ℕ) (x : X) (b : Bool) → nat_lt k segment_words ≡ b → (if b then Some x else None) ≡ None → segment_words ≤ k
-    past_by k x true is none = absurd (none_some (sym none))
+    past_by k x true is none = absurd (none-some _ (sym none))
     past_by k x false is none = ltb-false k segment_words is
 
     pub finished_suits : (batch : Batch) → IsSplitting site here call c locks batch u → rounds_wanted rounds (due c locks batch) ≡ None → SuitsStep site here call c locks (finished batch) u
@@ -251,33 +251,33 @@ module _ (site : Ground) (here : Site) (call : Call) (c : Copied) (locks : List 
           };
           stands = rounds_settle.begins u e;
           lines = λ l has. absurd has;
-          asks = λ none. none_some (sym none);
+          asks = λ none. none-some _ (sym none);
         }
-    finished_suits (Link false) is none = absurd (none_some (sym (events_end rounds (due c locks (Link false)) none).1))
+    finished_suits (Link false) is none = absurd (none-some _ (sym (events_end rounds (due c locks (Link false)) none).1))
     finished_suits (Link true) is none =
         let e = rounds_settle.ends rounds None u stands none in
         record {
           splits = record { keeps = is.keeps; slot = is.slot; areas = is.areas; header = is.header; link = is.link; side_header = is.side_header; side_words = is.side_words; loose = λ p l. settled_firm u e p l; only = is.only };
           stands = rounds_settle.begins u e;
           lines = λ l has. absurd has;
-          asks = λ none. none_some (sym none);
+          asks = λ none. none-some _ (sym none);
         }
-    finished_suits (Mark false) is none = absurd (none_some (sym (events_end rounds (due c locks (Mark false)) none).1))
+    finished_suits (Mark false) is none = absurd (none-some _ (sym (events_end rounds (due c locks (Mark false)) none).1))
     finished_suits (Mark true) is none =
         let e = rounds_settle.ends rounds None u stands none in
         record {
           splits = record { keeps = is.keeps; slot = is.slot; areas = is.areas; header = is.header; link = is.link; side_header = is.side_header; side_words = is.side_words; loose = λ p l. settled_firm u e p l; only = is.only };
           stands = rounds_settle.begins u e;
           lines = λ l has. absurd has;
-          asks = λ none. none_some (sym none);
+          asks = λ none. none-some _ (sym none);
         }
-    finished_suits (New false) is none = absurd (none_some (sym (events_end rounds (due c locks (New false)) none).1))
+    finished_suits (New false) is none = absurd (none-some _ (sym (events_end rounds (due c locks (New false)) none).1))
     finished_suits (New true) is none = (is, rounds_settle.ends rounds None u stands none)
     finished_suits (Copy k) is none =
         all_copied k (past_by k _ (nat_lt k segment_words) refl (events_end rounds (due c locks (Copy k)) none).1) is (rounds_settle.ends rounds (due c locks (Copy k)) u stands none)
 
     by_suits : (batch : Batch) → IsSplitting site here call c locks batch u → (want : Option Want) → rounds_wanted rounds (due c locks batch) ≡ want → SuitsStep site here call c locks (put_by want batch rounds) u
-    by_suits batch is (Some w) e = record { splits = is; stands = stands; lines = lines; asks = λ none. none_some (sym none ∙ e) }
+    by_suits batch is (Some w) e = record { splits = is; stands = stands; lines = lines; asks = λ none. none-some _ (sym none ∙ e) }
     by_suits batch is None e = finished_suits batch is e
 
     pub to_suits : (batch : Batch) → IsSplitting site here call c locks batch u → SuitsStep site here call c locks (put_by (rounds_wanted rounds (due c locks batch)) batch rounds) u

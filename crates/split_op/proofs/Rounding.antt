@@ -2,6 +2,7 @@
 use Rattle.std.proofs.Common.{◌≡◌, ℕ, suc, ◌+◌, ◌-◌, ◌*◌, ◌/◌, ◌%◌, ◌^◌, ◌<◌, ◌≤◌, Bool, true, false, Option, None, Some, List, [], ◌∷◌, slice_index, inl, inr, refl, sym, ap, ◌∙◌, subst, arith}
 use Rattle.std.specs.Prelude.{nat_lt, not, if◌then◌else◌}
 use Rattle.std.proofs.lemmas.Bool.{ltb-true, eq-eqb}
+use Rattle.std.proofs.lemmas.Option.{none-some, same_Some}
 use Rattle.op_core.specs.declared.want.Want.{Want}
 use Rattle.op_core.specs.declared.want.Want.TheVariants as want
 use Rattle.op_core.specs.declared.want.Ans.TheVariants.{Passed}
@@ -35,18 +36,14 @@ use Rattle.split_op.specs.Copied.{split_head, side_head}
 use Rattle.split_op.specs.Batches.{slot_word, empty_value, after_empty, copied_from, due, after}
 use Rattle.split_op.specs.Steps.{put_to, batch_after, stored}
 use Rattle.split_op.specs.Fits.{put_kind, KeepsOn, side_at, areas_at, KnowsFreeHeader, KnowsLink, KnowsSideHeader, KnowsSideWords, IsEmptying, IsSplitting, SuitsStep}
-use Rattle.split_op.proofs.Cases.{none_some}
 use Rattle.split_op.proofs.Places.{slot_is}
 use Rattle.split_op.proofs.Stored.{HasStored, keeps_by, empty_more, copy_more, link_more, mark_more, new_more}
 use Rattle.split_op.proofs.Finished.{to_suits}
 use Rattle.split_op.proofs.Asking.{side_is, fresh_dead, may_empty, may_copy, may_link, may_mark, may_new}
 
-pub some_same : {A : Type 0} {x y : A} → Some x ≡ Some y → x ≡ y
-some_same e = cc
-
 pub due_if : {A : Type 0} (b : Bool) (y z : A) → (if b then Some y else None) ≡ Some z → (b ≡ true) × (y ≡ z)
-due_if true y z e = (refl, some_same e)
-due_if false y z e = absurd (none_some e)
+due_if true y z e = (refl, same_Some _ _ e)
+due_if false y z e = absurd (none-some _ e)
 
 module _ (site : Ground) (ground : IsGround site) (here : Site) (call : Call) (op : SplitOp) (v : View) where
   abbrev c : Copied
@@ -145,18 +142,18 @@ module _ (site : Ground) (ground : IsGround site) (here : Site) (call : Call) (o
         subst (λ (i : ℕ). 8 * line_of i + 8 ≤ words_of site.shape) (sym (slot_is c.whole.site.geometry site.shape is.keeps.is.located.shape n p low) ∙ e) (in_image n p low small)
 
     first_is : (q r : ℕ × ℕ) → Some q ≡ Some r → q.0 ≡ r.0
-    first_is q r e = ap (λ (z : ℕ × ℕ). z.0) (some_same e)
+    first_is q r e = ap (λ (z : ℕ × ℕ). z.0) (same_Some _ _ e)
 
     pub due_in_image : (t : Batch) (word value : ℕ) → due c locks t ≡ Some (word, value) → 8 * line_of word + 8 ≤ words_of site.shape
     due_in_image (Empty k) word value e =
         let o = due_if (nat_lt k segment_words) (slot_word c.whole.site.geometry c.side k, empty_value locks k) (word, value) e in
         word_in_image c.side k word is.slot.slot (ltb-true k segment_words o.0) (ap (λ (z : ℕ × ℕ). z.0) o.1)
     due_in_image (Link false) word value e = word_in_image c.whole.segment 2 word is.keeps.is.located.within (omega arith) (first_is (slot_word c.whole.site.geometry c.whole.segment 2, (c.side + 1) % 2 ^ 64) (word, value) e)
-    due_in_image (Link true) word value e = absurd (none_some e)
+    due_in_image (Link true) word value e = absurd (none-some _ e)
     due_in_image (Mark false) word value e = word_in_image c.whole.segment 1 word is.keeps.is.located.within (omega arith) (first_is (slot_word c.whole.site.geometry c.whole.segment 1, split_head c.whole) (word, value) e)
-    due_in_image (Mark true) word value e = absurd (none_some e)
+    due_in_image (Mark true) word value e = absurd (none-some _ e)
     due_in_image (New false) word value e = word_in_image c.side 1 word is.slot.slot (omega arith) (first_is (slot_word c.whole.site.geometry c.side 1, side_head c.whole) (word, value) e)
-    due_in_image (New true) word value e = absurd (none_some e)
+    due_in_image (New true) word value e = absurd (none-some _ e)
     due_in_image (Copy k) word value e =
         let o = due_if (nat_lt k segment_words) (slot_word c.whole.site.geometry c.side k, slice_index c.words (k - 32)) (word, value) e in
         word_in_image c.side k word is.slot.slot (ltb-true k segment_words o.0) (ap (λ (z : ℕ × ℕ). z.0) o.1)
@@ -328,23 +325,23 @@ module _ (site : Ground) (ground : IsGround site) (here : Site) (call : Call) (o
         let slot = is.slot.slot in
         let most = ground.shape.segments in
         let next_is : (c.side + 1) % 2 ^ 64 ≡ suc c.side = omega (arith, slot, most) in
-        let q = ap (λ (z : ℕ). (link_word site.shape c.whole.segment, z)) (sym next_is) ∙ at_slot is.keeps c.whole.segment 2 ((c.side + 1) % 2 ^ 64) is.keeps.is.located.within (i, x) (some_same is_due) in
+        let q = ap (λ (z : ℕ). (link_word site.shape c.whole.segment, z)) (sym next_is) ∙ at_slot is.keeps c.whole.segment 2 ((c.side + 1) % 2 ^ 64) is.keeps.is.located.within (i, x) (same_Some _ _ is_due) in
         set_fits (Link false) rounds is stands lines i x (Link true) e stores refl
         (subst (λ (z : ℕ × ℕ). MayAt site (sets z.0 z.1) v) q (may_link site ground here call c v locks is))
         (λ u st areas. link_more site here call c locks v u is (subst (λ (z : ℕ × ℕ). HasStored v u z.0 z.1) (sym q) st) areas)
-    store_by (Link true) is i x is_due e stores = absurd (none_some is_due)
+    store_by (Link true) is i x is_due e stores = absurd (none-some _ is_due)
     store_by (Mark false) is i x is_due e stores =
-        let q = at_slot is.keeps c.whole.segment 1 (split_head c.whole) is.keeps.is.located.within (i, x) (some_same is_due) in
+        let q = at_slot is.keeps c.whole.segment 1 (split_head c.whole) is.keeps.is.located.within (i, x) (same_Some _ _ is_due) in
         let at : header_word site.shape c.whole.segment ≡ i = ap (λ (z : ℕ × ℕ). z.0) q in
         subst (λ (j : ℕ). Fits (Mark false) rounds is stands lines (want.Store j x) (put_kind op (Mark false) (Some (want.Store j x)))) at
         (mark_fits (Mark false) rounds is stands lines x (sym (ap (λ (z : ℕ × ℕ). z.1) q)) (e ∙ ap (λ (j : ℕ). Some (want.Store j x)) (sym at)) stores refl is)
-    store_by (Mark true) is i x is_due e stores = absurd (none_some is_due)
+    store_by (Mark true) is i x is_due e stores = absurd (none-some _ is_due)
     store_by (New false) is i x is_due e stores =
-        let q = at_slot is.keeps c.side 1 (side_head c.whole) is.slot.slot (i, x) (some_same is_due) in
+        let q = at_slot is.keeps c.side 1 (side_head c.whole) is.slot.slot (i, x) (same_Some _ _ is_due) in
         let at : header_word site.shape c.side ≡ i = ap (λ (z : ℕ × ℕ). z.0) q in
         subst (λ (j : ℕ). Fits (New false) rounds is stands lines (want.Store j x) (put_kind op (New false) (Some (want.Store j x)))) at
         (new_fits (New false) rounds is stands lines x (sym (ap (λ (z : ℕ × ℕ). z.1) q)) (e ∙ ap (λ (j : ℕ). Some (want.Store j x)) (sym at)) stores refl is)
-    store_by (New true) is i x is_due e stores = absurd (none_some is_due)
+    store_by (New true) is i x is_due e stores = absurd (none-some _ is_due)
     store_by (Copy k) is i x is_due e stores =
         let o = due_if (nat_lt k segment_words) (slot_word c.whole.site.geometry c.side k, slice_index c.words (k - 32)) (i, x) is_due in
         let low = ltb-true k segment_words o.0 in

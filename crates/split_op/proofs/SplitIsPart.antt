@@ -5,6 +5,7 @@ use Rattle.enclose_op.proofs.Giving.{give_some, give_answer, give_puts, give_mak
 use Rattle.segment_head.proofs.Headers.{header_below}
 use Rattle.whole_segment.proofs.Zeros.{zeros_small}
 use Rattle.std.proofs.lemmas.List.{length-replicate}
+use Rattle.std.proofs.lemmas.Option.{none-some, same_Some}
 use Rattle.op_core.specs.declared.want.Want.{Want}
 use Rattle.op_core.specs.declared.want.Want.TheVariants as want
 use Rattle.op_core.specs.declared.want.Ans.{Ans}
@@ -58,10 +59,10 @@ use Rattle.split_op.specs.Batches.{slot_word, empty_value, due}
 use Rattle.split_op.specs.Steps.{go, last_slot, searched, finished, put_by, stored, given_to, wanted_in, next_in, wanted}
 use Rattle.split_op.specs.Fits.{head_kind, put_kind, look_word, look_kind, kind_at, outcome_of, outcome_at, is_copied_end, hands_on_at, IsPutting, SuitsStep}
 use Rattle.split_op.specs.SplitPart.{SplitStands, split_part, BeginsAsPart, BeginsUndecided, HandsOnCopied}
-use Rattle.split_op.proofs.Cases.{choose, none_some}
+use Rattle.split_op.proofs.Cases.{choose}
 use Rattle.split_op.proofs.Falling.{falls, most, waiting_most, flushes, keeps, ends_none}
 use Rattle.split_op.proofs.Places.{slot_is}
-use Rattle.split_op.proofs.Rounding.{Fits, event_fits, due_in_image, due_if, some_same}
+use Rattle.split_op.proofs.Rounding.{Fits, event_fits, due_in_image, due_if}
 use Rattle.split_op.proofs.Stepping.{take_suits, search_suits, searching_none, crowd, count_suits, return_suits, look_may, look_suits, release_suits, given_suits}
 
 -- ---- what is decided
@@ -164,7 +165,7 @@ module _ (site : Ground) (here : Site) (call : Call) (op : SplitOp) (is : IsOf s
   zero_puts i = record { stores = λ j x same. (let at : 0 ≡ x = cc in omega (arith, at)); exchanges = λ i a b e. absurd (cc) }
 
   second_is : (q r : ℕ × ℕ) → Some q ≡ Some r → q.1 ≡ r.1
-  second_is q r f = ap (λ (z : ℕ × ℕ). z.1) (some_same f)
+  second_is q r f = ap (λ (z : ℕ × ℕ). z.1) (same_Some _ _ f)
 
   half_fits : (x : ℕ) → x < 2 ^ 64 → x / 2 * 2 < 2 ^ 64
   half_fits x small = omega (arith, small)
@@ -176,15 +177,15 @@ module _ (site : Ground) (here : Site) (call : Call) (op : SplitOp) (is : IsOf s
       (choose (λ (z : ℕ). z < 2 ^ 64) (nat_lt k 32 || nat_lt 0 (k % 32)) 0 (slice_index op.locks (k / 32 - 1) / 2 * 2) (λ _. omega arith) (λ _. half_fits (slice_index op.locks (k / 32 - 1)) (s.splits.slot.row.small (k / 32 - 1))))
   value_fits (Link false) rounds s word value f =
       subst (λ (z : ℕ). z < 2 ^ 64) (second_is (slot_word e.site.geometry e.segment 2, (op.copied.side + 1) % 2 ^ 64) (word, value) f) (omega arith)
-  value_fits (Link true) rounds s word value f = absurd (none_some f)
+  value_fits (Link true) rounds s word value f = absurd (none-some _ f)
   value_fits (Mark false) rounds s word value f =
       subst (λ (z : ℕ). z < 2 ^ 64) (second_is (slot_word e.site.geometry e.segment 1, split_head e) (word, value) f)
       (let fits = s.splits.keeps.whole.head.head_fits in header_below (version_in e.head) splitting (depth_in e.head) (pattern_in e.head) (omega arith) (omega arith) (omega arith) (omega (arith, fits)))
-  value_fits (Mark true) rounds s word value f = absurd (none_some f)
+  value_fits (Mark true) rounds s word value f = absurd (none-some _ f)
   value_fits (New false) rounds s word value f =
       subst (λ (z : ℕ). z < 2 ^ 64) (second_is (slot_word e.site.geometry op.copied.side 1, side_head e) (word, value) f)
       (let version = is.version in header_below e.site.version fresh ((depth_in e.head + 1) % 2 ^ 8) ((2 * pattern_in e.head + 1) % 2 ^ 32) (omega (arith, version)) (omega arith) (omega arith) (omega arith))
-  value_fits (New true) rounds s word value f = absurd (none_some f)
+  value_fits (New true) rounds s word value f = absurd (none-some _ f)
   value_fits (Copy k) rounds s word value f =
       let o = due_if (nat_lt k segment_words) (slot_word e.site.geometry op.copied.side k, slice_index op.copied.words (k - 32)) (word, value) f in
       subst (λ (z : ℕ). z < 2 ^ 64) (ap (λ (z : ℕ × ℕ). z.1) o.1) (s.splits.keeps.words.small (k - 32))

@@ -3,6 +3,7 @@ use Rattle.std.proofs.Common.{◌≡◌, ◌≢◌, ℕ, zero, suc, ◌+◌, ◌
 use Rattle.std.specs.Prelude.{nat_lt, ◌==◌, not, slice_set, min, if◌then◌else◌}
 use Rattle.std.proofs.lemmas.Bool.{cases_lt, cases_eq, ltb-true, ltb-false, eqb-true, both_ways}
 use Rattle.std.proofs.lemmas.List.{get_or-set_same, get_or-set_other, length-set}
+use Rattle.std.proofs.lemmas.Option.{none-some}
 use Rattle.op_core.specs.declared.why.Why.TheVariants.{Busy}
 use Rattle.op_core.specs.declared.want.Ans.TheVariants.{Won, Lost}
 use Rattle.image_layout.specs.Places.{Shape, buckets, segment_words, most_segments}
@@ -48,7 +49,6 @@ use Rattle.split_op.specs.Copied.{KnowsOnlyOfBoth}
 use Rattle.split_op.specs.Batches.{is_copied, copied_from}
 use Rattle.split_op.specs.Steps.{last_slot, searched, looked, given_to, copying, next_in}
 use Rattle.split_op.specs.Fits.{look_word, look_kind, is_copied_end, CopiesFrom, IsLockRow, KnowsTaken, KeepsOn, IsSearching, HasSlot, side_at, look_areas, IsLooking, IsEmptying, SuitsStep}
-use Rattle.split_op.proofs.Cases.{none_some}
 use Rattle.split_op.proofs.Places.{slot_is, in_slot_at, all_slots}
 use Rattle.split_op.proofs.sides.Seeking.{found_at, copied_behind, none_before}
 use Rattle.split_op.proofs.Stored.{keeps_there, keeps_by}
@@ -355,7 +355,7 @@ module _ (site : Ground) (ground : IsGround site) (here : Site) (call : Call) (o
             };
             stands = rounds_settle.begins u settled_look;
             lines = λ l has. absurd has;
-            asks = λ none. none_some (sym none);
+            asks = λ none. none-some _ (sym none);
           }
 
   pub look_suits : (b n : ℕ) → n < 2 ^ 64 → IsLooking site here call c locks b v → SuitsOp (looked op b n) (view_by site.shape (look_kind op b) n v)

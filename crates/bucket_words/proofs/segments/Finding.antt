@@ -2,6 +2,7 @@
 use Rattle.std.proofs.Common.{◌≡◌, ℕ, zero, suc, ◌<◌, ◌≤◌, Option, None, Some, refl, ap, subst, sym, ◌∙◌, arith, inl, inr, ◌⊎◌}
 use Rattle.std.specs.Option.{option_or}
 use Rattle.std.proofs.lemmas.Bool.{cases_eq}
+use Rattle.std.proofs.lemmas.Option.{none-some, same_Some}
 use Rattle.trace.specs.Events.{Words}
 use Rattle.bucket_meta.specs.Bucket.{record_slots}
 use Rattle.image_layout.specs.Places.{Shape, bucket_at, buckets}
@@ -13,12 +14,6 @@ use Rattle.bucket_words.specs.Owners.{owner_of}
 use Rattle.bucket_words.specs.Hits.{Hit, HasNone, find_from, find_by, find}
 use Rattle.bucket_words.specs.Standing.{IsTable}
 use Rattle.bucket_words.proofs.segments.Places.{owner_within}
-
-pub some_same : {a b : ℕ} → Some a ≡ Some b → a ≡ b
-some_same e = cc
-
-pub some_none : {a : ℕ} → Some a ≡ None → ⊥
-some_none e = cc
 
 -- in one bucket
 module _ (word : Words) (at k : ℕ) where
@@ -99,13 +94,13 @@ module _ (shape : Shape) (word : Words) where
   pub hit_found : (s k v : ℕ) → owner_of shape word (key_hash shape k) ≡ Some s → find shape word k ≡ Some v
       → (b : ℕ) × (r : ℕ) × Hit shape word s b r k × (value_in word (bucket_at shape s b) r ≡ v)
   hit_found s k v own found = elim (found_from s k buckets (owner_within shape word (key_hash shape k) s own) (omega arith)) [
-    | inl f ↦ (f.0, f.1, f.2, some_same (sym f.3 ∙ sym (find_some k s own) ∙ found))
-    | inr n ↦ absurd (some_none (sym found ∙ find_some k s own ∙ n.1))
+    | inl f ↦ (f.0, f.1, f.2, same_Some _ _ (sym f.3 ∙ sym (find_some k s own) ∙ found))
+    | inr n ↦ absurd (none-some _ (sym (sym found ∙ find_some k s own ∙ n.1)))
   ]
 
   pub none_found : (s k : ℕ) → owner_of shape word (key_hash shape k) ≡ Some s → find shape word k ≡ None → HasNone shape word s k
   none_found s k own nothing b r hit = elim (found_from s k buckets (owner_within shape word (key_hash shape k) s own) (omega arith)) [
-    | inl f ↦ some_none (sym f.3 ∙ sym (find_some k s own) ∙ nothing)
+    | inl f ↦ none-some _ (sym (sym f.3 ∙ sym (find_some k s own) ∙ nothing))
     | inr n ↦ n.0 b r hit.bucket hit
   ]
 

@@ -1,6 +1,7 @@
 -- A table is what follows the two rules about records, and its pairs are what `find` gives.
 use Rattle.std.proofs.Common.{◌≡◌, ℕ, ◌^◌, ◌<◌, ◌≤◌, Option, None, Some, refl, ap, subst, sym, ◌∙◌, arith, inl, inr, ◌⊎◌}
 use Rattle.std.proofs.lemmas.Bool.{cases_lt}
+use Rattle.std.proofs.lemmas.Option.{none-some}
 use Rattle.bucket_meta.specs.Bucket.{record_slots}
 use Rattle.trace.specs.Events.{Words}
 use Rattle.image_layout.specs.Places.{Shape, IsShape, bucket_at, key_at}
@@ -15,7 +16,7 @@ use Rattle.bucket_words.specs.Buckets.{value_in}
 use Rattle.bucket_words.specs.Owners.{owner_of}
 use Rattle.bucket_words.specs.Hits.{Hit, find}
 use Rattle.bucket_words.specs.Standing.{IsTable, IsRight}
-use Rattle.bucket_words.proofs.segments.Finding.{some_none, find_is, find_empty, hit_found}
+use Rattle.bucket_words.proofs.segments.Finding.{find_is, find_empty, hit_found}
 
 -- of two places in a segment one is before the other, or they are one
 pub cases_order : (shape : Shape) (s b r c t : ℕ) → r < record_slots → t < record_slots
@@ -96,11 +97,11 @@ module _ (shape : Shape) (is : IsShape shape) (word : Words) (sound : HasSoundFr
           (sym (ap (λ z. owner_of shape word (key_hash shape z)) pair.key_is) ∙ record_owner pair.s pair.b pair.r pair.own) ∙ ap Some pair.value_is
 
       pub at_of_find : (a : Option ℕ) → find shape word k ≡ a → HasAt shape word k a
-      at_of_find None nothing = λ v pair. some_none (sym (find_pair v pair) ∙ nothing)
+      at_of_find None nothing = λ v pair. none-some _ (sym (sym (find_pair v pair) ∙ nothing))
       at_of_find (Some v) found = for_owner (owner_of shape word (key_hash shape k)) refl
         where
           for_owner : (o : Option ℕ) → owner_of shape word (key_hash shape k) ≡ o → HasPair shape word k v
-          for_owner None own = absurd (some_none (sym found ∙ find_empty shape word k own))
+          for_owner None own = absurd (none-some _ (sym (sym found ∙ find_empty shape word k own)))
           for_owner (Some s) own = let h = hit_found shape word s k v own found in pair_of s h.0 h.1 v h.2 own h.3
 
       pub find_of_at : (a : Option ℕ) → HasAt shape word k a → find shape word k ≡ a

@@ -2,6 +2,7 @@
 use Rattle.std.proofs.Common.{◌≡◌, ◌≢◌, ℕ, Bool, true, false, cond, None, Some, List, refl, sym, ◌∙◌, subst}
 use Rattle.std.specs.Prelude.{◌==◌}
 use Rattle.std.proofs.lemmas.Bool.{eqb-false}
+use Rattle.std.proofs.lemmas.Option.{none-some}
 use Rattle.trace.specs.Events.{Words}
 use Rattle.op_core.specs.declared.want.Want.TheVariants as want
 use Rattle.op_core.specs.declared.want.Ans.{Ans}
@@ -32,13 +33,10 @@ use Rattle.directory_op.proofs.Plain.{ends_off}
 use Rattle.directory_op.proofs.guard.Guarding.{root_within}
 use Rattle.directory_op.proofs.ends.Onward.{passed_goes, root_none}
 
-none_some : {A : Type 0} {x : A} → None ≡ Some x → ⊥
-none_some e = cc
-
 -- ---- what is decided is that the power is off
 told_at : (step : DirectoryStep) (outcome : Outcome) → outcome_at step ≡ Some outcome → off ≡ outcome
 told_at (Ended Off) outcome some = cc
-told_at step outcome some = absurd (none_some some)
+told_at step outcome some = absurd (none-some _ some)
 
 no_busy : (step : DirectoryStep) (word value : ℕ) → outcome_at step ≡ Some (again (Busy word value)) → ⊥
 no_busy step word value some = let no = told_at step (again (Busy word value)) some in cc
@@ -53,7 +51,7 @@ module _ (site : Ground) (here : Site) (call : Call) (words : Words) (views : Li
   Caused step later = (outcome : Outcome) → outcome_at later ≡ Some outcome → HasSplitCause site.shape words did call op.copied.whole.segment (wanted_in op step) outcome
 
   none_caused : (step later : DirectoryStep) → outcome_at later ≡ None → Caused step later
-  none_caused step later none outcome some = absurd (none_some (sym none ∙ some))
+  none_caused step later none outcome some = absurd (none-some _ (sym none ∙ some))
 
   guard_caused : (won : Bool) → Caused TakeGuard (taken_in op TakeGuard (cond won Won (Lost (found TakeGuard)))).step
   guard_caused true = none_caused TakeGuard LoadRoot refl
@@ -83,7 +81,7 @@ module _ (site : Ground) (here : Site) (call : Call) (words : Words) (views : Li
 stays_in : (op : DirectoryOp) (step : DirectoryStep) (a : Ans) (outcome : Outcome) → outcome_at op.step ≡ Some outcome → outcome_at step ≡ Some outcome
     → outcome_at (taken_in op step a).step ≡ Some outcome
 stays_in op (Ended Off) a outcome was some = was
-stays_in op step a outcome was some = absurd (none_some some)
+stays_in op step a outcome was some = absurd (none-some _ some)
 
 undecided_in : (step : DirectoryStep) → goes_on step ≡ true → outcome_at step ≡ None
 undecided_in (Ended Published) hands = refl

@@ -1,8 +1,9 @@
 -- Fewer events are left after each, but while the guard is waited for.
-use Rattle.std.proofs.Common.{◌≡◌, ◌≢◌, ℕ, suc, ◌+◌, ◌-◌, ◌*◌, ◌%◌, ◌^◌, ◌<◌, ◌≤◌, ◌⊎◌, inl, inr, Bool, true, false, cond, Option, None, Some, length, refl, sym, ap, subst, arith}
+use Rattle.std.proofs.Common.{◌≡◌, ◌≢◌, ℕ, suc, ◌+◌, ◌-◌, ◌*◌, ◌%◌, ◌^◌, ◌<◌, ◌≤◌, ◌⊎◌, inl, inr, Bool, true, false, cond, Option, None, length, refl, sym, ap, subst, arith}
 use Rattle.std.specs.Prelude.{◌==◌, min}
 use Rattle.std.proofs.Math.Pow.{pow_mono}
 use Rattle.std.proofs.lemmas.Bool.{cases_Bool, cases_lt, lt-ltb, le-ltb, le-leb, lt-leb}
+use Rattle.std.proofs.lemmas.Option.{none-some}
 use Rattle.op_core.specs.declared.want.Want.{Want}
 use Rattle.op_core.specs.declared.want.Ans.{Ans}
 use Rattle.op_core.specs.declared.want.Ans.TheVariants.{Value, Won, Lost, Passed}
@@ -26,9 +27,6 @@ use Rattle.directory_op.specs.Places.{entries_of, run_of, side_first, side_last}
 use Rattle.directory_op.specs.Steps.{shape_of, next_store, fill_on, stage_after, settled_to, settled_by, passed_to, passed, wanted_in, power_step, rooted, is_over, with_root, taken_in}
 use Rattle.directory_op.specs.Left.{most_entries, deepest_entries, after_filled, fill_left, stage_left, guarded_with, guarded_left, step_left, left_of, is_trying}
 use Rattle.directory_op.specs.DirectoryPart.{goes_on, directory_part}
-
-none_some : {A : Type 0} {x : A} → Some x ≡ None → ⊥
-none_some e = cc
 
 -- ---- numbers
 pub few_entries : (depth : ℕ) → entries_of depth ≤ most_entries
@@ -155,19 +153,19 @@ module _ (op : DirectoryOp) where
   -- a stage without a store that is settled leaves more than the next one has
   settled_falls : (stage : Stage) → next_store op stage ≡ None → rounds_taken op.rounds (next_store op stage) ≡ begun → rounds_wanted op.rounds (next_store op stage) ≢ None
       → rounds_stores op.rounds (next_store op stage) ≡ false → raw_left (after stage) (settled_to op stage) < stage_left op stage
-  settled_falls (Fill place value) none is some off = absurd (none_some none)
+  settled_falls (Fill place value) none is some off = absurd (none-some _ (sym none))
   settled_falls Filled none is some off =
       let law = rounds_fall.others op.rounds None 0 some off in
       let begins = ap (λ (r : Rounds). rounds_left r 1) is in omega (arith, law, begins)
-  settled_falls Deepen none is some off = absurd (none_some none)
+  settled_falls Deepen none is some off = absurd (none-some _ (sym none))
   settled_falls Deepened none is some off =
       let law = rounds_fall.others op.rounds None 0 some off in
       let begins = ap (λ (r : Rounds). rounds_left r 1) is in omega (arith, law, begins)
-  settled_falls GoLive none is some off = absurd (none_some none)
+  settled_falls GoLive none is some off = absurd (none-some _ (sym none))
   settled_falls Live none is some off =
       let law = rounds_fall.others op.rounds None 0 some off in
       let begins = ap (λ (r : Rounds). rounds_left r (suc (all - side_first op.root op.side_head))) is in omega (arith, law, begins)
-  settled_falls (Enter index) none is some off = absurd (none_some none)
+  settled_falls (Enter index) none is some off = absurd (none-some _ (sym none))
   settled_falls Entered none is some off = let law = rounds_fall.others op.rounds None 0 some off in omega (arith, law)
 
   others_fall : (stage : Stage) → rounds_wanted op.rounds (next_store op stage) ≢ None → rounds_stores op.rounds (next_store op stage) ≡ false

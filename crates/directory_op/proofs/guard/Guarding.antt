@@ -1,8 +1,9 @@
 -- Under the guard of the directory: what loads of the root and of entries tell, and what is left when the guard is given back.
-use Rattle.std.proofs.Common.{◌≡◌, ◌≢◌, ℕ, suc, ◌+◌, ◌-◌, ◌*◌, ◌/◌, ◌^◌, ◌<◌, ◌≤◌, inl, inr, Bool, true, false, cond, None, Some, List, [], ◌∷◌, refl, sym, ap, ◌∙◌, subst, arith}
+use Rattle.std.proofs.Common.{◌≡◌, ◌≢◌, ℕ, suc, ◌+◌, ◌-◌, ◌*◌, ◌/◌, ◌^◌, ◌<◌, ◌≤◌, inl, inr, Bool, true, false, cond, List, [], ◌∷◌, refl, sym, ap, ◌∙◌, subst, arith}
 use Rattle.std.specs.Prelude.{⊤, ◌==◌, ◌&&◌, ◌||◌, not, nat_le, nat_lt}
 use Rattle.std.proofs.lemmas.Bool.{cases_lt, le-ltb, lt-leb, eqb-true, eqb-false, ne_eqb}
 use Rattle.std.proofs.lemmas.Nat.{pow_pos}
+use Rattle.std.proofs.lemmas.Option.{none-some}
 use Rattle.trace.specs.Events.{Words}
 use Rattle.segment_head.specs.HeadWord.{state_in, depth_in, splitting}
 use Rattle.image_layout.specs.Places.{Shape, block, root_word, entry_at, first_segment, bucket_at}
@@ -37,9 +38,6 @@ use Rattle.directory_op.proofs.Words.{doubled, entry_is, slot_behind}
 use Rattle.directory_op.proofs.Keeping.{Keeps, locks_stay, kept_in_slot, new_stays}
 use Rattle.directory_op.proofs.Sides.{split_state, split_depth, head_kept}
 use Rattle.directory_op.proofs.stages.Staying.{filling_stays}
-
-some_none : {A : Type 0} {x : A} → Some x ≡ None → ⊥
-some_none e = cc
 
 -- ---- a word is loaded
 module _ (shape : Shape) (i n : ℕ) (v : View) where
@@ -129,7 +127,7 @@ module _ (site : Ground) (here : Site) (call : Call) (words : Words) (views : Li
         new = new_stays site here call op.copied (λ i. ⊤) v rooted_view (keeps_read shape root_word (words root_word) v) refl (λ i far. tt) s.new;
         root = record { deeper = deeper (words root_word) d root_deep other; deep = root_low; known = inl refl };
       };
-      open_round = λ e none. some_none none;
+      open_round = λ e none. none-some _ (sym none);
     }
       where
         deeper : (a b : ℕ) → b ≤ a → a ≢ b → suc b ≤ a
@@ -192,7 +190,7 @@ module _ (site : Ground) (here : Site) (call : Call) (words : Words) (views : Li
         small = small;
         known = inl (ap (λ i. (i, n)) (sym old_is));
       };
-      open_round = λ e none. some_none none;
+      open_round = λ e none. none-some _ (sym none);
     }
 
   -- ---- the guard is given back

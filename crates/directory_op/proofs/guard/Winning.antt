@@ -1,7 +1,7 @@
 -- The guard is won where it is free: as long as its word is 0 whenever it is waited for, each event leaves fewer events.
 use Rattle.std.proofs.Common.{◌≡◌, ◌+◌, ◌<◌, ◌≤◌, inl, inr, Bool, true, false, cond, List, refl, sym, ap, ◌∙◌, subst, arith}
 use Rattle.std.specs.Prelude.{◌==◌}
-use Rattle.std.proofs.lemmas.Bool.{cases_Bool}
+use Rattle.std.proofs.lemmas.Bool.{cases_Bool, false≢true}
 use Rattle.trace.specs.Events.{Words}
 use Rattle.op_core.specs.declared.want.Want.TheVariants as want
 use Rattle.op_core.specs.declared.want.Ans.{Ans}
@@ -29,9 +29,6 @@ use Rattle.directory_op.specs.DirectoryPart.{WinsWhereFree}
 use Rattle.directory_op.proofs.ends.Falling.{ends_in_time}
 use Rattle.directory_op.proofs.ends.Onward.{passed_goes, root_alone}
 
-no_true : false ≡ true → ⊥
-no_true e = cc
-
 -- ---- who waits may have one event more
 module _ (op : DirectoryOp) where
   left_below : (step : DirectoryStep) → step_left op step ≤ alone_in op step
@@ -48,8 +45,8 @@ module _ (op : DirectoryOp) where
   alone_same LoadHead a i other = absurd i
   alone_same LoadSideHead (Value n) i other = refl
   alone_same LoadSideHead a i other = absurd i
-  alone_same TakeGuard a i other = absurd (no_true (sym other))
-  alone_same AskPower a i other = absurd (no_true (sym other))
+  alone_same TakeGuard a i other = absurd (false≢true (sym other))
+  alone_same AskPower a i other = absurd (false≢true (sym other))
   alone_same LoadRoot (Value n) i other = root_alone op n
   alone_same LoadRoot a i other = absurd i
   alone_same (LoadEntry place) (Value n) i other = refl
@@ -67,7 +64,7 @@ module _ (op : DirectoryOp) where
       let below = left_below op.step in
       elim (ends_in_time.falls op a i) [
         | inl fewer ↦ omega (arith, same, below, fewer)
-        | inr waits ↦ absurd (no_true (sym other ∙ waits.0))
+        | inr waits ↦ absurd (false≢true (sym other ∙ waits.0))
       ]
 
   -- ---- and who waits tries it next, and wins
@@ -82,7 +79,7 @@ module _ (op : DirectoryOp) where
         let none : words (directory_guard (shape_of op)) ≡ 0 = ap (λ (g : Shape). words (directory_guard g)) s.keeps.is.located.shape ∙ free in
         subst (λ n. left_alone (taken_in op TakeGuard (answer_to (wanted_in op TakeGuard) n)) < alone_in op TakeGuard) (sym none) (omega arith)
     trying_falls words free AskPower s trying = power_falls (words (word_of site.shape want.Power) == 0)
-    trying_falls words free step s trying = absurd (no_true trying)
+    trying_falls words free step s trying = absurd (false≢true trying)
 
     -- who waits has it not
     copied_others : KeepsCopied site here call op.copied v → Has Directory v.areas → ⊥
@@ -100,7 +97,7 @@ module _ (op : DirectoryOp) where
     trying_others : (step : DirectoryStep) → SuitsStep site here op call step v → is_trying step ≡ true → Has Directory v.areas → ⊥
     trying_others TakeGuard s trying has = copied_others s.keeps has
     trying_others AskPower s trying has = copied_others s.keeps has
-    trying_others step s trying has = no_true trying
+    trying_others step s trying has = false≢true trying
 
 pub wins_where_free : WinsWhereFree
 wins_where_free = record {

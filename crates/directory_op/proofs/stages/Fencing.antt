@@ -2,6 +2,7 @@
 use Rattle.std.proofs.Common.{◌≡◌, ℕ, suc, ◌+◌, ◌*◌, ◌^◌, ◌<◌, ◌≤◌, inl, inr, None, Some, [], ◌∷◌, cond, refl, sym, ap, ◌∙◌, subst, arith}
 use Rattle.std.specs.Prelude.{⊤, not}
 use Rattle.std.proofs.lemmas.Bool.{eq-eqb}
+use Rattle.std.proofs.lemmas.Option.{none-some}
 use Rattle.op_core.specs.declared.want.Want.TheVariants.{Fence}
 use Rattle.segment_head.specs.HeadWord.{depth_in, pattern_in}
 use Rattle.image_layout.specs.Places.{Shape, root_word, first_segment, most_depth}
@@ -32,9 +33,6 @@ use Rattle.directory_op.proofs.Keeping.{Keeps, kept_in_slot, split_stays, live_s
 use Rattle.directory_op.proofs.Sides.{split_depth, split_pattern, side_deep, side_region, is_of_side, first_of, near_of, first_last}
 use Rattle.directory_op.proofs.stages.Staying.{filling_stays, rooted_stays}
 use Rattle.directory_op.proofs.stages.Rounding.{storing_behind, keeps_fenced, round_fenced}
-
-some_none : {A : Type 0} {x : A} → Some x ≡ None → ⊥
-some_none e = cc
 
 -- a side is given up
 areas_without : (n s : ℕ) → all_but (is_side_at n) (Directory ∷ Side n ∷ Whole s ∷ Segment s ∷ []) ≡ Directory ∷ Whole s ∷ Segment s ∷ []
@@ -67,7 +65,7 @@ module _ (site : Ground) (ground : IsGround site) (here : Site) (call : Call) (o
           let round = round_fenced site ground here call op v Filled s n is in
           record {
             storing = storing_behind site ground here call op v Filled s fenced Deepen (Store Deepen) round (settled_firm fenced (begun_settled rounds fenced over round));
-            open_round = λ e none. some_none none;
+            open_round = λ e none. none-some _ (sym none);
             at = filling_stays site here call op rounds (Store Deepen) v fenced (keeps_fenced site ground here call op v Filled s n is) refl (λ fact has. has) (2 ^ op.root) s.at;
           }
 
@@ -81,7 +79,7 @@ module _ (site : Ground) (ground : IsGround site) (here : Site) (call : Call) (o
           let round = round_fenced site ground here call op v Deepened s n is in
           record {
             storing = storing_behind site ground here call op v Deepened s rooted GoLive (Store GoLive) round (settled_firm rooted (begun_settled rounds rooted over round));
-            open_round = λ e none. some_none none;
+            open_round = λ e none. none-some _ (sym none);
             at = rooted_stays site here call op rounds (Store GoLive) v rooted (keeps_fenced site ground here call op v Deepened s n is) refl (λ fact has. has) s.at;
           }
 
@@ -134,7 +132,7 @@ module _ (site : Ground) (ground : IsGround site) (here : Site) (call : Call) (o
           let upto = first_last site ground here call op.copied split.is split.whole op.root s.at.root.deeper not_deep in
           record {
             storing = storing_behind site ground here call op v Live s live (Enter first) (Store (Enter first)) round_live (λ p loose. absurd (settled_firm live (begun_settled rounds live over round_live) p loose));
-            open_round = λ e none. some_none none;
+            open_round = λ e none. none-some _ (sym none);
             at = record {
               entering = record {
                 live = record {

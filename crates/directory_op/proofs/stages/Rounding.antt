@@ -1,6 +1,7 @@
 -- Behind a flush a stage stays, and behind a fence it stays or the next one begins.
 use Rattle.std.proofs.Common.{◌≡◌, ◌≢◌, ℕ, ◌+◌, ◌-◌, ◌*◌, ◌/◌, ◌^◌, ◌<◌, ◌≤◌, inl, inr, Bool, true, false, cond, length, Option, None, Some, List, [], refl, sym, ap, ◌∙◌, subst, arith}
 use Rattle.std.specs.Prelude.{⊤, nat_lt}
+use Rattle.std.proofs.lemmas.Option.{none-some, same_Some}
 use Rattle.op_core.specs.declared.want.Want.{Want}
 use Rattle.op_core.specs.declared.want.Want.TheVariants.{Flush, Fence}
 use Rattle.trace.specs.Events.{line_of}
@@ -25,7 +26,6 @@ use Rattle.rounds.specs.Events.{IsStore, IsFlush}
 use Rattle.trace.proofs.Listed.{has_of_contains}
 use Rattle.whole_segment.specs.Rounds.{touched}
 use Rattle.whole_segment.proofs.OneRound.{touched_has}
-use Rattle.rounds.proofs.Events.{no_some, some_same}
 use Rattle.rounds.proofs.Lines.{lines_are_stored}
 use Rattle.rounds.proofs.Settling.{round_behind}
 use Rattle.directory_op.specs.declared.op.Stage.{Stage}
@@ -96,16 +96,16 @@ module _ (site : Ground) (ground : IsGround site) (here : Site) (call : Call) (o
   shape_here v Entered s = s.live.split.is.located.shape
 
   pub next_near : (v : View) (stage : Stage) → SuitsStage site here op call stage v → (word value : ℕ) → next_store op stage ≡ Some (word, value) → word < words_of site.shape
-  next_near v (Fill place x) s word value e = subst (λ (p : ℕ × ℕ). p.0 < words_of site.shape) (some_same e) (entry_near (shape_here v (Fill place x) s) op.root place s.filling.doubles.deep s.low)
-  next_near v Filled s word value e = absurd (no_some e)
-  next_near v Deepen s word value e = subst (λ (p : ℕ × ℕ). p.0 < words_of site.shape) (some_same e) (root_near (shape_here v Deepen s))
-  next_near v Deepened s word value e = absurd (no_some e)
-  next_near v GoLive s word value e = subst (λ (p : ℕ × ℕ). p.0 < words_of site.shape) (some_same e)
+  next_near v (Fill place x) s word value e = subst (λ (p : ℕ × ℕ). p.0 < words_of site.shape) (same_Some _ _ e) (entry_near (shape_here v (Fill place x) s) op.root place s.filling.doubles.deep s.low)
+  next_near v Filled s word value e = absurd (none-some _ e)
+  next_near v Deepen s word value e = subst (λ (p : ℕ × ℕ). p.0 < words_of site.shape) (same_Some _ _ e) (root_near (shape_here v Deepen s))
+  next_near v Deepened s word value e = absurd (none-some _ e)
+  next_near v GoLive s word value e = subst (λ (p : ℕ × ℕ). p.0 < words_of site.shape) (same_Some _ _ e)
       (subst (λ i. i < words_of site.shape) (sym (head_is op.copied.whole.site.geometry site.shape op.copied.side (shape_here v GoLive s) s.new.split.copy.slot))
       (slot_within site.shape op.copied.side (header_word site.shape op.copied.side) s.new.split.copy.slot (head_in_slot site.shape op.copied.side)))
-  next_near v Live s word value e = absurd (no_some e)
-  next_near v (Enter index) s word value e = subst (λ (p : ℕ × ℕ). p.0 < words_of site.shape) (some_same e) (entry_near (shape_here v (Enter index) s) op.root index s.entering.root.deep s.low)
-  next_near v Entered s word value e = absurd (no_some e)
+  next_near v Live s word value e = absurd (none-some _ e)
+  next_near v (Enter index) s word value e = subst (λ (p : ℕ × ℕ). p.0 < words_of site.shape) (same_Some _ _ e) (entry_near (shape_here v (Enter index) s) op.root index s.entering.root.deep s.low)
+  next_near v Entered s word value e = absurd (none-some _ e)
 
   module _ (v : View) (stage : Stage) (s : SuitsStore site here op call stage v) where
     abbrev next : Option (ℕ × ℕ)

@@ -1,8 +1,9 @@
 -- Behind a store: the next entry is filled or the last one was, the root is deeper, the side is live, the next entry names it or the last
 -- one does.
-use Rattle.std.proofs.Common.{◌≡◌, ◌≢◌, ℕ, ◌+◌, ◌-◌, ◌*◌, ◌/◌, ◌%◌, ◌^◌, ◌<◌, ◌≤◌, ◌⊎◌, inl, inr, Bool, true, false, cond, None, Some, [], refl, sym, ap, ◌∙◌, subst, arith}
+use Rattle.std.proofs.Common.{◌≡◌, ◌≢◌, ℕ, ◌+◌, ◌-◌, ◌*◌, ◌/◌, ◌%◌, ◌^◌, ◌<◌, ◌≤◌, ◌⊎◌, inl, inr, Bool, true, false, cond, [], refl, sym, ap, ◌∙◌, subst, arith}
 use Rattle.std.specs.Prelude.{◌==◌, not}
-use Rattle.std.proofs.lemmas.Bool.{cases_lt, lt-ltb, le-ltb, eqb-true, eq-eqb}
+use Rattle.std.proofs.lemmas.Bool.{cases_lt, lt-ltb, le-ltb, eqb-true, eq-eqb, true≢false}
+use Rattle.std.proofs.lemmas.Option.{none-some}
 use Rattle.op_core.specs.declared.want.Want.TheVariants.{Store as StoreWord}
 use Rattle.segment_head.specs.HeadWord.{depth_in}
 use Rattle.image_layout.specs.Places.{Shape, root_word, entry_at, first_segment, most_depth}
@@ -49,9 +50,6 @@ no_claim_of s (Deep f d p) e = refl
 no_claim_of s (Begins t h) e = refl
 no_claim_of s (Used t) e = refl
 no_claim_of s (Taken t) e = refl
-
-some_none : {A : Type 0} {x : A} → Some x ≡ None → ⊥
-some_none e = cc
 
 -- a place is below another one, or it is the last before that
 below_or_last : (j place : ℕ) → j < place + 1 → (j < place) ⊎ (j ≡ place)
@@ -170,7 +168,7 @@ module _ (site : Ground) (ground : IsGround site) (here : Site) (call : Call) (o
             small = s.at.small;
             known = subst (λ k. Has (entry_at d k, value) filled.known) (same_half place even) ((keeps_stored w value).known (entry_at d (place / 2)) value (old_entry place s.at.low) s.at.known);
           };
-          open_round = λ e none. some_none none;
+          open_round = λ e none. none-some _ (sym none);
         }
       where
         same_half : (place : ℕ) → place % 2 ≡ 0 → place / 2 ≡ (place + 1) / 2
@@ -180,16 +178,13 @@ module _ (site : Ground) (ground : IsGround site) (here : Site) (call : Call) (o
         let more : place + 1 < 2 ^ op.root = omega (arith, less, whole) in
         record {
           filling = filling_more (LoadEntry (place + 1));
-          even = next_even place (λ is. differ (sym (eq-eqb (place % 2) 0 is) ∙ e));
+          even = next_even place (λ is. true≢false (sym (eq-eqb (place % 2) 0 is) ∙ e));
           low = more;
           storing = storing_behind site ground here call op v fill s filled Filled (LoadEntry (place + 1)) round loose;
         }
       where
         next_even : (place : ℕ) → (place % 2 ≡ 0 → ⊥) → (place + 1) % 2 ≡ 0
         next_even place odd = elim (cases_lt 0 (place % 2)) [ inl one ↦ omega (arith, one) | inr none ↦ absurd (odd (omega (arith, none))) ]
-
-        differ : true ≡ false → ⊥
-        differ e = cc
 
     last_fill : entries_of op.root - 1 ≤ place → SuitsStep site here (later (Store Filled)) call (Store Filled) filled
     last_fill last =
@@ -334,7 +329,7 @@ module _ (site : Ground) (ground : IsGround site) (here : Site) (call : Call) (o
             of_side = is_of_side site ground here call op.copied split.is split.whole op.root s.at.entering.root.deeper not_deep (index + 1) (omega (arith, from)) upto;
             small = s.at.small;
           };
-          open_round = λ e none. some_none none;
+          open_round = λ e none. none-some _ (sym none);
         }
 
     last_enter : last ≤ index → SuitsStep site here (next (Store Entered)) call (Store Entered) entered

@@ -2,6 +2,7 @@
 use Rattle.std.proofs.Common.{◌≡◌, ◌≢◌, ℕ, ◌*◌, ◌^◌, ◌<◌, ◌≤◌, Bool, true, false, Option, None, Some, List, slice_index, refl, sym, ap, ◌∙◌, subst, arith}
 use Rattle.std.specs.Prelude.{◌==◌, not, if◌then◌else◌, nat_lt}
 use Rattle.std.proofs.lemmas.Bool.{eq-eqb, ltb-true, ltb-false}
+use Rattle.std.proofs.lemmas.Option.{none-some}
 use Rattle.op_core.specs.declared.want.Want.{Want}
 use Rattle.segment_head.specs.HeadWord.{state_in, depth_in, normal}
 use Rattle.image_layout.specs.Places.{Shape, homes}
@@ -14,7 +15,7 @@ use Rattle.world.specs.areas.Repairing.{side_depth_in, side_pattern_in}
 use Rattle.rounds.specs.declared.rounds.Rounds.{Rounds}
 use Rattle.rounds.specs.Steps.{begun, rounds_wanted}
 use Rattle.rounds.specs.Stands.{IsSettled}
-use Rattle.rounds.proofs.Events.{no_some, events_end}
+use Rattle.rounds.proofs.Events.{events_end}
 use Rattle.rounds.proofs.Settling.{settled_firm, rounds_settle}
 use Rattle.repair_op.specs.declared.guarded.Guarded.{Guarded}
 use Rattle.mend_op.specs.declared.stage.Stage.{Stage}
@@ -99,7 +100,7 @@ module _ (site : Ground) (here : Site) (call : Call) where
   rounding_by_stands : (op : MendOp) → IsOf site here op → (stage : Stage) (base : List ℕ) (n : ℕ) (rounds : Rounds) (v : View) → IsRounding site op.guarded op.words op.next stage base n rounds v
       → IsInStage site op.guarded stage base v → (o : Option Want) → rounds_wanted rounds (due op stage n) ≡ o → MendStands site here call (rounding_by o stage n rounds op) v
   rounding_by_stands op is stage base n rounds v c known (Some want) wanted =
-      record { is = is_at op is op.next is.next_small _; view = (base, c, known, λ none. no_some (sym none ∙ wanted)) }
+      record { is = is_at op is op.next is.next_small _; view = (base, c, known, λ none. none-some _ (sym none ∙ wanted)) }
   rounding_by_stands op is stage base n rounds v c known None wanted =
       let ended = events_end rounds (due op stage n) wanted in
       let far = due_none op stage n ended.1 in

@@ -46,7 +46,7 @@ use Rattle.phase.proofs.asking.Needing.{next_needed, previous_needed}
 use Rattle.phase.proofs.asking.Causing.{found_named}
 use Rattle.phase.proofs.Handing.{key_called}
 use Rattle.phase.proofs.locks.Taking.{take_caused}
-use Rattle.phase.proofs.locks.Giving.{no_some, lock_at as lock_stands, locks_apart, has_not}
+use Rattle.phase.proofs.locks.Giving.{lock_at as lock_stands, locks_apart, has_not}
 use Rattle.move_op.specs.declared.step.MoveEnd.{MoveEnd}
 use Rattle.move_op.specs.declared.step.MoveEnd.TheVariants as ends
 use Rattle.phase.specs.declared.ending.Ending.TheVariants as ending
@@ -145,7 +145,7 @@ module _ (site : Ground) (here : Site) (call : Call) (kept : Kept) (may : MayMak
         (take_caused site.shape words did call lock (own_lock d remembers.3)
         (λ changed.
         let own = remembers.1 lock changed in
-        locks_apart site kept.site kept.hash kept.segment k.holds.located (target_of d) own.0 (λ e. no_some (sym none ∙ ap (free_of kept.held) e ∙ own.1.1)) own.2) take suits.2 remembers.2)
+        locks_apart site kept.site kept.hash kept.segment k.holds.located (target_of d) own.0 (λ e. none-some _ (sym none ∙ ap (free_of kept.held) e ∙ own.1.1)) own.2) take suits.2 remembers.2)
 
   -- ---- nothing is decided while a bucket is loaded, and while a shift is stored
   chosen_open : (event : Want) (d : Direction) (o : Option Shift) → CausedIf event (chosen d o)

@@ -1,6 +1,7 @@
 -- What a displacement keeps was loaded, at each of its steps, and before its stores it changed its locks alone.
 use Rattle.std.proofs.Common.{◌≡◌, ◌≢◌, ℕ, ◌+◌, ◌-◌, ◌%◌, ◌^◌, ◌<◌, ◌≤◌, Bool, true, false, Option, None, Some, List, [], ◌∷◌, ◌++◌, inl, inr, refl, sym, ap, ◌∙◌, subst, slice_index}
 use Rattle.std.specs.Prelude.{⊤, ◌==◌, if◌then◌else◌}
+use Rattle.std.proofs.lemmas.Option.{none-some}
 use Rattle.op_core.specs.declared.want.Want.TheVariants as want
 use Rattle.op_core.specs.declared.want.Ans.{Ans}
 use Rattle.op_core.specs.declared.want.Ans.TheVariants.{Value, Won, Lost, Passed}
@@ -38,7 +39,7 @@ use Rattle.phase.proofs.Wording.{words_other}
 use Rattle.phase.proofs.asking.Causing.{has_more, found_more}
 use Rattle.phase.proofs.Loading.{load_begins, load_stands}
 use Rattle.phase.proofs.locks.Taking.{take_remembers}
-use Rattle.phase.proofs.locks.Giving.{no_some, held_this, held_other}
+use Rattle.phase.proofs.locks.Giving.{held_this, held_other}
 use Rattle.phase.specs.declared.ending.Ending.{Ending}
 use Rattle.phase.specs.declared.ending.Ending.TheVariants as ending
 use Rattle.move_op.specs.declared.step.Direction.{Direction}
@@ -150,7 +151,7 @@ module _ (site : Ground) where
 
     still_held : (p : Role) (free : ℕ) → IsHeld kept.held p → IsHeld (with_held (target_of direction) free kept.held) p
     still_held p free (value, is) = elim (cases_place p (target_of direction)) [
-      | inl e ↦ absurd (no_some (sym out ∙ ap (free_of kept.held) (sym e) ∙ is))
+      | inl e ↦ absurd (none-some _ (sym out ∙ ap (free_of kept.held) (sym e) ∙ is))
       | inr n ↦ (value, held_other kept.held free (target_of direction) p n ∙ is)
     ]
 

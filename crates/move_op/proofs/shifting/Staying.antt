@@ -2,6 +2,7 @@
 use Rattle.std.proofs.Common.{◌≡◌, ◌⊎◌, ℕ, ◌+◌, Option, None, Some, inl, inr, refl, sym, arith, slice_index}
 use Rattle.std.proofs.lemmas.Bool.{cases_lt}
 use Rattle.std.proofs.lemmas.Nat.Bits.{bit_at-lt}
+use Rattle.std.proofs.lemmas.Option.{none-some}
 use Rattle.bucket_meta.specs.Bucket.{member}
 use Rattle.bucket_meta.specs.Search.{lowest_free}
 use Rattle.bucket_meta.specs.Slots.{IsFull}
@@ -9,7 +10,6 @@ use Rattle.bucket_meta.proofs.Found.{none_free}
 use Rattle.part.specs.Room.{HasOnlyMembers, HasNoMembers}
 use Rattle.phase.specs.declared.kept.Kept.{Kept}
 use Rattle.phase.specs.Buckets.{words_in}
-use Rattle.phase.proofs.locks.Giving.{no_some}
 use Rattle.move_op.specs.declared.step.Direction.{Direction}
 use Rattle.move_op.specs.declared.step.Direction.TheVariants.{Forward, Backward}
 use Rattle.move_op.specs.Shifts.{source_of, target_of, bit_of, lowest_of, moving_slot, shift_by, shift_in}
@@ -38,7 +38,7 @@ module _ (kept : Kept) (d : Direction) where
   none_by : (from to : Option ℕ) → lowest_free v1 ≡ to → moving_slot d w1 to ≡ from → shift_by kept d from to ≡ None → (lowest_of (bit_of d) w1 ≡ None) ⊎ IsFull v1
   none_by from None full e none = inr (none_free v1 full)
   none_by None (Some t) free e none = inl e
-  none_by (Some s) (Some t) free e none = absurd (no_some (sym none))
+  none_by (Some s) (Some t) free e none = absurd (none-some _ (sym none))
 
   none_moves : shift_in kept d ≡ None → (lowest_of (bit_of d) w1 ≡ None) ⊎ IsFull v1
   none_moves none = none_by (moving_slot d w1 (lowest_free v1)) (lowest_free v1) refl refl none

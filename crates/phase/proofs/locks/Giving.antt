@@ -2,6 +2,7 @@
 use Rattle.std.proofs.Common.{◌≡◌, ◌≢◌, ℕ, ◌+◌, ◌*◌, ◌%◌, ◌^◌, ◌<◌, ◌≤◌, Option, None, Some, List, [], ◌∷◌, ◌⊎◌, inl, inr, refl, sym, ap, ◌∙◌, subst, arith}
 use Rattle.std.specs.Prelude.{if◌then◌else◌}
 use Rattle.std.proofs.lemmas.Bool.{lt-ltb}
+use Rattle.std.proofs.lemmas.Option.{none-some, same_Some}
 use Rattle.op_core.specs.declared.want.Want.TheVariants.{Store, Done}
 use Rattle.image_layout.specs.Places.{Shape, root_word, head_at, bucket_at, buckets}
 use Rattle.map_model.specs.declared.call.Call.{Call}
@@ -22,12 +23,6 @@ use Rattle.phase.specs.Taking.{MayBeTaken}
 use Rattle.phase.specs.Stands.{IsThere}
 use Rattle.phase.specs.Giving.{IsLocated, IsHeld, IsQuiet, HoldsLocks, give_kind_of, lock_left, give_left, PlacesStand, HeldStands, GiveStands, GiveFalls}
 use Rattle.phase.proofs.asking.Asked.{one_place, cases_place}
-
-pub no_some : {A : Type 0} {x : A} → None ≡ Some x → ⊥
-no_some e = cc
-
-some_same : {A : Type 0} {x y : A} → Some x ≡ Some y → x ≡ y
-some_same e = cc
 
 pub nothing_left : {X : Type 0} (l : List X) → ((p : X) → Has p l → ⊥) → l ≡ []
 nothing_left [] none = refl
@@ -170,20 +165,20 @@ module _ (held : Held) where
   -- what is left of one place is of another
   pub free_less : (place other : Role) (value : ℕ) → free_of (without_held place held) other ≡ Some value → (free_of held other ≡ Some value) × (index other ≡ index place → ⊥)
   free_less place other value e = elim (cases_place other place) [
-    | inl same ↦ absurd (no_some (sym (gone_this place) ∙ subst (λ (z : Role). free_of (without_held place held) z ≡ Some value) same e))
+    | inl same ↦ absurd (none-some _ (sym (gone_this place) ∙ subst (λ (z : Role). free_of (without_held place held) z ≡ Some value) same e))
     | inr apart ↦ (sym (gone_other place other apart) ∙ e, apart)
   ]
 
   -- the lock that is given back next is held
   next_by : (h p f s n r : Option ℕ) → held.home ≡ h → held.probing ≡ p → held.first ≡ f → held.second ≡ s → held.next ≡ n → held.previous ≡ r
       → (one : Role × ℕ) → first_held h p f s n r ≡ Some one → free_of held one.0 ≡ Some one.1
-  next_by (Some free) p f s n r eh ep ef es en er one e = subst (λ (z : Role × ℕ). free_of held z.0 ≡ Some z.1) (some_same e) eh
-  next_by None (Some free) f s n r eh ep ef es en er one e = subst (λ (z : Role × ℕ). free_of held z.0 ≡ Some z.1) (some_same e) ep
-  next_by None None (Some free) s n r eh ep ef es en er one e = subst (λ (z : Role × ℕ). free_of held z.0 ≡ Some z.1) (some_same e) ef
-  next_by None None None (Some free) n r eh ep ef es en er one e = subst (λ (z : Role × ℕ). free_of held z.0 ≡ Some z.1) (some_same e) es
-  next_by None None None None (Some free) r eh ep ef es en er one e = subst (λ (z : Role × ℕ). free_of held z.0 ≡ Some z.1) (some_same e) en
-  next_by None None None None None (Some free) eh ep ef es en er one e = subst (λ (z : Role × ℕ). free_of held z.0 ≡ Some z.1) (some_same e) er
-  next_by None None None None None None eh ep ef es en er one e = absurd (no_some e)
+  next_by (Some free) p f s n r eh ep ef es en er one e = subst (λ (z : Role × ℕ). free_of held z.0 ≡ Some z.1) (same_Some _ _ e) eh
+  next_by None (Some free) f s n r eh ep ef es en er one e = subst (λ (z : Role × ℕ). free_of held z.0 ≡ Some z.1) (same_Some _ _ e) ep
+  next_by None None (Some free) s n r eh ep ef es en er one e = subst (λ (z : Role × ℕ). free_of held z.0 ≡ Some z.1) (same_Some _ _ e) ef
+  next_by None None None (Some free) n r eh ep ef es en er one e = subst (λ (z : Role × ℕ). free_of held z.0 ≡ Some z.1) (same_Some _ _ e) es
+  next_by None None None None (Some free) r eh ep ef es en er one e = subst (λ (z : Role × ℕ). free_of held z.0 ≡ Some z.1) (same_Some _ _ e) en
+  next_by None None None None None (Some free) eh ep ef es en er one e = subst (λ (z : Role × ℕ). free_of held z.0 ≡ Some z.1) (same_Some _ _ e) er
+  next_by None None None None None None eh ep ef es en er one e = absurd (none-some _ e)
 
   pub next_free : (one : Role × ℕ) → give_next held ≡ Some one → free_of held one.0 ≡ Some one.1
   next_free one e = next_by held.home held.probing held.first held.second held.next held.previous refl refl refl refl refl refl one e
@@ -191,12 +186,12 @@ module _ (held : Held) where
   -- and where there is none, none is
   none_by : (h p f s n r : Option ℕ) → held.home ≡ h → held.probing ≡ p → held.first ≡ f → held.second ≡ s → held.next ≡ n → held.previous ≡ r
       → first_held h p f s n r ≡ None → (place : Role) → free_of held place ≡ None
-  none_by (Some x) p f s n r eh ep ef es en er e place = absurd (no_some (sym e))
-  none_by None (Some x) f s n r eh ep ef es en er e place = absurd (no_some (sym e))
-  none_by None None (Some x) s n r eh ep ef es en er e place = absurd (no_some (sym e))
-  none_by None None None (Some x) n r eh ep ef es en er e place = absurd (no_some (sym e))
-  none_by None None None None (Some x) r eh ep ef es en er e place = absurd (no_some (sym e))
-  none_by None None None None None (Some x) eh ep ef es en er e place = absurd (no_some (sym e))
+  none_by (Some x) p f s n r eh ep ef es en er e place = absurd (none-some _ (sym e))
+  none_by None (Some x) f s n r eh ep ef es en er e place = absurd (none-some _ (sym e))
+  none_by None None (Some x) s n r eh ep ef es en er e place = absurd (none-some _ (sym e))
+  none_by None None None (Some x) n r eh ep ef es en er e place = absurd (none-some _ (sym e))
+  none_by None None None None (Some x) r eh ep ef es en er e place = absurd (none-some _ (sym e))
+  none_by None None None None None (Some x) eh ep ef es en er e place = absurd (none-some _ (sym e))
   none_by None None None None None None eh ep ef es en er e Home = eh
   none_by None None None None None None eh ep ef es en er e Probing = ep
   none_by None None None None None None eh ep ef es en er e First = ef
@@ -211,9 +206,9 @@ module _ (held : Held) where
 module _ (here : Site) (hash segment : ℕ) where
   pub held_none : (v : View) → HoldsOnly [] v → HoldsLocks here hash segment none_held v
   held_none v o = record {
-    has = λ place value e. absurd (no_some (sym (none_free place) ∙ e));
+    has = λ place value e. absurd (none-some _ (sym (none_free place) ∙ e));
     only = λ p h. absurd (subst (λ (l : List (ℕ × ℕ)). Has p l) o.held h);
-    free = λ place value e. absurd (no_some (sym (none_free place) ∙ e));
+    free = λ place value e. absurd (none-some _ (sym (none_free place) ∙ e));
     known = λ p h. absurd (subst (λ (l : List (ℕ × ℕ)). Has p l) o.known h);
     areas = o.areas;
   }
@@ -226,7 +221,7 @@ module _ (here : Site) (hash segment : ℕ) where
     more_has : (other : Role) (value : ℕ) → free_of (with_held place free held) other ≡ Some value → Has (lock_word here hash segment other, value + 1) more
     more_has other value e = elim (cases_place other place) [
       | inl same ↦
-          let is : free ≡ value = some_same (sym (held_this held free place) ∙ subst (λ (z : Role). free_of (with_held place free held) z ≡ Some value) same e) in
+          let is : free ≡ value = same_Some _ _ (sym (held_this held free place) ∙ subst (λ (z : Role). free_of (with_held place free held) z ≡ Some value) same e) in
           inl (ap (λ (z : Role). (lock_word here hash segment z, value + 1)) same ∙ ap (λ (z : ℕ). (lock_word here hash segment place, z + 1)) (sym is))
       | inr apart ↦ inr (h.has other value (sym (held_other held free place other apart) ∙ e))
     ]
@@ -237,7 +232,7 @@ module _ (here : Site) (hash segment : ℕ) where
       | inl e ↦ (place, free, held_this held free place, e)
       | inr r ↦
           let was = h.only p r in
-          (was.0, was.1, held_other held free place was.0 (λ same. no_some (sym none ∙ ap (free_of held) (one_place place was.0 (sym same)) ∙ was.2)) ∙ was.2, was.3)
+          (was.0, was.1, held_other held free place was.0 (λ same. none-some _ (sym none ∙ ap (free_of held) (one_place place was.0 (sym same)) ∙ was.2)) ∙ was.2, was.3)
     ]
 
     pub held_more : (u : View) → MayBeTaken free → u ≡ record v { held = more } → HoldsLocks here hash segment (with_held place free held) u
@@ -245,7 +240,7 @@ module _ (here : Site) (hash segment : ℕ) where
       has = more_has;
       only = more_only;
       free = λ other value e. elim (free_more held free place other) [
-        | inl is ↦ subst (λ (z : ℕ). MayBeTaken z) (some_same (sym is ∙ e)) may
+        | inl is ↦ subst (λ (z : ℕ). MayBeTaken z) (same_Some _ _ (sym is ∙ e)) may
         | inr was ↦ h.free other value (sym was ∙ e)
       ];
       known = λ p k. (let g = h.known p k in (g.0, (g.1.0, inr g.1.1), g.2));
@@ -298,7 +293,7 @@ pub has_not : (site : Ground) (here : Site) (hash segment : ℕ) (held : Held) (
     → free_of held place ≡ None → HasLock v.held (lock_word here hash segment place) → ⊥
 has_not site here hash segment held place v l h none has =
     let at = held_place here hash segment held v h (lock_word here hash segment place) has in
-    locks_apart site here hash segment l place at.0 (λ same. no_some (sym none ∙ ap (free_of held) same ∙ at.1.1)) at.2
+    locks_apart site here hash segment l place at.0 (λ same. none-some _ (sym none ∙ ap (free_of held) same ∙ at.1.1)) at.2
 
 pub held_stands : HeldStands
 held_stands = record {
@@ -383,7 +378,7 @@ module _ (here : Site) (hash segment : ℕ) (held : Held) (v : View) (h : HoldsL
   ends_by : IsQuiet v → (o : Option (Role × ℕ)) → give_next held ≡ o → give_wanted_of here hash segment o ≡ Done → HoldsOnly [] v
   ends_by q (Some next) e done = absurd (let s : Store (lock_word here hash segment next.0) ((next.1 + 2) % 2 ^ 64) ≡ Done = done in cc)
   ends_by q None e done =
-      let none : (p : ℕ × ℕ) → Has p v.held → ⊥ = λ p has. (let at = h.only p has in no_some (sym (next_none held e at.0) ∙ at.2)) in
+      let none : (p : ℕ × ℕ) → Has p v.held → ⊥ = λ p has. (let at = h.only p has in none-some _ (sym (next_none held e at.0) ∙ at.2)) in
       record {
         held = nothing_left v.held none;
         known = nothing_left v.known (λ p k. let g = h.known p k in none (g.0, g.1.0) g.1.1);

@@ -3,6 +3,7 @@ use Rattle.std.proofs.Common.{◌≡◌, ◌⊎◌, ℕ, ◌+◌, ◌%◌, ◌<�
 use Rattle.std.specs.Prelude.{nat_lt, if◌then◌else◌}
 use Rattle.std.specs.Option.{option_or}
 use Rattle.std.proofs.lemmas.Bool.{le-ltb}
+use Rattle.std.proofs.lemmas.Option.{none-some}
 use Rattle.hash_word.specs.Hash.{home_of, finger_of}
 use Rattle.trace.specs.Events.{Words}
 use Rattle.bucket_meta.specs.Bucket.{record_slots}
@@ -31,7 +32,6 @@ use Rattle.read_op.specs.declared.step.Seen.{Seen}
 use Rattle.read_op.specs.declared.step.ReadStep.TheVariants.{Look, Fill, Count, Check}
 use Rattle.read_op.specs.declared.step.Task.{Task}
 use Rattle.phase.specs.Asked.{index, looked_by}
-use Rattle.phase.proofs.locks.Giving.{no_some}
 use Rattle.phase.proofs.asking.Asked.{few, near_asked, none_before, upto_more, upto_less, upto_up}
 use Rattle.read_op.specs.Places.{free_at}
 use Rattle.read_op.specs.Steps.{value_of, walked_to, visit_first, visit_second, with_free, looked, with_value, read_home, read_probing, read_all, filled, seen_none, lock_of}
@@ -88,7 +88,7 @@ module _ (site : Ground) (task : Task) (is : IsIn site task) where
         ];
         to = there_to u path noted has.within;
       };
-      knows = record { none = λ e q l. absurd (none_before false false q l); some = λ x e. absurd (no_some e) };
+      knows = record { none = λ e q l. absurd (none_before false false q l); some = λ x e. absurd (none-some _ e) };
     },
     tt,
   )

@@ -2,6 +2,7 @@
 use Rattle.std.proofs.Common.{◌≡◌, ◌≢◌, ℕ, ◌+◌, Bool, true, false, Option, None, Some, List, inr, refl, sym, ap, ◌∙◌, subst}
 use Rattle.std.specs.Prelude.{◌==◌, nat_le, nat_lt, if◌then◌else◌}
 use Rattle.std.proofs.lemmas.Bool.{eqb-false}
+use Rattle.std.proofs.lemmas.Option.{none-some, same_Some}
 use Rattle.trace.specs.Events.{Words}
 use Rattle.op_core.specs.declared.want.Want.{Want}
 use Rattle.op_core.specs.declared.want.Want.TheVariants as want
@@ -33,12 +34,6 @@ use Rattle.redirect_op.specs.Stands.{SuitsStep}
 use Rattle.redirect_op.specs.Ends.{outcome_of, outcome_at}
 use Rattle.redirect_op.specs.RedirectPart.{RemembersAt, redirect_part, segment_of, BeginsRemembering}
 use Rattle.redirect_op.proofs.Plain.{none_held, ended_at}
-
-pub none_some : {A : Type 0} {x : A} → None ≡ Some x → ⊥
-none_some e = cc
-
-some_same : {x y : Outcome} → Some x ≡ Some y → x ≡ y
-some_same e = cc
 
 -- ---- what is so of each step of the loop is so in whichever step it goes on
 module _ (P : RedirectStep → Type 0) (entry : (index : ℕ) → P (Entry index)) (store : (index : ℕ) → P (Store index)) (settle : P Settle) (fence : P Fence) (give : P GiveDirectory) where
@@ -166,12 +161,12 @@ module _ (site : Ground) (here : Site) (call : Call) (words : Words) (op : Redir
 
   -- THE CAUSE of what it decides
   caused_by : (s : RedirectStep) (o : Option Outcome) (outcome : Outcome) → Decides s o → o ≡ Some outcome → Cause (wanted_in op s) outcome
-  caused_by s o outcome (nothing none) some = absurd (none_some (sym none ∙ some))
-  caused_by s o outcome (busy word is finds taken) some = subst (λ (x : Outcome). Cause (wanted_in op s) x) (some_same (sym is ∙ some)) (finds, taken)
+  caused_by s o outcome (nothing none) some = absurd (none-some _ (sym none ∙ some))
+  caused_by s o outcome (busy word is finds taken) some = subst (λ (x : Outcome). Cause (wanted_in op s) x) (same_Some _ _ (sym is ∙ some)) (finds, taken)
 
   unfinished : (s : RedirectStep) (o : Option Outcome) → Decides s o → o ≡ Some finished → ⊥
-  unfinished s o (nothing none) some = none_some (sym none ∙ some)
-  unfinished s o (busy word is finds taken) some = let no : again (Busy word (words word)) ≡ finished = some_same (sym is ∙ some) in absurd (cc)
+  unfinished s o (nothing none) some = none-some _ (sym none ∙ some)
+  unfinished s o (busy word is finds taken) some = let no : again (Busy word (words word)) ≡ finished = same_Some _ _ (sym is ∙ some) in absurd (cc)
 
 -- ---- nothing is remembered behind the guard
 module _ (site : Ground) (op : RedirectOp) (n : ℕ) (h : Guarded) (after : Doings) where
@@ -199,7 +194,7 @@ stays_at : (op : RedirectOp) (s : RedirectStep) (a : Ans) (outcome : Outcome) �
 stays_at op (Give end) Passed outcome some = some
 stays_at op (Give end) a outcome some = some
 stays_at op (Ended end) a outcome some = some
-stays_at op s a outcome some = absurd (none_some some)
+stays_at op s a outcome some = absurd (none-some _ some)
 
 -- an end with which nothing is handed on is decided
 end_decided : (end : RedirectEnd) → is_redirected (Ended end) ≡ false → (outcome : Outcome) × (outcome_of end ≡ Some outcome)

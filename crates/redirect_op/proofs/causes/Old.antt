@@ -1,5 +1,6 @@
 -- Where the guard of the directory is told busy, the segment's header is known, and has not the image's version.
 use Rattle.std.proofs.Common.{◌≡◌, ℕ, None, Some, refl, sym, ◌∙◌}
+use Rattle.std.proofs.lemmas.Option.{none-some}
 use Rattle.trace.specs.Events.{Words}
 use Rattle.op_core.specs.declared.why.Why.TheVariants.{Busy}
 use Rattle.map_model.specs.declared.call.Call.{Call}
@@ -19,7 +20,7 @@ use Rattle.redirect_op.specs.Steps.{wanted_in, next_in}
 use Rattle.redirect_op.specs.Stands.{SuitsStep}
 use Rattle.redirect_op.specs.Ends.{outcome_at}
 use Rattle.redirect_op.specs.RedirectPart.{redirect_part, segment_of}
-use Rattle.redirect_op.proofs.causes.ByCause.{none_some, head_is, store_is, settle_to_is}
+use Rattle.redirect_op.proofs.causes.ByCause.{head_is, store_is, settle_to_is}
 
 module _ (site : Ground) (here : Site) (call : Call) (words : Words) (op : RedirectOp) (v : View) (new : MayBeNewest site v words) (word value : ℕ) (current : HasImageVersion site words op.guarded.segment) where
   abbrev found : RedirectStep → ℕ
@@ -36,16 +37,16 @@ module _ (site : Ground) (here : Site) (call : Call) (words : Words) (op : Redir
 
   old_at : (s : RedirectStep) → op.step ≡ s → SuitsStep site here call op s v → IsOpen s → IsTold (next s).step → ⊥
   old_at Guard at s yet some = known_as_old site op.guarded v words new s.0.old s.0.header current
-  old_at Root at s yet some = none_some some
-  old_at (Entry index) at s yet some = none_some some
-  old_at (Head index slot) at s yet some = none_some (sym (head_is IsOpen (λ i. refl) (λ i. refl) refl refl refl op index (found (Head index slot))) ∙ some)
+  old_at Root at s yet some = none-some _ some
+  old_at (Entry index) at s yet some = none-some _ some
+  old_at (Head index slot) at s yet some = none-some _ (sym (head_is IsOpen (λ i. refl) (λ i. refl) refl refl refl op index (found (Head index slot))) ∙ some)
   old_at (Store index) at s yet some =
-      none_some (sym (store_is IsOpen (λ i. refl) (λ i. refl) refl refl refl op index (answer_to (wanted_in op (Store index)) (found (Store index))) at) ∙ some)
-  old_at Settle at s yet some = none_some (sym (settle_to_is IsOpen (λ i. refl) (λ i. refl) refl refl refl op (answer_to (wanted_in op Settle) (found Settle))) ∙ some)
-  old_at Fence at s yet some = none_some some
-  old_at GiveDirectory at s yet some = none_some some
-  old_at (Give end) at s yet some = none_some (sym yet ∙ some)
-  old_at (Ended end) at s yet some = none_some (sym yet ∙ some)
+      none-some _ (sym (store_is IsOpen (λ i. refl) (λ i. refl) refl refl refl op index (answer_to (wanted_in op (Store index)) (found (Store index))) at) ∙ some)
+  old_at Settle at s yet some = none-some _ (sym (settle_to_is IsOpen (λ i. refl) (λ i. refl) refl refl refl op (answer_to (wanted_in op Settle) (found Settle))) ∙ some)
+  old_at Fence at s yet some = none-some _ some
+  old_at GiveDirectory at s yet some = none-some _ some
+  old_at (Give end) at s yet some = none-some _ (sym yet ∙ some)
+  old_at (Ended end) at s yet some = none-some _ (sym yet ∙ some)
 
 -- WHERE IT TELLS THE GUARD OF THE DIRECTORY TAKEN, the segment is old still
 pub stays_old : StaysOld redirect_part segment_of

@@ -2,6 +2,7 @@
 use Rattle.std.proofs.Common.{◌≡◌, ◌≢◌, ℕ, zero, suc, ◌<◌, Bool, true, false, Option, None, Some, List, [], inl, inr, refl, sym, ap, ◌∙◌, subst}
 use Rattle.std.specs.Prelude.{◌==◌, ◌||◌, if◌then◌else◌}
 use Rattle.std.proofs.lemmas.Bool.{eqb-true, eqb-false}
+use Rattle.std.proofs.lemmas.Option.{none-some, same_Some}
 use Rattle.trace.specs.Events.{Words}
 use Rattle.op_core.specs.declared.want.Want.{Want}
 use Rattle.op_core.specs.declared.want.Want.TheVariants as want
@@ -41,13 +42,6 @@ use Rattle.repair_op.specs.RepairPart.{outcome_of, outcome_at, repair_part, segm
 use Rattle.repair_op.proofs.Words.{head_is, slots_is, guard_is}
 use Rattle.repair_op.proofs.RepairIsPart.{kept_stays, within_by, ended_at}
 use Rattle.repair_op.proofs.Recalling.{slots_apart, remembers_at}
-
--- ---- where nothing is decided
-pub none_some : {A : Type 0} {x : A} → None ≡ Some x → ⊥
-none_some e = cc
-
-pub some_same : {x y : Outcome} → Some x ≡ Some y → x ≡ y
-some_same e = cc
 
 -- in whichever step it goes on
 pub side_none : (op : RepairOp) (slot n : ℕ) (r w : Bool) → outcome_at (if r then guarded_as (with_side op.guarded slot) else if w then go op (Slots slot n) else go op (Unmark settling.Store)).step ≡ None
@@ -164,13 +158,13 @@ module _ (site : Ground) (here : Site) (call : Call) (words : Words) (op : Repai
 
   -- THE CAUSE of what it decides
   caused_by : (s : RepairStep) (o : Option Outcome) (outcome : Outcome) → Decides s o → o ≡ Some outcome → Cause (wanted_in op s) outcome
-  caused_by s o outcome (nothing none) some = absurd (none_some (sym none ∙ some))
-  caused_by s o outcome (busy word is finds taken) some = subst (λ (x : Outcome). Cause (wanted_in op s) x) (some_same (sym is ∙ some)) (finds, taken)
-  caused_by s o outcome (repaired is done) some = subst (λ (x : Outcome). Cause (wanted_in op s) x) (some_same (sym is ∙ some)) tt
+  caused_by s o outcome (nothing none) some = absurd (none-some _ (sym none ∙ some))
+  caused_by s o outcome (busy word is finds taken) some = subst (λ (x : Outcome). Cause (wanted_in op s) x) (same_Some _ _ (sym is ∙ some)) (finds, taken)
+  caused_by s o outcome (repaired is done) some = subst (λ (x : Outcome). Cause (wanted_in op s) x) (same_Some _ _ (sym is ∙ some)) tt
 
   worked_by : (s : RepairStep) (o : Option Outcome) → Decides s o → o ≡ Some finished → HasRepaired site.shape (version_of site) (next s).guarded.segment (after s)
-  worked_by s o (nothing none) some = absurd (none_some (sym none ∙ some))
-  worked_by s o (busy word is finds taken) some = absurd (let no : again (Busy word (words word)) ≡ finished = some_same (sym is ∙ some) in cc)
+  worked_by s o (nothing none) some = absurd (none-some _ (sym none ∙ some))
+  worked_by s o (busy word is finds taken) some = absurd (let no : again (Busy word (words word)) ≡ finished = same_Some _ _ (sym is ∙ some) in cc)
   worked_by s o (repaired is done) some = done
 
 -- ---- no lock is held
@@ -198,7 +192,7 @@ stays_at : (op : RepairOp) (s : RepairStep) (a : Ans) (outcome : Outcome) → ou
 stays_at op (Give end) Passed outcome some = some
 stays_at op (Give end) a outcome some = some
 stays_at op (Ended end) a outcome some = some
-stays_at op s a outcome some = absurd (none_some some)
+stays_at op s a outcome some = absurd (none-some _ some)
 
 -- an end with which nothing is handed on is decided
 end_decided : (end : RepairEnd) → is_guarded (Ended end) ≡ false → (outcome : Outcome) × (outcome_of end ≡ Some outcome)

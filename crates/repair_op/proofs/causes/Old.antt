@@ -1,6 +1,7 @@
 -- Where another guard than the segment's is told busy, its header is known, and has not the image's version: the guard of free slots alone is such.
 use Rattle.std.proofs.Common.{◌≡◌, ◌≢◌, ℕ, zero, suc, Bool, true, false, None, Some, sym, ap, ◌∙◌}
 use Rattle.std.specs.Prelude.{◌==◌, if◌then◌else◌}
+use Rattle.std.proofs.lemmas.Option.{none-some, same_Some}
 use Rattle.trace.specs.Events.{Words}
 use Rattle.op_core.specs.declared.want.Ans.TheVariants.{Value, Won, Lost}
 use Rattle.op_core.specs.declared.why.Why.TheVariants.{Busy}
@@ -29,7 +30,7 @@ use Rattle.repair_op.specs.Finishing.{HasImageVersion, StaysOld}
 use Rattle.repair_op.specs.RepairPart.{outcome_at, repair_part, segment_of}
 use Rattle.repair_op.proofs.Words.{guard_is}
 use Rattle.repair_op.proofs.RepairIsPart.{within_by}
-use Rattle.repair_op.proofs.causes.ByCause.{none_some, some_same, side_none}
+use Rattle.repair_op.proofs.causes.ByCause.{side_none}
 
 -- A SEGMENT WHOSE HEADER IS KNOWN AS OLD has not the image's version in the newest words
 pub known_as_old : (site : Ground) (g : Guarded) (v : View) (words : Words) → MayBeNewest site v words → IsOld site g → Has (header_word site.shape g.segment, g.head) v.known
@@ -56,17 +57,17 @@ module _ (site : Ground) (here : Site) (call : Call) (words : Words) (op : Repai
 
   -- at first it is the segment's own guard
   guard_by : (t : Bool) → guard_of g ≡ segment_guard site.shape g.segment → IsTold (next_in op Guard (if t then Won else Lost (words (guard_of g)))).step → ⊥
-  guard_by true is some = none_some some
-  guard_by false is some = other (sym (same_word (guard_of g) (words (guard_of g)) word value (some_same some)) ∙ is)
+  guard_by true is some = none-some _ some
+  guard_by false is some = other (sym (same_word (guard_of g) (words (guard_of g)) word value (same_Some _ _ some)) ∙ is)
 
   head_by : (t u : Bool) → IsTold (if t then Give ends.Current else if u then Link else Ended ends.Guarded) → ⊥
-  head_by true u some = let no : finished ≡ again (Busy word value) = some_same some in cc
-  head_by false true some = none_some some
-  head_by false false some = none_some some
+  head_by true u some = let no : finished ≡ again (Busy word value) = same_Some _ _ some in cc
+  head_by false true some = none-some _ some
+  head_by false false some = none-some _ some
 
   link_by : (n : ℕ) → IsTold (next_in op Link (Value n)).step → ⊥
-  link_by zero some = none_some some
-  link_by (suc slot) some = none_some some
+  link_by zero some = none-some _ some
+  link_by (suc slot) some = none-some _ some
 
   old_at : (s : RepairStep) → SuitsStep site here call g s v → outcome_at s ≡ None → IsTold (next s).step → ⊥
   old_at Guard s yet some =
@@ -75,17 +76,17 @@ module _ (site : Ground) (here : Site) (call : Call) (words : Words) (op : Repai
   old_at Link s yet some = link_by (found Link) some
   old_at (Side slot) s yet some =
       let n : ℕ = found (Side slot) in
-      none_some (sym (side_none op slot n (is_ready_side (depth_in g.head) (pattern_in g.head) n) (is_new_side (depth_in g.head) (pattern_in g.head) n)) ∙ some)
+      none-some _ (sym (side_none op slot n (is_ready_side (depth_in g.head) (pattern_in g.head) n) (is_new_side (depth_in g.head) (pattern_in g.head) n)) ∙ some)
   old_at (Slots slot side) s yet some = known_as_old site g v words new s.0.cut.old s.0.knows.header current
-  old_at (Free slot side settling.Store) s yet some = none_some some
-  old_at (Free slot side settling.Flush) s yet some = none_some some
-  old_at (Free slot side settling.Fence) s yet some = none_some some
-  old_at GiveSlots s yet some = none_some some
-  old_at (Unmark settling.Store) s yet some = none_some some
-  old_at (Unmark settling.Flush) s yet some = none_some some
-  old_at (Unmark settling.Fence) s yet some = none_some some
-  old_at (Give end) s yet some = none_some (sym yet ∙ some)
-  old_at (Ended end) s yet some = none_some (sym yet ∙ some)
+  old_at (Free slot side settling.Store) s yet some = none-some _ some
+  old_at (Free slot side settling.Flush) s yet some = none-some _ some
+  old_at (Free slot side settling.Fence) s yet some = none-some _ some
+  old_at GiveSlots s yet some = none-some _ some
+  old_at (Unmark settling.Store) s yet some = none-some _ some
+  old_at (Unmark settling.Flush) s yet some = none-some _ some
+  old_at (Unmark settling.Fence) s yet some = none-some _ some
+  old_at (Give end) s yet some = none-some _ (sym yet ∙ some)
+  old_at (Ended end) s yet some = none-some _ (sym yet ∙ some)
 
 -- WHERE IT TELLS ANOTHER GUARD TAKEN than the segment's, that is old still
 pub stays_old : StaysOld repair_part segment_of

@@ -1,6 +1,6 @@
 -- The owner that is computed is the segment that owns the hash.
 use Rattle.std.proofs.Common.{◌≡◌, ◌==◌, ◌&&◌, ◌||◌, ℕ, zero, suc, ◌^◌, ◌<◌, ◌≤◌, ◌⊎◌, inl, inr, Bool, true, false, cond, Option, Some, None, refl, sym, ◌∙◌, ap, subst, arith}
-use Rattle.std.proofs.lemmas.Bool.{cases_Bool, cases_lt, eqb-true, eq-eqb, and_parts, and_from, or_cases, or_left, or_right, ltb-true, lt-ltb}
+use Rattle.std.proofs.lemmas.Bool.{cases_Bool, cases_lt, eqb-true, eq-eqb, and_parts, and_from, or_cases, or_left, or_right, ltb-true, lt-ltb, true≢false}
 use Rattle.std.specs.Prelude.{nat_lt, if◌then◌else◌}
 use Rattle.hash_word.specs.Hash.{top}
 use Rattle.segment_head.specs.HeadWord.{state_in, depth_in, pattern_in, normal, splitting}
@@ -76,10 +76,7 @@ module _ (frame : Frame) (h : ℕ) where
   }
     where
       not_deeper : nat_lt (depth_at frame o) (depth_at frame n) ≡ false → depth_at frame n ≤ depth_at frame o
-      not_deeper e = elim (cases_lt (depth_at frame o) (depth_at frame n)) [ inl l ↦ absurd (clash (sym (lt-ltb _ _ l) ∙ e)) | inr l ↦ l ]
-        where
-          clash : true ≡ false → ⊥
-          clash e = cc
+      not_deeper e = elim (cases_lt (depth_at frame o) (depth_at frame n)) [ inl l ↦ absurd (true≢false (sym (lt-ltb _ _ l) ∙ e)) | inr l ↦ l ]
 
   one_more : (n : ℕ) (x : Option ℕ) → IsLiveFor frame h n → IsFound n x → IsFound (suc n) (deeper_of frame x n)
   one_more n None is found = record {
@@ -96,10 +93,7 @@ module _ (frame : Frame) (h : ℕ) where
   looked_at : (n : ℕ) (b : Bool) → covers_live frame h n ≡ b → n < frame.segments → IsFound n (owner_below frame h n)
       → IsFound (suc n) (cond b (deeper_of frame (owner_below frame h n) n) (owner_below frame h n))
   looked_at n true is slot found = let parts = test_live n is in one_more n (owner_below frame h n) (record { slot = slot; live = parts.0; covers = parts.1 }) found
-  looked_at n false is slot found = here_too n (owner_below frame h n) (λ live. clash (sym (live_test n live) ∙ is)) found
-    where
-      clash : true ≡ false → ⊥
-      clash e = cc
+  looked_at n false is slot found = here_too n (owner_below frame h n) (λ live. true≢false (sym (live_test n live) ∙ is)) found
 
   found_below : (n : ℕ) → n ≤ frame.segments → IsFound n (owner_below frame h n)
   unfolding owner_below

@@ -3,6 +3,7 @@ use Rattle.std.proofs.Common.{◌≡◌, ◌≢◌, ℕ, ◌+◌, ◌-◌, ◌<�
 use Rattle.std.specs.Prelude.{◌==◌, nat_lt, if◌then◌else◌}
 use Rattle.image_layout.specs.Places.{segment_words, buckets}
 use Rattle.std.proofs.lemmas.Bool.{both_ways}
+use Rattle.std.proofs.lemmas.Option.{none-some}
 use Rattle.op_core.specs.declared.want.Want.{Want}
 use Rattle.op_core.specs.declared.want.Want.TheVariants as want
 use Rattle.op_core.specs.declared.want.Ans.{Ans}
@@ -34,7 +35,7 @@ use Rattle.split_op.specs.Batches.{slot_word, after_empty, copied_from, due, aft
 use Rattle.split_op.specs.Steps.{last_slot, searched, finished, put_by, batch_after, stored, given_to, wanted_in, next_in}
 use Rattle.split_op.specs.Fits.{put_kind, kind_at, is_copied_end, hands_on_at, IsPutting, SuitsStep}
 use Rattle.split_op.specs.SplitPart.{is_new_batch, is_new_at, TakesFreeSlot, NewSlotStays}
-use Rattle.split_op.proofs.Cases.{choose, none_some}
+use Rattle.split_op.proofs.Cases.{choose}
 use Rattle.split_op.proofs.SplitIsPart.{passes}
 
 -- ---- batches before that store, and behind it
@@ -139,7 +140,7 @@ module _ (site : Ground) (ground : IsGround site) (here : Site) (call : Call) (o
     -- while it is still to come, the slot is not new
     still_old : (some : Option Want) → rounds_wanted (rounds_taken rounds coming) coming ≡ some → is_new_at (put_by some (New false) (rounds_taken rounds coming)) ≡ false
     still_old (Some w) at = refl
-    still_old None at = absurd (none_some (sym (events_end (rounds_taken rounds coming) coming at).1))
+    still_old None at = absurd (none-some _ (sym (events_end (rounds_taken rounds coming) coming at).1))
 
     new_by : (t : Bool) → rounds_stores rounds coming ≡ t
         → is_new_at (put_by (rounds_wanted (rounds_taken rounds coming) (due op.copied op.locks (if t then New true else New false))) (if t then New true else New false) (rounds_taken rounds coming)) ≡ true

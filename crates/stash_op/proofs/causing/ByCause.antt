@@ -44,7 +44,7 @@ use Rattle.phase.proofs.asking.Needing.{first_before, second_before, was_full, s
 use Rattle.phase.proofs.asking.Causing.{found_named}
 use Rattle.phase.proofs.Handing.{key_called}
 use Rattle.phase.proofs.locks.Taking.{take_caused}
-use Rattle.phase.proofs.locks.Giving.{no_some, locks_apart, has_not}
+use Rattle.phase.proofs.locks.Giving.{locks_apart, has_not}
 use Rattle.phase.proofs.Wanting.{no}
 use Rattle.stash_op.specs.declared.step.StashBucket.{StashBucket}
 use Rattle.stash_op.specs.declared.step.StashBucket.TheVariants.{First, Second}
@@ -155,7 +155,7 @@ module _ (site : Ground) (kept : Kept) (is : IsIn site kept) (words : Words) (se
       (take_caused g words did call lock (own_lock r.0 (subst (λ (z : Shape). kept.segment < z.segments) (sym is.shape) suits.0.there.within) b r.2)
       (λ changed.
       let own = r.0.changed lock changed in
-      locks_apart site kept.site kept.hash kept.segment at (place_of b) own.0 (λ e. no_some (sym suits.1 ∙ ap (free_of seen.held) e ∙ own.1.1)) own.2) take suits.3 r.1)
+      locks_apart site kept.site kept.hash kept.segment at (place_of b) own.0 (λ e. none-some _ (sym suits.1 ∙ ap (free_of seen.held) e ∙ own.1.1)) own.2) take suits.3 r.1)
 
   -- ---- stores, and the note
   made_open : (x : Made) → outcome_at (made_to seen x).step ≡ None

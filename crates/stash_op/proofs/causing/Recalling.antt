@@ -1,6 +1,7 @@
 -- What is kept was loaded, at each step, and up to the stores the attempt changed its locks alone.
 use Rattle.std.proofs.Common.{◌≡◌, ◌≢◌, ℕ, ◌+◌, ◌-◌, ◌%◌, ◌^◌, ◌<◌, ◌≤◌, Bool, true, false, Option, None, Some, List, [], ◌∷◌, ◌++◌, inl, inr, refl, sym, ap, ◌∙◌, subst, slice_index}
 use Rattle.std.specs.Prelude.{◌==◌, if◌then◌else◌}
+use Rattle.std.proofs.lemmas.Option.{none-some}
 use Rattle.op_core.specs.declared.want.Want.TheVariants as want
 use Rattle.op_core.specs.declared.want.Ans.{Ans}
 use Rattle.op_core.specs.declared.want.Ans.TheVariants.{Value, Won, Lost, Passed}
@@ -37,7 +38,7 @@ use Rattle.phase.proofs.asking.Asked.{one_place, cases_place}
 use Rattle.phase.proofs.Wording.{words_this, words_other}
 use Rattle.phase.proofs.asking.Causing.{has_more, found_more}
 use Rattle.phase.proofs.Loading.{load_begins, load_stands}
-use Rattle.phase.proofs.locks.Giving.{no_some, held_this, held_other, gone_other, free_less}
+use Rattle.phase.proofs.locks.Giving.{held_this, held_other, gone_other, free_less}
 use Rattle.phase.proofs.locks.Taking.{take_remembers}
 use Rattle.stash_op.specs.declared.step.StashBucket.{StashBucket}
 use Rattle.stash_op.specs.declared.step.StashBucket.TheVariants.{First, Second}
@@ -127,7 +128,7 @@ module _ (site : Ground) (kept : Kept) where
     still_held : (p : Role) (free : ℕ) → IsHeld seen.held p → IsHeld (with_held (place_of b) free seen.held) p
     still_held p free (value, is) = (
       value,
-      held_other seen.held free (place_of b) p (λ e. no_some (sym out ∙ ap (free_of seen.held) (sym (one_place p (place_of b) e)) ∙ is)) ∙ is,
+      held_other seen.held free (place_of b) p (λ e. none-some _ (sym out ∙ ap (free_of seen.held) (sym (one_place p (place_of b) e)) ∙ is)) ∙ is,
     )
 
     won : (free : ℕ) → ChangedLocks (kept_in kept (with_lock seen b free)) (lock ∷ d.changed)

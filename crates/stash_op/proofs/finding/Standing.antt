@@ -1,6 +1,7 @@
 -- What is held and known: the locks of the buckets of a key, and the words of each that was loaded; and where the key does not stand once
 -- a stash bucket more is loaded.
 use Rattle.std.proofs.Common.{◌≡◌, ℕ, ◌+◌, ◌<◌, ◌≤◌, Option, None, Some, List, [], ◌∷◌, inl, inr, refl, sym, ap, ◌∙◌, subst, slice_index}
+use Rattle.std.proofs.lemmas.Option.{none-some}
 use Rattle.trace.specs.Events.{Words}
 use Rattle.image_layout.specs.Places.{bucket_at}
 use Rattle.world.specs.Ground.{Ground}
@@ -23,7 +24,7 @@ use Rattle.phase.specs.Finding.{HasLoadedHeld, HoldsBuckets, StandsNowhere}
 use Rattle.phase.specs.Keeps.{IsFull}
 use Rattle.phase.proofs.asking.Asked.{one_place, cases_place}
 use Rattle.phase.proofs.Wording.{words_this, words_other}
-use Rattle.phase.proofs.locks.Giving.{no_some, lock_at, held_other}
+use Rattle.phase.proofs.locks.Giving.{lock_at, held_other}
 use Rattle.phase.proofs.locks.Finding.{words_stand, loads_are_known}
 use Rattle.stash_op.specs.declared.step.StashBucket.{StashBucket}
 use Rattle.stash_op.specs.declared.step.Seen.{Seen}
@@ -70,14 +71,14 @@ module _ (site : Ground) (kept : Kept) (is : IsIn site kept) where
     still_held p was = (
       was.0,
       ap (λ (z : Held). free_of z p) more
-          ∙ held_other before free (place_of b) p (λ e. no_some (sym out ∙ ap (free_of before) (sym (one_place p (place_of b) e)) ∙ was.1)) ∙ was.1,
+          ∙ held_other before free (place_of b) p (λ e. none-some _ (sym out ∙ ap (free_of before) (sym (one_place p (place_of b) e)) ∙ was.1)) ∙ was.1,
     )
 
     was_held : (p : Role) → (index p ≡ index (place_of b) → ⊥) → IsHeld seen.held p → IsHeld before p
     was_held p apart is_held = (is_held.0, sym (held_other before free (place_of b) p apart) ∙ sym (ap (λ (z : Held). free_of z p) more) ∙ is_held.1)
 
     apart_of : (p : Role) → IsHeld before p → index p ≡ index (place_of b) → ⊥
-    apart_of p was e = no_some (sym out ∙ ap (free_of before) (sym (one_place p (place_of b) e)) ∙ was.1)
+    apart_of p was e = none-some _ (sym out ∙ ap (free_of before) (sym (one_place p (place_of b) e)) ∙ was.1)
 
     now_whole : HasLoadedHeld kept.site kept.hash kept.segment seen.held now.buckets u
     now_whole p is_held = elim (cases_place p (place_of b)) [
@@ -104,7 +105,7 @@ module _ (site : Ground) (kept : Kept) (is : IsIn site kept) where
     spared_still p none = by (free_of before p) refl
       where
         by : (o : Option ℕ) → free_of before p ≡ o → free_of before p ≡ None
-        by (Some value) e = absurd (no_some (sym none ∙ (still_held p (value, e)).1))
+        by (Some value) e = absurd (none-some _ (sym none ∙ (still_held p (value, e)).1))
         by None e = e
 
     -- the key does not stand there either, or a note would name it

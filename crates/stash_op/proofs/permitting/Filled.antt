@@ -3,6 +3,7 @@
 use Rattle.std.proofs.Common.{◌≡◌, ◌≢◌, ℕ, zero, suc, ◌+◌, ◌/◌, ◌%◌, ◌^◌, ◌<◌, Bool, true, false, None, Some, List, [], ◌∷◌, inl, inr, refl, sym, ap, ◌∙◌, subst, arith}
 use Rattle.std.specs.Prelude.{◌==◌, not, if◌then◌else◌}
 use Rattle.std.proofs.lemmas.Bool.{cases_eq, eqb-false, eq-eqb, ne_eqb}
+use Rattle.std.proofs.lemmas.Option.{none-some, same_Some}
 use Rattle.bucket_meta.specs.Bucket.{note_used, note_member, note_index, note_finger, overflow_count}
 use Rattle.bucket_meta.specs.Notes.{OverflowNote, AreExact, notes_by}
 use Rattle.bucket_meta.specs.NoteWords.{is_unused, unused_place, raised_count, FillsPlace}
@@ -21,22 +22,16 @@ not_true false e = refl
 unused : (w1 i : ℕ) → is_unused w1 i ≡ true → note_used i w1 ≡ 0
 unused w1 i e = bit_zero (w1 / 2 ^ (28 + i)) (eqb-false (note_used i w1) 1 (not_true (note_used i w1 == 1) e))
 
-some_same : (x y : ℕ) → Some x ≡ Some y → x ≡ y
-some_same x y e = cc
-
-none_some : (x : ℕ) → None ≡ Some x → ⊥
-none_some x e = cc
-
 abbrev IsUnusedPlace : ℕ → ℕ → Type 0
 IsUnusedPlace w1 i = (note_used i w1 ≡ 0) × (i < 4)
 
 unused_by : (w1 : ℕ) (a b c d : Bool) → is_unused w1 0 ≡ a → is_unused w1 1 ≡ b → is_unused w1 2 ≡ c → is_unused w1 3 ≡ d → (i : ℕ)
     → (if a then Some 0 else if b then Some 1 else if c then Some 2 else if d then Some 3 else None) ≡ Some i → IsUnusedPlace w1 i
-unused_by w1 true b c d p q r s i e = subst (IsUnusedPlace w1) (some_same 0 i e) (unused w1 0 p, omega arith)
-unused_by w1 false true c d p q r s i e = subst (IsUnusedPlace w1) (some_same 1 i e) (unused w1 1 q, omega arith)
-unused_by w1 false false true d p q r s i e = subst (IsUnusedPlace w1) (some_same 2 i e) (unused w1 2 r, omega arith)
-unused_by w1 false false false true p q r s i e = subst (IsUnusedPlace w1) (some_same 3 i e) (unused w1 3 s, omega arith)
-unused_by w1 false false false false p q r s i e = absurd (none_some i e)
+unused_by w1 true b c d p q r s i e = subst (IsUnusedPlace w1) (same_Some 0 i e) (unused w1 0 p, omega arith)
+unused_by w1 false true c d p q r s i e = subst (IsUnusedPlace w1) (same_Some 1 i e) (unused w1 1 q, omega arith)
+unused_by w1 false false true d p q r s i e = subst (IsUnusedPlace w1) (same_Some 2 i e) (unused w1 2 r, omega arith)
+unused_by w1 false false false true p q r s i e = subst (IsUnusedPlace w1) (same_Some 3 i e) (unused w1 3 s, omega arith)
+unused_by w1 false false false false p q r s i e = absurd (none-some i e)
 
 pub unused_is : (w1 i : ℕ) → unused_place w1 ≡ Some i → (note_used i w1 ≡ 0) × (i < 4)
 unused_is w1 i e = unused_by w1 (is_unused w1 0) (is_unused w1 1) (is_unused w1 2) (is_unused w1 3) refl refl refl refl i e

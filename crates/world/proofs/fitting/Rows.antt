@@ -1,7 +1,7 @@
 -- Each row of a header keeps what the words are for all views to have their locks and areas.
 use Rattle.std.proofs.Common.{◌≡◌, ◌≢◌, ℕ, ◌+◌, ◌*◌, ◌<◌, Bool, true, false, eqb, List, set, inl, inr, refl, sym, ap, ◌∙◌, subst, arith}
 use Rattle.std.specs.Prelude.{not}
-use Rattle.std.proofs.lemmas.Bool.{cases_eq, eq-eqb}
+use Rattle.std.proofs.lemmas.Bool.{cases_eq, eq-eqb, true≢false}
 use Rattle.trace.specs.Events.{Words, with_word}
 use Rattle.trace.proofs.Replaced.{replaced_same, replaced_other}
 use Rattle.segment_head.specs.HeadWord.{version_in, state_in, depth_in, pattern_in, free, splitting, HasLiveState}
@@ -34,10 +34,7 @@ pub but_after : (test : Area → Bool) (l : List Area) (a : Area) → Has a l �
 but_after test l a h is = has_filtered (λ b. not (test b)) l a h (ap not is)
 
 no_self : (n : ℕ) → eqb n n ≡ false → ⊥
-no_self n e = clash (sym (eq-eqb n n refl) ∙ e)
-  where
-    clash : true ≡ false → ⊥
-    clash e = cc
+no_self n e = true≢false (sym (eq-eqb n n refl) ∙ e)
 
 -- the areas after a row: what is neither a side nor a free slot there was before
 pub row_before : (row : Row) (s : ℕ) (a : Area) (l : List Area) → is_side_at s a ≡ false → Has a (areas_by row s l) → Has a l

@@ -1,5 +1,6 @@
 -- A record that a search found: its value is another, or it vanishes.
 use Rattle.std.proofs.Common.{◌≡◌, ◌≢◌, ℕ, ◌+◌, ◌*◌, ◌<◌, List, Some, inl, inr, refl, sym, ap, ◌∙◌, subst, arith}
+use Rattle.std.proofs.lemmas.Option.{same_Some}
 use Rattle.bucket_meta.specs.Bucket.{allocated, overflow_count}
 use Rattle.hash_word.specs.Hash.{home_of, probing_of}
 use Rattle.trace.specs.Events.{Words, with_word}
@@ -45,12 +46,9 @@ module _ (site : Ground) (v : View) where
       | inr m ↦ absurd (subst (λ (ms : List Move). Has m.0 ms) f.still m.1)
     ]
 
-    some_same' : {a b : ℕ} → Some a ≡ Some b → a ≡ b
-    some_same' e = cc
-
     pub held_place : HoldsPlaces site v k
     held_place words n q c t own h =
-        let e : q ≡ s = some_same' (sym own ∙ f.led.0 words n) in
+        let e : q ≡ s = same_Some _ _ (sym own ∙ f.led.0 words n) in
         let o = only_newest words n c t (subst (λ (z : ℕ). Hit site.shape words z c t k) e h) in
         subst (λ (z : ℕ). HasLock v.held (bucket_at site.shape z c)) (sym e) (subst (λ (z : ℕ). HasLock v.held (bucket_at site.shape s z)) (sym o.0) f.there.lock)
 

@@ -1,5 +1,6 @@
 -- A search that found nothing, and the record that is then placed in the home or the probing bucket.
 use Rattle.std.proofs.Common.{◌≡◌, ◌⊎◌, ℕ, ◌+◌, ◌<◌, Some, inl, inr, sym, ap, ◌∙◌, subst, arith}
+use Rattle.std.proofs.lemmas.Option.{same_Some}
 use Rattle.hash_word.specs.Hash.{home_of, probing_of, finger_of}
 use Rattle.trace.specs.Events.{Words, with_word}
 use Rattle.image_layout.specs.Places.{bucket_at}
@@ -119,11 +120,8 @@ module _ (site : Ground) (v : View) where
       pub adding : AddsHeld site v i x
       adding words n q c t l h = elim (only words n.table (newest_same site v words word s b n known) (none_newest words n) q c t l h) [ inl old ↦ inl old | inr new ↦ inr (held_lock words n q c l new.0 new.1 new.3) ]
 
-      some_same : {a b : ℕ} → Some a ≡ Some b → a ≡ b
-      some_same e = cc
-
       pub nowhere : HoldsPlaces site v k
-      nowhere words n q c t own h = absurd (none_newest words n c t (subst (λ (z : ℕ). Hit site.shape words z c t k) (some_same (sym own ∙ f.led.0 words n)) h))
+      nowhere words n q c t own h = absurd (none_newest words n c t (subst (λ (z : ℕ). Hit site.shape words z c t k) (same_Some _ _ (sym own ∙ f.led.0 words n)) h))
 
       pub publishing : IsPublishing site v (Insert k a) i x
       publishing words medium n o =

@@ -1,6 +1,7 @@
 -- What a view with areas knows of the newest words, and of a medium that may be left beside them.
 use Rattle.std.proofs.Common.{◌≡◌, ◌⊎◌, ℕ, ◌+◌, ◌*◌, ◌<◌, cond, eqb, Some, List, inl, inr, refl, sym, ap, ◌∙◌, subst, arith}
 use Rattle.std.proofs.lemmas.Bool.{cases_Bool, eq-eqb, eqb-true}
+use Rattle.std.proofs.lemmas.Option.{same_Some}
 use Rattle.trace.specs.Events.{Words}
 use Rattle.hash_word.specs.Hash.{home_of}
 use Rattle.image_layout.specs.Places.{Shape, first_segment, words_of, bucket_at, buckets}
@@ -148,12 +149,9 @@ module _ (site : Ground) (words : Words) (views : List View) (h : Holds site wor
         → owner_of site.shape m k ≡ Some s
     medium_owner m p s b k near lock own = elim (h.structure.owners.same m p k) [
       | inl e ↦ e ∙ own
-      | inr q ↦ absurd (let e : q.0 ≡ s = some_same q.0 s (sym q.1 ∙ own) in
+      | inr q ↦ absurd (let e : q.0 ≡ s = same_Some q.0 s (sym q.1 ∙ own) in
           side_dies site words views q.0 (h.structure.fits.side q.2.0 q.2.1 q.0 q.2.2 q.2.3).1 (subst (λ (z : ℕ). LivesOn site words views z) (sym e) (held_living s b near lock).1))
     ]
-      where
-        some_same : (a b : ℕ) → Some a ≡ Some b → a ≡ b
-        some_same a b e = cc
 
     -- a possible medium of which the known words are whole stands beside the newest
     stands : (m : Words) → IsPossible site words views m → Agrees site v m → MayStandBeside site v words m

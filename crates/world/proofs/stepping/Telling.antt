@@ -2,6 +2,7 @@
 use Rattle.std.proofs.Common.{◌≡◌, ◌⊎◌, ℕ, zero, suc, ◌+◌, ◌-◌, ◌<◌, ◌≤◌, Bool, true, false, None, Some, [], ◌∷◌, ◌++◌, length, inl, inr, refl, sym, ap, ◌∙◌, subst, arith}
 use Rattle.std.specs.Prelude.{◌==◌, ◌&&◌, ◌||◌, nat_lt, if◌then◌else◌}
 use Rattle.std.proofs.lemmas.Bool.{ltb-false}
+use Rattle.std.proofs.lemmas.Option.{none-some}
 use Rattle.hash_word.specs.Hash.{home_of, probing_of, finger_of}
 use Rattle.bucket_meta.specs.Bucket.{note_used, note_member, note_index, note_finger, overflow_count, record_slots}
 use Rattle.bucket_meta.specs.Notes.{how_often, notes_by}
@@ -19,21 +20,17 @@ use Rattle.bucket_words.proofs.segments.Finding.{found_below, find_is, find_none
 use Rattle.bucket_words.proofs.segments.Stashed.{not_there}
 use Rattle.world.proofs.stepping.Noting.{never}
 
--- ---- a bucket
-no_some : {x : ℕ} → None ≡ Some x → ⊥
-no_some e = cc
-
 module _ (shape : Shape) (m : Words) (s b k : ℕ) (segment : s < shape.segments) (bucket : b < buckets) where
   pub no_hit : find_below m (bucket_at shape s b) k record_slots ≡ None → (t : ℕ) → Hit shape m s b t k → ⊥
   no_hit e t h = elim (found_below m (bucket_at shape s b) k record_slots) [
-    | inl f ↦ no_some (sym e ∙ f.3)
+    | inl f ↦ none-some _ (sym e ∙ f.3)
     | inr n ↦ n.0 t h.slot (record { taken = h.taken; key = h.key })
   ]
 
   pub one_hit : (x : ℕ) → find_below m (bucket_at shape s b) k record_slots ≡ Some x → (t : ℕ) × Hit shape m s b t k × (Some (value_in m (bucket_at shape s b) t) ≡ Some x)
   one_hit x e = elim (found_below m (bucket_at shape s b) k record_slots) [
     | inl f ↦ (f.0, record { segment = segment; bucket = bucket; slot = f.1; taken = f.2.taken; key = f.2.key }, sym f.3 ∙ e)
-    | inr n ↦ absurd (no_some (sym n.1 ∙ e))
+    | inr n ↦ absurd (none-some _ (sym n.1 ∙ e))
   ]
 
 -- ---- what a key has

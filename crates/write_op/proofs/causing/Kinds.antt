@@ -3,6 +3,7 @@
 use Rattle.std.proofs.Common.{◌≡◌, ◌≢◌, ℕ, ◌+◌, ◌-◌, ◌%◌, ◌^◌, ◌<◌, Bool, true, false, Option, None, Some, List, [], ◌∷◌, inl, inr, refl, sym, ap, ◌∙◌, subst, arith}
 use Rattle.std.specs.Prelude.{⊤, ◌==◌, nat_le, if◌then◌else◌}
 use Rattle.std.proofs.lemmas.Bool.{eqb-false}
+use Rattle.std.proofs.lemmas.Option.{none-some, same_Some}
 use Rattle.op_core.specs.declared.want.Want.TheVariants as want
 use Rattle.op_core.specs.declared.want.Ans.{Ans}
 use Rattle.op_core.specs.declared.want.Ans.TheVariants.{Value, Won, Lost, Drawn, Passed}
@@ -43,7 +44,7 @@ use Rattle.phase.specs.Makes.{make_taken}
 use Rattle.phase.specs.Taking.{MayBeTaken, IsTaking}
 use Rattle.phase.specs.Giving.{give_kind_of}
 use Rattle.phase.proofs.asking.Asked.{cases_place}
-use Rattle.phase.proofs.locks.Giving.{no_some, none_free, held_this, held_other, free_less, next_free}
+use Rattle.phase.proofs.locks.Giving.{none_free, held_this, held_other, free_less, next_free}
 use Rattle.write_op.specs.declared.step.Task.{Task}
 use Rattle.write_op.specs.declared.step.Spot.{Spot}
 use Rattle.write_op.specs.declared.step.Seen.{Seen}
@@ -69,15 +70,12 @@ use Rattle.write_op.proofs.causing.Anywhere.{keeps_loads}
 abbrev MayGive : Held → Type 0
 MayGive held = (place : Role) (value : ℕ) → free_of held place ≡ Some value → MayBeTaken value
 
-some_same : (x y : ℕ) → Some x ≡ Some y → x ≡ y
-some_same x y e = cc
-
 none_give : MayGive none_held
-none_give place value e = absurd (no_some (sym (none_free place) ∙ e))
+none_give place value e = absurd (none-some _ (sym (none_free place) ∙ e))
 
 more_give : (held : Held) (p : Role) (free : ℕ) → MayBeTaken free → MayGive held → MayGive (with_held p free held)
 more_give held p free may g place value e = elim (cases_place place p) [
-  | inl same ↦ subst MayBeTaken (some_same free value (sym (held_this held free p) ∙ subst (λ (z : Role). free_of (with_held p free held) z ≡ Some value) same e)) may
+  | inl same ↦ subst MayBeTaken (same_Some free value (sym (held_this held free p) ∙ subst (λ (z : Role). free_of (with_held p free held) z ≡ Some value) same e)) may
   | inr other ↦ g place value (sym (held_other held free p place other) ∙ e)
 ]
 

@@ -1,6 +1,7 @@
 -- What a change keeps was loaded, at each of its steps, and before its stores it changed its locks alone.
 use Rattle.std.proofs.Common.{◌≡◌, ℕ, ◌+◌, ◌-◌, ◌%◌, ◌^◌, ◌<◌, ◌≤◌, Bool, true, false, Option, None, Some, List, [], ◌∷◌, ◌++◌, inl, inr, refl, sym, ap, ◌∙◌, subst, arith, slice_index}
 use Rattle.std.specs.Prelude.{⊤, ◌==◌, nat_le, if◌then◌else◌}
+use Rattle.std.proofs.lemmas.Option.{none-some}
 use Rattle.op_core.specs.declared.want.Ans.{Ans}
 use Rattle.op_core.specs.declared.want.Ans.TheVariants.{Value, Won, Lost, Passed}
 use Rattle.op_core.specs.Answers.{change_of}
@@ -45,7 +46,7 @@ use Rattle.phase.specs.Buckets.{with_words, words_in}
 use Rattle.phase.specs.Causes.{WasFound, RemembersWalked}
 use Rattle.phase.proofs.asking.Asked.{one_place, none_before, near_asked, upto_more, upto_less}
 use Rattle.phase.proofs.Wording.{words_this, words_other}
-use Rattle.phase.proofs.locks.Giving.{no_some, held_this, held_other}
+use Rattle.phase.proofs.locks.Giving.{held_this, held_other}
 use Rattle.phase.proofs.asking.Causing.{found_more, walk_remembers}
 use Rattle.phase.proofs.locks.Taking.{take_remembers}
 use Rattle.phase.proofs.Loading.{load_begins, load_stands}
@@ -160,7 +161,7 @@ module _ (task : Task) where
     still_held : (p : Role) (free : ℕ) → IsHeld seen.held p → IsHeld (with_held place free seen.held) p
     still_held p free (value, is) = (
       value,
-      held_other seen.held free place p (λ e. no_some (sym out ∙ ap (free_of seen.held) (sym (one_place p place e)) ∙ is)) ∙ is,
+      held_other seen.held free place p (λ e. none-some _ (sym out ∙ ap (free_of seen.held) (sym (one_place p place e)) ∙ is)) ∙ is,
     )
 
     won : (free : ℕ) (e : Doings) → e.changed ≡ lock ∷ d.changed → ChangedOwn task (record seen { held = with_held place free seen.held }) e

@@ -2,6 +2,7 @@
 use Rattle.std.proofs.Common.{◌≡◌, ℕ, ◌+◌, ◌^◌, ◌<◌, ◌≤◌, Bool, true, false, None, List, inl, inr, refl, sym, ap, ◌∙◌, arith}
 use Rattle.std.specs.Prelude.{nat_le, nat_lt, if◌then◌else◌}
 use Rattle.std.proofs.lemmas.Bool.{ltb-true}
+use Rattle.std.proofs.lemmas.Option.{none-some}
 use Rattle.hash_word.specs.Hash.{index_of}
 use Rattle.image_layout.specs.Places.{Shape, root_word, entry_at, head_at, bucket_at}
 use Rattle.image_layout.proofs.Areas.{entry_before}
@@ -17,7 +18,7 @@ use Rattle.phase.specs.Backs.{back_word}
 use Rattle.phase.specs.Helds.{free_of}
 use Rattle.phase.specs.Keeps.{ChangedLocks}
 use Rattle.phase.specs.Causes.{WasFound}
-use Rattle.phase.proofs.locks.Giving.{no_some, bucket_near, lock_is, one_lock_word}
+use Rattle.phase.proofs.locks.Giving.{bucket_near, lock_is, one_lock_word}
 use Rattle.write_op.specs.declared.step.Task.{Task}
 use Rattle.write_op.specs.declared.step.Seen.{Seen}
 use Rattle.write_op.specs.Steps.{lock_of, kept_in}
@@ -53,4 +54,4 @@ module _ (task : Task) (seen : Seen) (loads : List (ℕ × ℕ)) (path : WasFoun
   pub lock_unchanged : (place : Role) → free_of seen.held place ≡ None → ChangedLocks (kept_in task seen) changed → Has (lock_of task seen place) changed → ⊥
   lock_unchanged place out locks has =
       let was = locks (lock_of task seen place) has in
-      no_some (sym out ∙ ap (free_of seen.held) (one_lock_word task.site task.hash seen.path.segment path.0.2 place was.0 was.2) ∙ was.1.1)
+      none-some _ (sym out ∙ ap (free_of seen.held) (one_lock_word task.site task.hash seen.path.segment path.0.2 place was.0 was.2) ∙ was.1.1)

@@ -1,5 +1,6 @@
 -- When all buckets are loaded, their words are known, and the search of them tells where the key stands.
 use Rattle.std.proofs.Common.{◌≡◌, ℕ, ◌+◌, ◌<◌, ◌≤◌, Bool, true, false, None, refl, sym, ap, ◌∙◌, arith, slice_index}
+use Rattle.std.proofs.lemmas.Option.{none-some}
 use Rattle.hash_word.specs.Hash.{home_of, finger_of}
 use Rattle.trace.specs.Events.{Words}
 use Rattle.image_layout.specs.Places.{bucket_at}
@@ -17,7 +18,7 @@ use Rattle.phase.specs.Giving.{IsLocated, IsHeld, IsOfHeld}
 use Rattle.phase.specs.Knows.{Knows}
 use Rattle.phase.specs.Finding.{HasLoadedHeld, HoldsBuckets, SparesStash, StandsNowhere}
 use Rattle.phase.proofs.asking.Asked.{few}
-use Rattle.phase.proofs.locks.Giving.{lock_at, no_some}
+use Rattle.phase.proofs.locks.Giving.{lock_at}
 use Rattle.phase.proofs.locks.Finding.{loads_are_known, words_stand, search_tells}
 use Rattle.write_op.specs.declared.step.Task.{Task}
 use Rattle.write_op.specs.declared.step.Spot.{Spot}
@@ -38,14 +39,14 @@ module _ (seen : Seen) (upto : HoldsUpto seen 4) where
     where
       by : (b : Bool) → is_asked seen p ≡ b → is_asked seen p ≡ true
       by true e = e
-      by false e = absurd (no_some (sym (upto.others p (λ u. never (sym u.asked ∙ e))) ∙ held.1))
+      by false e = absurd (none-some _ (sym (upto.others p (λ u. never (sym u.asked ∙ e))) ∙ held.1))
 
   -- a stash bucket whose lock is not held was not asked
   pub none_asked : (p : Role) → free_of seen.held p ≡ None → is_asked seen p ≡ false
   none_asked p none = by (is_asked seen p) refl
     where
       by : (b : Bool) → is_asked seen p ≡ b → is_asked seen p ≡ false
-      by true e = absurd (no_some (sym none ∙ (asked_held p e).1))
+      by true e = absurd (none-some _ (sym none ∙ (asked_held p e).1))
       by false e = e
 
 -- ---- what is known

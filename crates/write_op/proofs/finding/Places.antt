@@ -1,11 +1,12 @@
 -- The locks that are held are those of the buckets that are asked for, before one; with that one, and where it is not asked for.
 use Rattle.std.proofs.Common.{◌≡◌, ℕ, ◌+◌, Bool, true, false, None, Some, inl, inr, refl, sym, ap, ◌∙◌, subst, arith}
+use Rattle.std.proofs.lemmas.Option.{none-some}
 use Rattle.phase.specs.declared.role.Role.{Role}
 use Rattle.phase.specs.Asked.{index}
 use Rattle.phase.specs.Helds.{with_held, free_of}
 use Rattle.phase.specs.Giving.{IsHeld}
 use Rattle.phase.proofs.asking.Asked.{cases_place, few, upto_more, upto_less, upto_up}
-use Rattle.phase.proofs.locks.Giving.{no_some, held_this, held_other}
+use Rattle.phase.proofs.locks.Giving.{held_this, held_other}
 use Rattle.write_op.specs.declared.step.Seen.{Seen}
 use Rattle.write_op.specs.Fits.{is_asked, Upto, HoldsUpto}
 
@@ -44,7 +45,7 @@ holds_less s p out h = record {
 -- where all are locked that are asked for, whose lock is held was asked for
 asked_if : (s : Seen) → HoldsUpto s 4 → (q : Role) → IsHeld s.held q → (b : Bool) → is_asked s q ≡ b → Upto s 4 q
 asked_if s h q held true e = record { low = few s.first s.second q e; asked = e }
-asked_if s h q held false e = absurd (no_some (sym (h.others q (λ u. never (sym u.asked ∙ e))) ∙ held.1))
+asked_if s h q held false e = absurd (none-some _ (sym (h.others q (λ u. never (sym u.asked ∙ e))) ∙ held.1))
 
 pub held_asked : (s : Seen) → HoldsUpto s 4 → (q : Role) → IsHeld s.held q → Upto s 4 q
 held_asked s h q held = asked_if s h q held (is_asked s q) refl

@@ -2,6 +2,7 @@
 use Rattle.std.proofs.Common.{◌≡◌, ◌⊎◌, ℕ, ◌<◌, ◌≤◌, Bool, true, false, Option, None, Some, inl, inr, refl, subst, slice_index}
 use Rattle.std.specs.Prelude.{nat_lt, if◌then◌else◌}
 use Rattle.std.proofs.lemmas.Bool.{ltb-true, ltb-false}
+use Rattle.std.proofs.lemmas.Option.{none-some}
 use Rattle.bucket_meta.specs.Bucket.{record_slots}
 use Rattle.bucket_meta.specs.Search.{lowest_free}
 use Rattle.balance.specs.declared.choice.Choice.TheVariants as choice
@@ -18,11 +19,11 @@ use Rattle.write_op.specs.Search.{spot_or, room_by, room_in, found}
 use Rattle.write_op.specs.Fits.{IsSpot, SuitsStep}
 use Rattle.write_op.specs.Causes.{records_in, IsRoomiest, InsertsWhereFewer}
 use Rattle.write_op.proofs.finding.Searching.{or_some}
-use Rattle.write_op.proofs.finding.Rooms.{none_some, room_some}
+use Rattle.write_op.proofs.finding.Rooms.{room_some}
 
 -- the place of what is found in one bucket
 placed : (place : Role) (slot : Option ℕ) (spot : Spot) → spot_or place slot None ≡ Some spot → spot.place ≡ place
-placed place slot spot is = elim (or_some place slot None spot is) [ inl at ↦ at.place | inr none ↦ absurd (none_some none) ]
+placed place slot spot is = elim (or_some place slot None spot is) [ inl at ↦ at.place | inr none ↦ absurd (none-some _ none) ]
 
 module _ (buckets : Buckets) (spot : Spot) where
   abbrev home : ℕ
@@ -36,7 +37,7 @@ module _ (buckets : Buckets) (spot : Spot) where
       → ((spot.place ≡ Home) × (home ≤ probing)) ⊎ ((spot.place ≡ Probing) × (probing < home))
   fewer_by true c test is = inr (placed Probing (lowest_free (slice_index buckets.probing 1)) spot is, ltb-true probing home test)
   fewer_by false true test is = inl (placed Home (lowest_free (slice_index buckets.home 1)) spot is, ltb-false probing home test)
-  fewer_by false false test is = absurd (none_some is)
+  fewer_by false false test is = absurd (none-some _ is)
 
   pub roomiest : room_in buckets ≡ Some spot → IsRoomiest buckets spot.place spot.slot
   roomiest is = record { fewer = fewer_by (nat_lt probing home) (nat_lt home record_slots) refl is; lowest = (room_some buckets spot is).slot }

@@ -1,5 +1,6 @@
 -- The slot that a new record takes is a free one of home or probing bucket, and where there is none both are full.
 use Rattle.std.proofs.Common.{◌≡◌, ◌⊎◌, ℕ, None, Some, inl, inr, refl, sym, subst, slice_index}
+use Rattle.std.proofs.lemmas.Option.{none-some}
 use Rattle.bucket_meta.specs.Search.{lowest_free}
 use Rattle.balance.specs.declared.choice.Choice.{Choice}
 use Rattle.balance.specs.declared.choice.Choice.TheVariants as choice
@@ -12,9 +13,6 @@ use Rattle.phase.specs.Buckets.{words_in}
 use Rattle.write_op.specs.declared.step.Spot.{Spot}
 use Rattle.write_op.specs.Search.{spot_or, room_by, room_in}
 use Rattle.write_op.proofs.finding.Searching.{or_none, or_some}
-
-pub none_some : {A : Type 0} {x : A} → None ≡ Some x → ⊥
-none_some e = cc
 
 module _ (buckets : Buckets) where
   abbrev home : ℕ
@@ -38,13 +36,13 @@ module _ (buckets : Buckets) where
       → spot_or place (lowest_free (slice_index (words_in buckets place) 1)) None ≡ Some spot → IsRoom spot
   room_of spot place near is = elim (or_some place (lowest_free (slice_index (words_in buckets place) 1)) None spot is) [
     | inl at ↦ room_at spot place near at.place at.slot
-    | inr none ↦ absurd (none_some none)
+    | inr none ↦ absurd (none-some _ none)
   ]
 
   some_by : (c : Choice) (spot : Spot) → room_by c buckets ≡ Some spot → IsRoom spot
   some_by choice.Home spot is = room_of spot Home (inl refl) is
   some_by choice.Probe spot is = room_of spot Probing (inr refl) is
-  some_by choice.Neither spot is = absurd (none_some is)
+  some_by choice.Neither spot is = absurd (none-some _ is)
 
   pub room_some : (spot : Spot) → room_in buckets ≡ Some spot → IsRoom spot
   room_some spot is = some_by (choice_of home probing) spot is

@@ -1,5 +1,6 @@
 -- What a search of the loaded buckets says: where the key was found, and that it stands in none of them.
 use Rattle.std.proofs.Common.{◌≡◌, ◌⊎◌, ℕ, Bool, true, false, Option, None, Some, List, inl, inr, refl, sym, ap, subst}
+use Rattle.std.proofs.lemmas.Option.{none-some}
 use Rattle.bucket_meta.specs.Search.{lowest_with}
 use Rattle.phase.specs.declared.role.Role.{Role}
 use Rattle.phase.specs.declared.role.Role.TheVariants.{Home, Probing, First, Second, Next, Previous}
@@ -9,11 +10,8 @@ use Rattle.write_op.specs.declared.step.Seen.{Seen}
 use Rattle.write_op.specs.Search.{spot_or, slot_in, found}
 use Rattle.write_op.specs.Fits.{is_asked}
 
-some_none : {A : Type 0} {x : A} → Some x ≡ None → ⊥
-some_none e = cc
-
 pub or_none : (place : Role) (a : Option ℕ) (rest : Option Spot) → spot_or place a rest ≡ None → (a ≡ None) × (rest ≡ None)
-or_none place (Some slot) rest e = absurd (some_none e)
+or_none place (Some slot) rest e = absurd (none-some _ (sym e))
 or_none place None rest e = (refl, e)
 
 -- the slot of a bucket
@@ -30,7 +28,7 @@ or_some place None rest spot e = inr e
 
 visited_slot : (visited : Bool) (words : List ℕ) (key slot : ℕ) → slot_in visited words key ≡ Some slot → (visited ≡ true) × (lowest_with words key ≡ Some slot)
 visited_slot true words key slot e = (refl, e)
-visited_slot false words key slot e = absurd (some_none (sym e))
+visited_slot false words key slot e = absurd (none-some _ e)
 
 visited_none : (visited : Bool) (words : List ℕ) (key : ℕ) → slot_in visited words key ≡ None → visited ≡ true → lowest_with words key ≡ None
 visited_none true words key e asked = e
@@ -84,7 +82,7 @@ module _ (seen : Seen) (key : ℕ) where
         | inl a ↦ (let s = visited_slot seen.first seen.buckets.first key spot.slot a.slot in at_place spot First a.place s.0 s.1)
         | inr e3 ↦ elim (or_some Second (slot_in seen.second seen.buckets.second key) None spot e3) [
           | inl a ↦ (let s = visited_slot seen.second seen.buckets.second key spot.slot a.slot in at_place spot Second a.place s.0 s.1)
-          | inr none ↦ absurd (some_none (sym none))
+          | inr none ↦ absurd (none-some _ none)
         ]
       ]
     ]

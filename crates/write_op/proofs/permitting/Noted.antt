@@ -2,6 +2,7 @@
 use Rattle.std.proofs.Common.{◌≡◌, ◌≢◌, ℕ, zero, suc, ◌-◌, ◌%◌, ◌^◌, ◌<◌, Bool, true, false, Option, None, Some, List, [], ◌∷◌, inl, inr, refl, sym, ap, ◌∙◌, subst, arith}
 use Rattle.std.specs.Prelude.{◌==◌, ◌&&◌, ◌||◌, if◌then◌else◌}
 use Rattle.std.proofs.lemmas.Bool.{cases_eq, eqb-true, eq-eqb, ne_eqb}
+use Rattle.std.proofs.lemmas.Option.{none-some, same_Some}
 use Rattle.bucket_meta.specs.Bucket.{note_used, note_member, note_index, note_finger, overflow_count}
 use Rattle.bucket_meta.specs.Notes.{OverflowNote, notes_by}
 use Rattle.bucket_meta.specs.Visits.{is_note, is_named}
@@ -40,28 +41,19 @@ pub record FindsNote (w1 w3 side finger index : ℕ) (found : Option ℕ) : Type
   pub some : (i : ℕ) → found ≡ Some i → IsThere w1 w3 side finger index i
   pub none : found ≡ None → is_named w1 w3 side finger index ≡ false
 
-some_same : (x y : ℕ) → Some x ≡ Some y → x ≡ y
-some_same x y e = cc
-
-some_none : (x : ℕ) → Some x ≡ None → ⊥
-some_none x e = cc
-
-none_some : (x : ℕ) → None ≡ Some x → ⊥
-none_some x e = cc
-
 finds_by : (w1 w3 side finger index : ℕ) (a b c d : Bool)
     → is_note w1 w3 side finger index 0 ≡ a → is_note w1 w3 side finger index 1 ≡ b → is_note w1 w3 side finger index 2 ≡ c → is_note w1 w3 side finger index 3 ≡ d
     → FindsNote w1 w3 side finger index (if a then Some 0 else if b then Some 1 else if c then Some 2 else if d then Some 3 else None)
 finds_by w1 w3 side finger index true b c d p q r s =
-    record { some = λ i e. subst (IsThere w1 w3 side finger index) (some_same 0 i e) (there w1 w3 side finger index 0 (omega arith) p); none = λ e. absurd (some_none 0 e) }
+    record { some = λ i e. subst (IsThere w1 w3 side finger index) (same_Some 0 i e) (there w1 w3 side finger index 0 (omega arith) p); none = λ e. absurd (none-some 0 (sym e)) }
 finds_by w1 w3 side finger index false true c d p q r s =
-    record { some = λ i e. subst (IsThere w1 w3 side finger index) (some_same 1 i e) (there w1 w3 side finger index 1 (omega arith) q); none = λ e. absurd (some_none 1 e) }
+    record { some = λ i e. subst (IsThere w1 w3 side finger index) (same_Some 1 i e) (there w1 w3 side finger index 1 (omega arith) q); none = λ e. absurd (none-some 1 (sym e)) }
 finds_by w1 w3 side finger index false false true d p q r s =
-    record { some = λ i e. subst (IsThere w1 w3 side finger index) (some_same 2 i e) (there w1 w3 side finger index 2 (omega arith) r); none = λ e. absurd (some_none 2 e) }
+    record { some = λ i e. subst (IsThere w1 w3 side finger index) (same_Some 2 i e) (there w1 w3 side finger index 2 (omega arith) r); none = λ e. absurd (none-some 2 (sym e)) }
 finds_by w1 w3 side finger index false false false true p q r s =
-    record { some = λ i e. subst (IsThere w1 w3 side finger index) (some_same 3 i e) (there w1 w3 side finger index 3 (omega arith) s); none = λ e. absurd (some_none 3 e) }
+    record { some = λ i e. subst (IsThere w1 w3 side finger index) (same_Some 3 i e) (there w1 w3 side finger index 3 (omega arith) s); none = λ e. absurd (none-some 3 (sym e)) }
 finds_by w1 w3 side finger index false false false false p q r s = record {
-  some = λ i e. absurd (none_some i e);
+  some = λ i e. absurd (none-some i e);
   none = λ e. ap (λ z. z || (is_note w1 w3 side finger index 1 || (is_note w1 w3 side finger index 2 || is_note w1 w3 side finger index 3))) p
       ∙ ap (λ z. z || (is_note w1 w3 side finger index 2 || is_note w1 w3 side finger index 3)) q ∙ ap (λ z. z || is_note w1 w3 side finger index 3) r ∙ s;
 }

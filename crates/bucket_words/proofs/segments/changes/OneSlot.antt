@@ -1,6 +1,7 @@
 -- A change of one slot, which one key takes before or after: what the table is then, and what each key has.
 use Rattle.std.proofs.Common.{◌≡◌, ◌≢◌, ℕ, ◌<◌, Option, None, Some, refl, ap, subst, sym, ◌∙◌, inl, inr, ◌⊎◌}
 use Rattle.std.proofs.lemmas.Bool.{cases_eq}
+use Rattle.std.proofs.lemmas.Option.{same_Some}
 use Rattle.bucket_meta.specs.Bucket.{record_slots}
 use Rattle.trace.specs.Events.{Words}
 use Rattle.image_layout.specs.Places.{Shape, bucket_at, buckets}
@@ -10,11 +11,11 @@ use Rattle.bucket_words.specs.Owners.{owner_of, SameOwners}
 use Rattle.bucket_words.specs.Hits.{Hit, find}
 use Rattle.bucket_words.specs.Standing.{IsTable, IsRight, StandsAt}
 use Rattle.bucket_words.specs.TableChanges.{OnlyNewHit, ChangesSlot}
-use Rattle.bucket_words.proofs.segments.Finding.{some_same, find_is, find_none, find_alike_any}
+use Rattle.bucket_words.proofs.segments.Finding.{find_is, find_none, find_alike_any}
 
 cases_owner : (o : Option ℕ) (s : ℕ) → (o ≡ Some s) ⊎ (o ≡ Some s → ⊥)
 cases_owner None s = inr (λ e. absurd (cc))
-cases_owner (Some t) s = elim (cases_eq t s) [ inl e ↦ inl (ap Some e) | inr n ↦ inr (λ e. n (some_same e)) ]
+cases_owner (Some t) s = elim (cases_eq t s) [ inl e ↦ inl (ap Some e) | inr n ↦ inr (λ e. n (same_Some _ _ e)) ]
 
 module _ (shape : Shape) (word other : Words) (s b r k : ℕ) (change : ChangesSlot shape word other s b r k) where
   -- a place is that of the slot or another

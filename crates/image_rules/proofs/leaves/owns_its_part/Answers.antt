@@ -1,5 +1,6 @@
 -- A segment owns its part exactly where the leaves of that part have its depth.
-use Rattle.std.proofs.Common.{◌≡◌, ℕ, ◌+◌, ◌*◌, ◌^◌, ◌<◌, ◌≤◌, ◌∙◌, refl, sym, subst, arith, true, false, slice_index}
+use Rattle.std.proofs.Common.{ℕ, ◌+◌, ◌*◌, ◌^◌, ◌<◌, ◌≤◌, ◌∙◌, refl, sym, subst, arith, slice_index}
+use Rattle.std.proofs.lemmas.Bool.{false≢true}
 use Rattle.image_layout.proofs.Areas.{power_double}
 use Rattle.sound_image.specs.Segments.{frame_of, HasReadySide}
 use Rattle.segment_head.specs.declared.prefix.Prefix.{Prefix}
@@ -86,11 +87,8 @@ returns-else-all_have c =
     let ones_fit : 2 * prefix.pattern + 1 < 2 ^ (prefix.depth + 1) = omega (arith, power_double prefix.depth, c.prefix_of-prefix.ensures.pattern) in
     let zeros : Prefix = record { depth = prefix.depth + 1; pattern = 2 * prefix.pattern } in
     let ones : Prefix = record { depth = prefix.depth + 1; pattern = 2 * prefix.pattern + 1 } in (
-      (λ all. absurd (false-true (sym c.if-all_have.false ∙ all))),
+      (λ all. absurd (false≢true (sym c.if-all_have.false ∙ all))),
       (λ part. c.all_have-2.ensures.1
           (part-zeros frame greatest c.depth-greatest.ensures.most c.args.leaves.now are c.args.s prefix c.requires.slot c.requires.live
           c.prefix_of-prefix.ensures.is deep c.prefix_of-prefix.ensures.pattern ready zeros ones refl refl refl refl further zeros_fit ones_fit part)),
     )
-  where
-    false-true : false ≡ true → ⊥
-    false-true e = cc

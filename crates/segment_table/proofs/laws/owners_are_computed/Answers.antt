@@ -1,5 +1,6 @@
 -- Who claims a hash is the deepest that covers it, and is found.
-use Rattle.std.proofs.Common.{◌≡◌, ℕ, None, Some, sym, ◌∙◌}
+use Rattle.std.proofs.Common.{sym, ◌∙◌}
+use Rattle.std.proofs.lemmas.Option.{none-some}
 use Rattle.segment_table.proofs.frames.SoundFrames.{claimer_owns, owner_claims}
 use Rattle.segment_table.proofs.frames.Owner.{found_owns, claimer_found, same_owner}
 use Rattle.segment_table.proofs.laws.owners_are_computed.Goals as goal
@@ -14,10 +15,7 @@ returns-clause-computed c greatest frame most sound s h fits =
 pub returns-clause-every : goal.returns-clause-every
 returns-clause-every c greatest frame most sound h fits none =
     let claims = sound.some h fits in
-    clash (sym (claimer_found greatest frame most sound claims.0 h fits claims.1) ∙ none)
-  where
-    clash : {s : ℕ} → Some s ≡ None → ⊥
-    clash e = cc
+    none-some _ (sym none ∙ claimer_found greatest frame most sound claims.0 h fits claims.1)
 
 pub returns-clause-headers : goal.returns-clause-headers
 returns-clause-headers c = same_owner

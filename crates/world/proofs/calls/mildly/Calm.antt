@@ -1,6 +1,7 @@
 -- A step is calm: it changes no word of the image, and of its view no more than notes, which of its words are flushed, and whether it stored
 -- the power word. Such a step keeps the invariant, whatever areas its view has.
 use Rattle.std.proofs.Common.{◌≡◌, ◌⊎◌, ℕ, ◌<◌, true, List, [], set, None, Some, inl, sym, ap, ◌∙◌, subst, arith}
+use Rattle.std.proofs.lemmas.Option.{none-some}
 use Rattle.map_model.specs.declared.call.Call.{Call}
 use Rattle.trace.specs.Events.{Words}
 use Rattle.image_layout.specs.Places.{words_of}
@@ -128,10 +129,6 @@ module _ (site : Ground) (words us : Words) (views : List View) (j : ℕ) (v w :
   pub notes : w.notes ≡ v.notes → w.answer ≡ v.answer → Notes site us (set views j w) h.log
   notes kept answer = notes_stay site words us views h.log j v w at h.notes (beyond site words views j v h at us calm.image) (record { notes = kept; answer = answer; seen = same.seen })
 
--- ---- notes that are forgotten
-no_some : {X : Type 0} {x : X} → None ≡ Some x → ⊥
-no_some e = cc
-
 pub forgotten : (site : Ground) (words : Words) (views : List View) (log : Log) (j : ℕ) (v w : View) → At views j v → Notes site words views log → w.notes ≡ [] → w.answer ≡ None
     → Notes site words (set views j w) log
 forgotten site words views log j v w at o none unanswered = record {
@@ -140,7 +137,7 @@ forgotten site words views log j v w at o none unanswered = record {
   same = λ c u n i x a. each views j v w at (λ _ (z : View). Has n z.notes → words n.word ≡ n.value → Has (i, x) n.words → words i ≡ x) (λ has. absurd (gone n has))
       (λ c u ne a has. o.same c u n i x a has) c u a;
   answered = λ c u x a. each views j v w at (λ _ (z : View). z.answer ≡ Some x → ((note : Glance) → Has note z.notes → IsUnmoved words note) → IsAnswer site log z.seen x)
-      (λ is. absurd (no_some (sym unanswered ∙ is))) (λ c u ne a is. o.answered c u x a is) c u a;
+      (λ is. absurd (none-some _ (sym unanswered ∙ is))) (λ c u ne a is. o.answered c u x a is) c u a;
 }
   where
     gone : (n : Glance) → Has n w.notes → ⊥

@@ -2,6 +2,7 @@
 use Rattle.std.proofs.Common.{◌≡◌, ◌≢◌, ◌⊎◌, ℕ, ◌<◌, List, set, Some, inl, inr, refl, sym, ap, ◌∙◌, subst, arith, cond}
 use Rattle.std.specs.Prelude.{⊤}
 use Rattle.std.proofs.lemmas.Bool.{cases_eq, ne_eqb}
+use Rattle.std.proofs.lemmas.Option.{same_Some}
 use Rattle.hash_word.specs.Hash.{top}
 use Rattle.trace.specs.Events.{Words, with_word}
 use Rattle.trace.proofs.Replaced.{cases_at, replaced_other}
@@ -38,15 +39,11 @@ use Rattle.world.proofs.fitting.Stored.{grown_by}
 use Rattle.world.proofs.fitting.Spared.{sides_stay}
 use Rattle.world.proofs.fitting.Rows.{but_after, row_slot, head_near}
 
--- ---- what owners are by
-of_some : (a b : ℕ) → Some a ≡ Some b → a ≡ b
-of_some a b e = cc
-
 pub owners_last : OwnersLast
 owners_last site words views f o s h lives is m p = elim (o.same m p h) [
   | inl e ↦ e ∙ is
   | inr t ↦ absurd (let e : Some s ≡ Some t.0 = sym is ∙ t.1 in
-      side_dies site words views t.0 (f.side t.2.0 t.2.1 t.0 t.2.2 t.2.3).1 (subst (λ z. LivesOn site words views z) (of_some s t.0 e) lives))
+      side_dies site words views t.0 (f.side t.2.0 t.2.1 t.0 t.2.2 t.2.3).1 (subst (λ z. LivesOn site words views z) (same_Some s t.0 e) lives))
 ]
 
 pub locked_owners : LockedOwnersLast

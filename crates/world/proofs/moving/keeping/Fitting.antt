@@ -1,7 +1,7 @@
 -- Each kind of step at the structure keeps locks and areas fitting, and owners and live segments in whatever a cut may leave.
 use Rattle.std.proofs.Common.{◌≡◌, ◌≢◌, ◌⊎◌, ℕ, suc, ◌+◌, ◌*◌, ◌≤◌, Bool, true, false, cond, eqb, List, set, inl, inr, refl, sym, ap, ◌∙◌, subst, arith}
 use Rattle.std.specs.Prelude.{not, ◌&&◌}
-use Rattle.std.proofs.lemmas.Bool.{eq-eqb, eqb-true, and_parts}
+use Rattle.std.proofs.lemmas.Bool.{eq-eqb, eqb-true, and_parts, false≢true}
 use Rattle.trace.specs.Events.{Words, with_word, after}
 use Rattle.trace.specs.Events.Event.{loaded, exchanged}
 use Rattle.trace.proofs.Replaced.{replaced_other}
@@ -43,10 +43,7 @@ not_same : (a b : ℕ) → not (eqb a b) ≡ true → a ≢ b
 not_same a b e is = clash (ap not (eq-eqb a b is) ∙ refl) e
   where
     clash : not (eqb a b) ≡ false → not (eqb a b) ≡ true → ⊥
-    clash p q = absurd (two (sym p ∙ q))
-      where
-        two : false ≡ true → ⊥
-        two e = cc
+    clash p q = absurd (false≢true (sym p ∙ q))
 
 module _ (site : Ground) (words : Words) (views : List View) (j : ℕ) (v : View) (h : Holds site words views) (at : At views j v) where
   abbrev AllFit : Words → View → Type 0
@@ -212,10 +209,7 @@ module _ (site : Ground) (words : Words) (views : List View) (j : ℕ) (v : View
       fenced_fit w (all_but (is_side_at n) v.areas)
       (inr (n, refl, may.0, is, λ y d. may.2 (header_word site.shape n, y) d (head_in_slot site.shape n))) (inr (n, refl)) st
       (λ m has. let b = but_before (is_side_at n) v.areas (Side m) (subst (Has (Side m)) st.areas_are has) in
-      dead_now m (may.4 m b.0 (λ e. clash (sym b.1 ∙ eq-eqb m n e))))
-    where
-      clash : false ≡ true → ⊥
-      clash e = cc
+      dead_now m (may.4 m b.0 (λ e. false≢true (sym b.1 ∙ eq-eqb m n e))))
 
   -- ---- the first unlock of a whole segment
   opened : (s lock next : ℕ) (w : View) → MayAt site (opens s lock next) v → w.held ≡ without lock v.held → w.dirty ≡ v.dirty → w.flushed ≡ v.flushed
@@ -234,14 +228,11 @@ module _ (site : Ground) (words : Words) (views : List View) (j : ℕ) (v : View
             subst (λ l. HasLock l (bucket_at site.shape t b)) (sym held) (
               o.0,
               without_stays lock (bucket_at site.shape t b) o.0 v.held
-                  (λ e. clash (sym k.1 ∙ eq-eqb t s (one_segment site.shape s may.1.0 t b may.1.1 near (sym may.1.2 ∙ sym e)))) o.1,
+                  (λ e. false≢true (sym k.1 ∙ eq-eqb t s (one_segment site.shape s may.1.0 t b may.1.1 near (sym may.1.2 ∙ sym e)))) o.1,
             );
         areas_are = areas;
         may = λ c split. may.8 words (newest_is site words views h j v at) split;
       })
-    where
-      clash : false ≡ true → ⊥
-      clash e = cc
 
 -- EACH KIND
 pub keep_areas : KeepsAreas

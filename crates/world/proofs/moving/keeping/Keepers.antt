@@ -1,7 +1,7 @@
 -- Each kind of step at the structure keeps guards, who may say a fact, and pinned headers.
 use Rattle.std.proofs.Common.{◌≡◌, ◌≢◌, ℕ, ◌<◌, Bool, true, false, cond, eqb, List, [], ◌∷◌, ◌++◌, set, inl, inr, refl, sym, ap, ◌∙◌, subst, arith}
 use Rattle.std.specs.Prelude.{not}
-use Rattle.std.proofs.lemmas.Bool.{eq-eqb}
+use Rattle.std.proofs.lemmas.Bool.{eq-eqb, false≢true, true≢false}
 use Rattle.trace.specs.Events.{Words, with_word, after}
 use Rattle.trace.specs.Events.Event.{loaded, exchanged}
 use Rattle.trace.proofs.Replaced.{replaced_other}
@@ -65,15 +65,9 @@ no_guard_in shape i within (Whole s) is = is
 
 -- it goes with itself
 goes_itself : (guard : Guard) → goes_with guard (area_of guard) ≡ false → ⊥
-goes_itself (of_segment s) e = clash (sym (eq-eqb s s refl) ∙ e)
-  where
-    clash : true ≡ false → ⊥
-    clash e = cc
+goes_itself (of_segment s) e = true≢false (sym (eq-eqb s s refl) ∙ e)
 goes_itself of_free_slots e = cc
 goes_itself of_directory e = cc
-
-no_false : false ≡ true → ⊥
-no_false e = cc
 
 module _ (site : Ground) (words : Words) (views : List View) (j : ℕ) (v : View) (h : Holds site words views) (at : At views j v) where
   was : Guards site words views
@@ -182,7 +176,7 @@ module _ (site : Ground) (words : Words) (views : List View) (j : ℕ) (v : View
 
   -- without claims, where the guard of free slots is kept
   no_claims : (areas : List Area) → Keeps areas Allocation → (fact : Fact) → Has fact (facts_without (of_segment 0) v.facts) → MaySay areas fact
-  no_claims areas allocation (Owns s d p) has = absurd (no_false (filtered_has (λ k. not (is_claim k)) v.facts (Owns s d p) has).1)
+  no_claims areas allocation (Owns s d p) has = absurd (false≢true (filtered_has (λ k. not (is_claim k)) v.facts (Owns s d p) has).1)
   no_claims areas allocation (Lives s) has = tt
   no_claims areas allocation (Current s) has = tt
   no_claims areas allocation (Rooted e) has = tt
@@ -203,7 +197,7 @@ module _ (site : Ground) (words : Words) (views : List View) (j : ℕ) (v : View
   no_taken areas segments directory (Deep f d p) has = tt
   no_taken areas segments directory (Begins s k) has = tt
   no_taken areas segments directory (Used n) has = tt
-  no_taken areas segments directory (Taken n) has = absurd (no_false (filtered_has (λ k. not (is_taken k)) v.facts (Taken n) has).1)
+  no_taken areas segments directory (Taken n) has = absurd (false≢true (filtered_has (λ k. not (is_taken k)) v.facts (Taken n) has).1)
 
   -- a guard is kept that does not go with the one that is given back
   given_keeps : (guard : Guard) (w : View) → w.areas ≡ all_but (goes_with guard) v.areas → (other : Area) → goes_with guard other ≡ false → Keeps w.areas other

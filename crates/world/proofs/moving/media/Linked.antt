@@ -1,7 +1,7 @@
 -- What the link of a stale segment and the slot that it names tell of whatever a cut may leave: that the segment has none of its 1-side, or all of it.
 use Rattle.std.proofs.Common.{◌≡◌, ℕ, suc, ◌+◌, ◌*◌, ◌-◌, ◌/◌, ◌^◌, ◌<◌, ◌≤◌, Bool, true, false, eqb, List, inl, inr, refl, sym, ap, ◌∙◌, subst, arith}
 use Rattle.std.specs.Prelude.{nat_lt, ◌&&◌}
-use Rattle.std.proofs.lemmas.Bool.{eq-eqb, eqb-true, lt-ltb, ltb-true, and_parts, or_cases, or_left, or_right}
+use Rattle.std.proofs.lemmas.Bool.{eq-eqb, eqb-true, lt-ltb, ltb-true, and_parts, or_cases, or_left, or_right, true≢false}
 use Rattle.std.proofs.lemmas.Nat.{pow-add}
 use Rattle.trace.specs.Events.{Words}
 use Rattle.hash_word.specs.Hash.{top, Covers}
@@ -171,7 +171,7 @@ module _ (site : Ground) (words : Words) (views : List View) (j : ℕ) (v : View
           }
 
       unready_now : is_ready_side d q (words (header_word site.shape n)) ≡ false → HasReadySide (frame_of site.shape words) p → ⊥
-      unready_now e r = clash (sym (test_of_ready d q (words (header_word site.shape n)) by_side) ∙ e)
+      unready_now e r = true≢false (sym (test_of_ready d q (words (header_word site.shape n)) by_side) ∙ e)
         where
           same : r.0 ≡ n
           same = (let a = r.1.named in omega (arith, a, linked))
@@ -190,9 +190,6 @@ module _ (site : Ground) (words : Words) (views : List View) (j : ℕ) (v : View
                 zeros = side.zeros ∙ ap (λ z. (2 * z + 1) * 2 ^ (depth_in head - depth_at (frame_of site.shape words) p - 1)) pattern_is
                     ∙ ap (λ z. (2 * q + 1) * 2 ^ (depth_in head - z - 1)) depth_is;
               }
-
-          clash : true ≡ false → ⊥
-          clash e = cc
 
   -- WHAT THE LINKED SLOT TELLS
   pub side_said : (p n d q : ℕ) → MayAt site (finds_side p n d q) v → (fact : Fact) → Has fact (told_by_side (is_ready_side d q (words (header_word site.shape n))) p n d q) → IsSaid site words views fact
