@@ -12,6 +12,7 @@ use Rattle.rounds.specs.Steps.{rounds_stores, rounds_wanted, event_wanted, round
 use Rattle.rounds.specs.Steps as rounds
 use Rattle.repair_op.specs.declared.guarded.Guarded.{Guarded}
 use Rattle.repair_op.specs.Guarded.{guard_of}
+use Rattle.repair_op.specs.Steps.{with_head}
 use Rattle.mend_op.specs.declared.stage.Stage.{Stage}
 use Rattle.mend_op.specs.declared.stage.Stage.TheVariants as stage
 use Rattle.mend_op.specs.declared.op.MendEnd.{MendEnd}
@@ -42,10 +43,6 @@ with_word op i seen = record { guarded = op.guarded; words = slice_set op.words 
 -- a word was stored
 abbrev pub with_stored : MendOp → ℕ → MendOp
 with_stored op i = with_word op i (slice_index op.next i)
-
--- the header was stored
-abbrev pub with_head : Guarded → ℕ → Guarded
-with_head guarded head = record { site = guarded.site; segment = guarded.segment; head = head; side = guarded.side }
 
 -- what a stage makes of the words is to be stored
 abbrev pub prepared : Stage → MendOp → MendOp

@@ -15,18 +15,13 @@ use Rattle.world.specs.areas.Fitting.{HoldsWord}
 use Rattle.world.specs.areas.Rows.{HasNoSides}
 use Rattle.world.specs.areas.Splitting.{IsSettledHolder}
 use Rattle.world.specs.areas.Repairing.{HasStale}
+use Rattle.world.proofs.basics.Lists.{pair_same}
 use Rattle.world.proofs.basics.Seats.{without_has, without_stays}
 use Rattle.repair_op.specs.declared.guarded.Guarded.{Guarded}
 use Rattle.repair_op.specs.Guarded.{IsOld}
+use Rattle.repair_op.specs.Steps.{with_head}
 use Rattle.mend_op.specs.Stands.{place_of, HasSegment, HasAll}
 use Rattle.mend_op.proofs.whole.Words.{no_header, in_slot, head_in_slot}
-
-pub pair_same : (a b x y : ℕ) → a ≡ b → x ≡ y → ◌≡◌ {A = ℕ × ℕ} (a, x) (b, y)
-pair_same a b x y e f = cc
-
--- a header that is another's
-abbrev pub with_header : Guarded → ℕ → Guarded
-with_header guarded head = record { site = guarded.site; segment = guarded.segment; head = head; side = guarded.side }
 
 module _ (site : Ground) (guarded : Guarded) where
   abbrev s : ℕ
@@ -105,7 +100,7 @@ module _ (site : Ground) (guarded : Guarded) where
 
     -- the header is
     pub head_stored : (x n : ℕ) (v : View) → HasAll site guarded words v
-        → HasAll site (with_header guarded x) words (with_store site.shape (header_word site.shape s) n x v.planned v.moving v.owed v)
+        → HasAll site (with_head guarded x) words (with_store site.shape (header_word site.shape s) n x v.planned v.moving v.owed v)
     head_stored x n v a = record {
       areas = a.areas;
       no_locks = a.no_locks;

@@ -12,6 +12,7 @@ use Rattle.world.specs.areas.Areas.{Area, Segment, Side, Whole, header_word}
 use Rattle.world.specs.areas.Rows.{finishes, HasNoSides}
 use Rattle.world.specs.areas.Kinds.{moves, view_then}
 use Rattle.world.specs.areas.Splitting.{link_word, IsSettledHolder, HoldsBucketOf, KnowsHead}
+use Rattle.world.proofs.basics.Lists.{pair_same}
 use Rattle.world.proofs.basics.Seats.{without_has, without_stays}
 use Rattle.enclose_op.specs.Phases.{IsLocated}
 use Rattle.enclose_op.specs.declared.enclosed.Enclosed.{Enclosed}
@@ -21,9 +22,6 @@ use Rattle.enclose_op.proofs.Places.{in_slot, head_in_slot}
 use Rattle.enclose_op.proofs.Held.{hold_same}
 use Rattle.rest_op.proofs.whole.Places.{no_header, no_link, link_no_header, same_bucket}
 use Rattle.rest_op.proofs.whole.Words.{rest_words, same_value, header_here, link_here, bucket_here}
-
-pub pair_same : (a b x y : ℕ) → a ≡ b → x ≡ y → ◌≡◌ {A = ℕ × ℕ} (a, x) (b, y)
-pair_same a b x y e f = cc
 
 module _ (site : Ground) (e : Enclosed) where
   abbrev s : ℕ

@@ -1,4 +1,4 @@
--- Lists with one place changed, lists of zeros, and sums over the views.
+-- Lists with one place changed, lists of zeros, pairs, and sums over the views.
 use Rattle.std.proofs.Common.{◌≡◌, ◌≢◌, ◌⊎◌, ℕ, zero, suc, ◌+◌, ◌≤◌, List, [], ◌∷◌, ◌++◌, set, slice_index, inl, inr, ⊎_elim, refl, sym, ap, ◌∙◌, arith}
 use Rattle.std.specs.Prelude.{replicate}
 use mathlib.Core.Option.{some, some-injective, some-ne-none}
@@ -34,6 +34,10 @@ module _ {A : Type 0} where
   pub has_joined : (xs ys : List A) (a : A) → Has a (xs ++ ys) → Has a xs ⊎ Has a ys
   has_joined [] ys a h = inr h
   has_joined (x ∷ xs) ys a h = elim h [ inl e ↦ inl (inl e) | inr r ↦ elim (has_joined xs ys a r) [ inl s ↦ inl (inr s) | inr s ↦ inr s ] ]
+
+-- pairs with the same parts are the same
+pub pair_same : (a b x y : ℕ) → a ≡ b → x ≡ y → ◌≡◌ {A = ℕ × ℕ} (a, x) (b, y)
+pair_same a b x y e f = cc
 
 -- a list of zeros has 0 everywhere
 pub zeros : (n i : ℕ) → slice_index (replicate n 0) i ≡ 0
