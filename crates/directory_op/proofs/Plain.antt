@@ -36,6 +36,7 @@ use Rattle.directory_op.specs.Steps.{shape_of, next_store, wanted_in}
 use Rattle.directory_op.specs.Fits.{SuitsStage, SuitsStore, SuitsStep, KeepsPublished}
 use Rattle.directory_op.specs.DirectoryPart.{HandsOnSplit, goes_on, outcome_at, directory_part, BeginsAsPart, BeginsUndecided, HandsOnPublished, EndsOff}
 use Rattle.part.specs.Outcomes.{off}
+use Rattle.part.proofs.Asking.{store_puts, flush_puts, load_puts, fence_puts, done_puts}
 use Rattle.directory_op.proofs.Sides.{head_kept, split_header, bucket_kept}
 use Rattle.directory_op.proofs.Words.{doubled, head_is}
 use Rattle.directory_op.proofs.stages.Rounding.{next_near, entry_near}
@@ -100,21 +101,6 @@ pub asks_within : AsksWithin directory_part
 asks_within site here call op before v ground s = within_in site ground here call op v op.step s.stands
 
 -- ---- words alone are put
-store_puts : (i x : ℕ) → x < 2 ^ 64 → PutsWord (want.Store i x)
-store_puts i x small = record { stores = λ k y e. (let same : x ≡ y = (let z : want.Store i x ≡ want.Store k y = e in cc) in subst (λ z. z < 2 ^ 64) same small); exchanges = λ k a b e. absurd (cc) }
-
-flush_puts : (line : ℕ) → PutsWord (want.Flush line)
-flush_puts line = record { stores = λ k y e. absurd (cc); exchanges = λ k a b e. absurd (cc) }
-
-load_puts : (i : ℕ) → PutsWord (want.Load i)
-load_puts i = record { stores = λ k y e. absurd (cc); exchanges = λ k a b e. absurd (cc) }
-
-fence_puts : PutsWord want.Fence
-fence_puts = record { stores = λ k y e. absurd (cc); exchanges = λ k a b e. absurd (cc) }
-
-done_puts : PutsWord want.Done
-done_puts = record { stores = λ k y e. absurd (cc); exchanges = λ k a b e. absurd (cc) }
-
 module _ (site : Ground) (here : Site) (call : Call) (op : DirectoryOp) (v : View) where
   -- the header of the side is a word, so it is one as that of a live segment
   live_small : op.side_head ≡ side_head op.copied.whole → op.copied.whole.site.version < 2 ^ 8 → live_head op.side_head < 2 ^ 64

@@ -7,4 +7,5 @@ pub mod Renaming
 pub mod Turning
 pub mod Leading
 pub mod Still
+pub mod Asking
 mod Counting

@@ -22,6 +22,7 @@ use Rattle.world.proofs.mild.Kept.{steps_reply_nothing}
 use Rattle.part.specs.Outcomes.{reply_of}
 use Rattle.part.specs.Part.{LeavesKnown}
 use Rattle.part.specs.Asks.{IsWithin, PutsWord}
+use Rattle.part.proofs.Asking.{store_puts, exchange_puts, flush_puts, load_puts, fence_puts, done_puts}
 use Rattle.repair_op.proofs.Handing.{same_more}
 use Rattle.rounds.specs.Steps.{rounds_wanted}
 use Rattle.rounds.proofs.Events.{events_end}
@@ -94,24 +95,6 @@ module _ (site : Ground) (ground : IsGround site) (here : Site) (call : Call) (o
   within_at (Ended end) s = done_within
 
 -- ---- words alone are put
-store_puts : (i x : ℕ) → x < 2 ^ 64 → PutsWord (want.Store i x)
-store_puts i x small = record { stores = λ k y e. (let same : x ≡ y = (let z : want.Store i x ≡ want.Store k y = e in cc) in subst (λ z. z < 2 ^ 64) same small); exchanges = λ k a b e. absurd (cc) }
-
-flush_puts : (line : ℕ) → PutsWord (want.Flush line)
-flush_puts line = record { stores = λ k y e. absurd (cc); exchanges = λ k a b e. absurd (cc) }
-
-load_puts : (i : ℕ) → PutsWord (want.Load i)
-load_puts i = record { stores = λ k y e. absurd (cc); exchanges = λ k a b e. absurd (cc) }
-
-exchange_puts : (i x : ℕ) → x < 2 ^ 64 → PutsWord (want.Exchange i 0 x)
-exchange_puts i x small = record { stores = λ k y e. absurd (cc); exchanges = λ k a b e. (let same : x ≡ b = (let z : want.Exchange i 0 x ≡ want.Exchange k a b = e in cc) in subst (λ z. z < 2 ^ 64) same small) }
-
-fence_puts : PutsWord want.Fence
-fence_puts = record { stores = λ k y e. absurd (cc); exchanges = λ k a b e. absurd (cc) }
-
-done_puts : PutsWord want.Done
-done_puts = record { stores = λ k y e. absurd (cc); exchanges = λ k a b e. absurd (cc) }
-
 module _ (site : Ground) (here : Site) (call : Call) (op : RedirectOp) (v : View) where
   abbrev Stood : RedirectStep → Type 0
   Stood s = SuitsStep site here call op s v

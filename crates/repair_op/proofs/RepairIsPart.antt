@@ -30,6 +30,7 @@ use Rattle.world.proofs.mild.Kept.{steps_reply_nothing}
 use Rattle.part.specs.Outcomes.{reply_of}
 use Rattle.part.specs.Part.{IsPart, LeavesKnown}
 use Rattle.part.specs.Asks.{IsWithin, PutsWord}
+use Rattle.part.proofs.Asking.{store_puts, exchange_puts, flush_puts, load_puts, fence_puts, done_puts}
 use Rattle.phase.proofs.Handing.{same_more}
 use Rattle.repair_op.specs.declared.guarded.Guarded.{Guarded}
 use Rattle.repair_op.specs.declared.step.RepairEnd.{RepairEnd}
@@ -443,19 +444,10 @@ module _ (site : Ground) (here : Site) (call : Call) (op : RepairOp) (runs : Run
   within_at (Ended end) s = counter_in want.Done refl (λ l same. absurd (cc))
 
   -- ---- what it puts into the memory
-  store_puts : (i x : ℕ) → x < 2 ^ 64 → PutsWord (want.Store i x)
-  store_puts i x low = record { stores = λ j y same. (let is : x ≡ y = cc in subst (λ z. z < 2 ^ 64) is low); exchanges = λ j a b same. absurd (cc) }
-
-  exchange_puts : (i x : ℕ) → x < 2 ^ 64 → PutsWord (want.Exchange i 0 x)
-  exchange_puts i x low = record { stores = λ j y same. absurd (cc); exchanges = λ j a b same. (let is : x ≡ b = cc in subst (λ z. z < 2 ^ 64) is low) }
-
-  load_puts : (i : ℕ) → PutsWord (want.Load i)
-  load_puts i = record { stores = λ j x same. absurd (cc); exchanges = λ j a b same. absurd (cc) }
-
   settle_puts : (settling : Settling) (word x : ℕ) → x < 2 ^ 64 → PutsWord (settle_wanted settling word x)
   settle_puts settling.Store word x low = store_puts word x low
-  settle_puts settling.Flush word x low = record { stores = λ j y same. absurd (cc); exchanges = λ j a b same. absurd (cc) }
-  settle_puts settling.Fence word x low = record { stores = λ j y same. absurd (cc); exchanges = λ j a b same. absurd (cc) }
+  settle_puts settling.Flush word x low = flush_puts _
+  settle_puts settling.Fence word x low = fence_puts
 
   puts_at : (s : RepairStep) → SuitsStep site here call h s v → PutsWord (wanted_in op s)
   puts_at Guard s = exchange_puts _ h.site.caller runs.caller
@@ -467,7 +459,7 @@ module _ (site : Ground) (here : Site) (call : Call) (op : RepairOp) (runs : Run
   puts_at GiveSlots s = store_puts _ 0 (omega arith)
   puts_at (Unmark settling) s = settle_puts settling _ (with_state h.head normal) (state_small h.head normal s.cut.old.fits (omega arith))
   puts_at (Give end) s = store_puts _ 0 (omega arith)
-  puts_at (Ended end) s = record { stores = λ j y same. absurd (cc); exchanges = λ j a b same. absurd (cc) }
+  puts_at (Ended end) s = done_puts
 
   -- ---- nothing is planned, and nothing held at the end but what is handed on
   end_plan : (end : RepairEnd) → SuitsStep site here call h (Ended end) v → v.planned ≡ []

@@ -25,6 +25,7 @@ use Rattle.world.specs.StepLaws.{IsPublishingStep}
 use Rattle.part.specs.Outcomes.{reply_of}
 use Rattle.part.specs.Part.{LeavesKnown, IsPart}
 use Rattle.part.specs.Asks.{IsWithin, PutsWord}
+use Rattle.part.proofs.Asking.{store_puts, flush_puts, fence_puts, done_puts}
 use Rattle.enclose_op.specs.Phases.{IsLocated}
 use Rattle.enclose_op.proofs.Handing.{same_more}
 use Rattle.rounds.specs.declared.rounds.Rounds.{Rounds}
@@ -273,12 +274,6 @@ module _ (site : Ground) (good : IsGround site) (op : RestOp) (l : IsLocated sit
   within_at Ended s = none_in wants.Done refl (λ n same. absurd (cc))
 
 -- ---- what it puts into the memory
-store_puts : (i x : ℕ) → x < 2 ^ 64 → PutsWord (wants.Store i x)
-store_puts i x low = record { stores = λ j y same. (let is : x ≡ y = cc in subst (λ z. z < 2 ^ 64) is low); exchanges = λ j a b same. absurd (cc) }
-
-none_puts : (w : Want) → ((i x : ℕ) → w ≡ wants.Store i x → ⊥) → ((i a b : ℕ) → w ≡ wants.Exchange i a b → ⊥) → PutsWord w
-none_puts w no_store no_exchange = record { stores = λ i x same. absurd (no_store i x same); exchanges = λ i a b same. absurd (no_exchange i a b same) }
-
 module _ (op : RestOp) (reckoned : IsReckoned op) where
   rest_small : rest_head op.whole < 2 ^ 64
   rest_small = header_below (version_in op.whole.head) normal ((depth_in op.whole.head + 1) % 2 ^ 8) (2 * pattern_in op.whole.head % 2 ^ 32) (omega arith) (omega arith) (omega arith) (omega arith)
@@ -287,24 +282,21 @@ module _ (op : RestOp) (reckoned : IsReckoned op) where
   note_small n true = reckoned.first_small (note_home n)
   note_small n false = reckoned.third_small (note_home n)
 
-  none_done : PutsWord wants.Done
-  none_done = none_puts wants.Done (λ i x same. absurd (cc)) (λ i x y same. absurd (cc))
-
   clear_puts : (b : ℕ) (rounds : Rounds) → PutsWord (event_wanted rounds (due op b))
-  clear_puts b rounds = by_wanted rounds (due op b) PutsWord none_done
+  clear_puts b rounds = by_wanted rounds (due op b) PutsWord done_puts
       (λ p due. store_puts p.0 p.1 (subst (λ x. x < 2 ^ 64) (sym (due_is op b p.0 p.1 due).2) (reckoned.cleared_small b)))
-      (λ line has. none_puts (wants.Flush line) (λ i x same. absurd (cc)) (λ i x y same. absurd (cc)))
-      (none_puts wants.Fence (λ i x same. absurd (cc)) (λ i x y same. absurd (cc)))
+      (λ line has. flush_puts line)
+      fence_puts
 
   puts_at : (s : RestStep) → PutsWord (wanted_in op s)
   puts_at (Clear b rounds) = clear_puts b rounds
   puts_at Head = store_puts _ (rest_head op.whole) rest_small
-  puts_at HeadFlush = none_puts _ (λ i x same. absurd (cc)) (λ i x y same. absurd (cc))
-  puts_at HeadFence = none_puts wants.Fence (λ i x same. absurd (cc)) (λ i x y same. absurd (cc))
+  puts_at HeadFlush = flush_puts _
+  puts_at HeadFence = fence_puts
   puts_at (Note n) = store_puts (note_word op n) (note_value op n) (note_small n (n % 2 == 0))
   puts_at Open = give_puts op.whole (giving.Lock 0 buckets)
   puts_at (Give give) = give_puts op.whole give
-  puts_at Ended = none_done
+  puts_at Ended = done_puts
 
 -- ---- nothing is planned, and nothing held at the end
 no_plan : (site : Ground) (op : RestOp) (s : RestStep) (v : View) → SuitsStep site op s v → v.planned ≡ []

@@ -11,6 +11,7 @@ use Rattle.world.specs.Views.{View, Has}
 use Rattle.world.specs.Wants.{word_of}
 use Rattle.world.specs.areas.Areas.{header_word}
 use Rattle.part.specs.Asks.{IsWithin, PutsWord}
+use Rattle.part.proofs.Asking.{store_puts, flush_puts, load_puts, fence_puts, done_puts}
 use Rattle.rounds.specs.declared.rounds.Rounds.{Rounds}
 use Rattle.rounds.specs.Steps.{event_wanted}
 use Rattle.rounds.proofs.Wanted.{by_wanted}
@@ -126,37 +127,28 @@ module _ (site : Ground) (good : IsGround site) (here : Site) (op : MendOp) (is 
   within_at Ended c = none_in wants.Done refl (λ n same. absurd (cc))
 
 -- ---- what it puts into the memory
-store_puts : (i x : ℕ) → x < 2 ^ 64 → PutsWord (wants.Store i x)
-store_puts i x low = record { stores = λ j y same. (let is : x ≡ y = cc in subst (λ z. z < 2 ^ 64) is low); exchanges = λ j a b same. absurd (cc) }
-
-none_puts : (w : Want) → ((i x : ℕ) → w ≡ wants.Store i x → ⊥) → ((i a b : ℕ) → w ≡ wants.Exchange i a b → ⊥) → PutsWord w
-none_puts w no_store no_exchange = record { stores = λ i x same. absurd (no_store i x same); exchanges = λ i a b same. absurd (no_exchange i a b same) }
-
 module _ (site : Ground) (here : Site) (op : MendOp) (is : IsOf site here op) (small : op.guarded.site.version < 2 ^ 8) where
   due_puts : (t : Stage) (n i x : ℕ) → due op t n ≡ Some (i, x) → PutsWord (wants.Store i x)
   due_puts t n i x same = let d = due_is op t n i x same in store_puts i x (subst (λ y. y < 2 ^ 64) (sym d.value_is) (is.next_small (place t n)))
 
-  none_done : PutsWord wants.Done
-  none_done = none_puts wants.Done (λ i x same. absurd (cc)) (λ i x y same. absurd (cc))
-
   round_puts : (t : Stage) (n : ℕ) (rounds : Rounds) → PutsWord (event_wanted rounds (due op t n))
-  round_puts t n rounds = by_wanted rounds (due op t n) PutsWord none_done (λ p same. due_puts t n p.0 p.1 same)
-      (λ line has. none_puts (wants.Flush line) (λ i x same. absurd (cc)) (λ i x y same. absurd (cc)))
-      (none_puts wants.Fence (λ i x same. absurd (cc)) (λ i x y same. absurd (cc)))
+  round_puts t n rounds = by_wanted rounds (due op t n) PutsWord done_puts (λ p same. due_puts t n p.0 p.1 same)
+      (λ line has. flush_puts line)
+      fence_puts
 
   stored_puts : (o : Option (ℕ × ℕ)) (n : ℕ) → due op stage.Note n ≡ o → PutsWord (store_wanted o)
   stored_puts (Some next) n same = due_puts stage.Note n next.0 next.1 same
-  stored_puts None n same = none_done
+  stored_puts None n same = done_puts
 
   pub puts_at : (t : MendStep) → PutsWord (wanted_in op t)
-  puts_at (Fill i) = none_puts _ (λ i x same. absurd (cc)) (λ i x y same. absurd (cc))
+  puts_at (Fill i) = load_puts _
   puts_at (Round t n rounds) = round_puts t n rounds
   puts_at Finish = store_puts _ (finished_head op.guarded.head) (finished_small op.guarded.head)
-  puts_at FinishFlush = none_puts _ (λ i x same. absurd (cc)) (λ i x y same. absurd (cc))
-  puts_at FinishFence = none_puts wants.Fence (λ i x same. absurd (cc)) (λ i x y same. absurd (cc))
+  puts_at FinishFlush = flush_puts _
+  puts_at FinishFence = fence_puts
   puts_at (Note n) = stored_puts (due op stage.Note n) n refl
   puts_at Renew = store_puts _ (renewed_head op.guarded.site.version op.guarded.head) (renewed_small op.guarded.site.version op.guarded.head small is.old.fits)
-  puts_at RenewFlush = none_puts _ (λ i x same. absurd (cc)) (λ i x y same. absurd (cc))
-  puts_at RenewFence = none_puts wants.Fence (λ i x same. absurd (cc)) (λ i x y same. absurd (cc))
+  puts_at RenewFlush = flush_puts _
+  puts_at RenewFence = fence_puts
   puts_at Give = store_puts _ 0 (omega arith)
-  puts_at Ended = none_done
+  puts_at Ended = done_puts
