@@ -1,9 +1,9 @@
 -- What holds of the state of a run between any two events.
-use Rattle.std.specs.Prelude.{◌≡◌, ℕ, suc, ◌+◌, ◌*◌, ◌<◌, ◌≤◌, ⊤, Option, None, Some, List, [], ◌∷◌, length, map, take, slice_index}
+use Rattle.std.specs.Prelude.{◌≡◌, ℕ, suc, ◌<◌, ◌≤◌, ⊤, Option, None, Some, List, [], ◌∷◌, length, map, take, slice_index}
 use Rattle.std.specs.List.{AllByRecursion}
 use Rattle.op_core.specs.declared.want.Want.{Want}
 use Rattle.op_core.specs.declared.want.Want.TheVariants.{Flush, Done}
-use Rattle.trace.specs.Events.{Words, Trace}
+use Rattle.trace.specs.Events.{Words, Trace, HasLine}
 use Rattle.trace.specs.Progress.{pending}
 use Rattle.image_layout.specs.Places.{Shape, state_word, words_of}
 use Rattle.image_layout.specs.Volatile.{all_words_of}
@@ -109,7 +109,7 @@ IsRunning t s = IsRunningBy t s.keeper s.core
 -- lines of the caller wait
 pub record MayBeDone (t : Setup) (c : ℕ) (core : Core) (w : Want) : Type 0 where
   pub word : word_of t.shape w < all_words_of t.shape
-  pub line : (l : ℕ) → w ≡ Flush l → 8 * l + 8 ≤ words_of t.shape
+  pub line : (l : ℕ) → w ≡ Flush l → HasLine (words_of t.shape) l
   pub few : (l : ℕ) → w ≡ Flush l → length (pending c core.trace) < 8
   pub some : w ≡ Done → ⊥
 

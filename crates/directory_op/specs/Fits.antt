@@ -1,6 +1,7 @@
 -- How the view of the caller stands in each step: what it holds and knows of the segment, of its side and of the directory, and what is
 -- not settled.
 use Rattle.std.specs.Prelude.{◌≡◌, ◌≢◌, None, ℕ, suc, ◌+◌, ◌-◌, ◌*◌, ◌/◌, ◌%◌, ◌^◌, ◌<◌, ◌≤◌, ◌⊎◌, List, [], ◌∷◌}
+use Rattle.trace.specs.Events.{HasLine}
 use Rattle.bucket_meta.specs.Bucket.{record_slots}
 use Rattle.segment_head.specs.HeadWord.{depth_in, pattern_in}
 use Rattle.image_layout.specs.Places.{Shape, block, root_word, entry_at, bucket_at, buckets, words_of}
@@ -143,7 +144,7 @@ module _ (site : Ground) (here : Site) (op : DirectoryOp) where
     pub heads : HasHeads
     pub round : RoundStands op.rounds v
     pub loose : (p : ℕ × ℕ) → IsLoose v p → IsStoredIn stage p.0
-    pub lines : (line : ℕ) → Has line op.rounds.round → 8 * line + 8 ≤ words_of site.shape
+    pub lines : (line : ℕ) → Has line op.rounds.round → HasLine (words_of site.shape) line
 
   module _ (call : Call) where
     -- ---- while the directory is doubled

@@ -1,6 +1,7 @@
 //! The slots with a fingerprint, as a set of bits: bit `s` is of record slot `s`, of 14.
 
 ghost use Rattle.std.specs.Prelude.{◌^◌, ◌<◌};
+ghost use Rattle.bucket_meta.specs.Bucket.{record_slots};
 ghost use Rattle.finger_scan.specs.Scan.{IsScanOf};
 
 use bucket_meta::words;
@@ -15,7 +16,7 @@ const SLOTS: u64 = 0x3FFF;
 /// are left out of the answer.
 pub fn scan(fps: [u8; words::SLOTS as usize], byte: u8) -> u16
     ensures scan { IsScanOf fps byte result }
-    ensures within { result < 2 ^ 14 }
+    ensures within { result < 2 ^ record_slots }
 {
     let [f0, f1, f2, f3, f4, f5, f6, f7, f8, f9, f10, f11, f12, f13] = fps;
     let lanes = u8x16::from_array([
@@ -28,7 +29,7 @@ pub fn scan(fps: [u8; words::SLOTS as usize], byte: u8) -> u16
 /// What [`scan`] gives, by a loop over the fingerprints.
 pub fn scan_plain(fps: [u8; words::SLOTS as usize], byte: u8) -> u16
     ensures scan { IsScanOf fps byte result }
-    ensures within { result < 2 ^ 14 }
+    ensures within { result < 2 ^ record_slots }
 {
     let mut found = 0;
     for (slot, finger) in fps.iter().enumerate() {

@@ -2,7 +2,7 @@
 
 ghost use Rattle.std.specs.Prelude.{◌≡◌, ◌≢◌, ℕ, ◌+◌, ◌^◌, ◌<◌, ◌≤◌};
 ghost use Rattle.trace.specs.Events.{Words, with_word};
-ghost use Rattle.image_layout.specs.Places.{Shape, root_word, entry_at, head_at, bucket_at, block, buckets};
+ghost use Rattle.image_layout.specs.Places.{Shape, most_depth, root_word, entry_at, head_at, bucket_at, block, buckets};
 ghost use Rattle.sound_image.specs.Segments.{Frame, frame_of};
 ghost use Rattle.segment_table.specs.Claims.{IsSoundFrame};
 ghost use Rattle.segment_table.specs.Stores.{TakesSlot, FreesSlot, Links, BeginsSplit, GoesLive, NamesClaimer, NamesSide, EndsSplit, DropsSplit, Renews};
@@ -39,7 +39,7 @@ pub fn header_stores_keep_facts()
 
 /// A new side has one parent: so a slot that a segment of an older version splits to may be freed.
 pub fn new_sides_have_one_parent()
-    ensures { (greatest : ℕ) (frame : Frame) → greatest ≤ 16 → IsSoundFrame greatest frame → (version other s t n : ℕ)
+    ensures { (greatest : ℕ) (frame : Frame) → greatest ≤ most_depth → IsSoundFrame greatest frame → (version other s t n : ℕ)
         → IsNewSide frame version s n → IsNewSide frame other t n → s ≡ t }
 {}
 

@@ -1,7 +1,7 @@
 //! Rule 3: each entry of the directory leads to the owner of its hashes.
 
 ghost use Rattle.std.specs.Prelude.{◌≡◌, ℕ, ◌+◌, ◌-◌, ◌*◌, ◌^◌, ◌<◌, ◌≤◌, ◌↔◌, IfSome, IfNone, IsTrue, length, slice_index};
-ghost use Rattle.image_layout.specs.Places.{words_of, most_depth};
+ghost use Rattle.image_layout.specs.Places.{words_of, root_word, most_depth};
 ghost use Rattle.sound_image.specs.Segments.{frame_of, LeadsToOwner};
 ghost use Rattle.sound_image.specs.Directory.{EntryLeads};
 ghost use Rattle.sound_image.specs.Rules.{EntriesLead};
@@ -80,7 +80,7 @@ fn first_hash(root: u64, i: u64) -> u64
 fn root_of(geometry: &Geometry, words: &[u64]) -> u64
     requires whole { length words.now ≡ words_of geometry.now }
     requires numbered { IsNumbered geometry.now (slice_index words.now) }
-    ensures is { result ≡ slice_index words.now 8 }
+    ensures is { result ≡ slice_index words.now root_word }
     ensures within { result ≤ geometry.now.depth }
     ensures most { result ≤ most_depth }
 {
@@ -92,7 +92,7 @@ fn root_of(geometry: &Geometry, words: &[u64]) -> u64
 fn entry_leads(geometry: &Geometry, words: &[u64], i: u64) -> bool
     requires whole { length words.now ≡ words_of geometry.now }
     requires divided { IsDivided geometry.now (slice_index words.now) }
-    requires entry { i < 2 ^ slice_index words.now 8 }
+    requires entry { i < 2 ^ slice_index words.now root_word }
     ensures { IsTrue result ↔ EntryLeads (frame_of geometry.now (slice_index words.now)) i }
 {
     let root = root_of(geometry, words);

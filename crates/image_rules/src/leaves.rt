@@ -3,7 +3,7 @@
 //! depth. One pass over the segments finds the depth of the deepest one over each leaf, and with it who owns what.
 
 ghost use Rattle.std.specs.Prelude.{◌≡◌, ◌≢◌, ℕ, ◌+◌, ◌-◌, ◌*◌, ◌/◌, ◌^◌, ◌<◌, ◌≤◌, ◌↔◌, IfOk, IfSome, IfNone, IsTrue, length, slice_index, slice_set};
-ghost use Rattle.image_layout.specs.Places.{words_of, entry_at, most_depth};
+ghost use Rattle.image_layout.specs.Places.{words_of, root_word, entry_at, most_depth};
 ghost use Rattle.sound_image.specs.Segments.{frame_of, IsLive};
 ghost use Rattle.sound_image.specs.Directory.{SharesWell};
 ghost use Rattle.sound_image.specs.Rules.{HashesAreOwned};
@@ -258,7 +258,7 @@ fn entry_over(geometry: &Geometry, words: &[u64], leaf: usize) -> u64
     requires whole { length words.now ≡ words_of geometry.now }
     requires numbered { IsNumbered geometry.now (slice_index words.now) }
     requires leaf { leaf < 2 ^ geometry.now.depth }
-    ensures { result ≡ entry_at (slice_index words.now 8) (leaf / 2 ^ (geometry.now.depth - slice_index words.now 8)) }
+    ensures { result ≡ entry_at (slice_index words.now root_word) (leaf / 2 ^ (geometry.now.depth - slice_index words.now root_word)) }
 {
     let root = words[ROOT_WORD as usize];
     geometry.entry_at(root, leaf as u64 >> (geometry.depth() - root))

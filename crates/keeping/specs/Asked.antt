@@ -1,5 +1,6 @@
 -- When a memory can do an event, and what the event finds.
-use Rattle.std.specs.Prelude.{◌≡◌, ℕ, ◌*◌, ◌+◌, ◌<◌, ◌≤◌, slice_index}
+use Rattle.std.specs.Prelude.{◌≡◌, ℕ, ◌<◌, ◌≤◌, slice_index}
+use Rattle.trace.specs.Events.{HasLine}
 use Rattle.op_core.specs.declared.want.Want.{Want}
 use Rattle.op_core.specs.declared.want.Want.TheVariants.{Flush, Done}
 use Rattle.image_layout.specs.Places.{words_of}
@@ -16,6 +17,6 @@ found_by w memory = slice_index memory.newest (word_of memory.shape w)
 pub record MayBeAsked (caller : ℕ) (w : Want) (memory : Memory) : Type 0 where
   pub caller_is : caller ≤ memory.callers
   pub word : word_of memory.shape w < all_words_of memory.shape
-  pub line : (l : ℕ) → w ≡ Flush l → 8 * l + 8 ≤ words_of memory.shape
+  pub line : (l : ℕ) → w ≡ Flush l → HasLine (words_of memory.shape) l
   pub few : (l : ℕ) → w ≡ Flush l → unfenced caller memory < 8
   pub some : w ≡ Done → ⊥

@@ -1,5 +1,6 @@
 -- What a contract sees of a device: its words, newest and settled, and the lines that were flushed and not yet fenced.
-use Rattle.std.specs.Prelude.{ℕ, ◌+◌, ◌*◌, ◌≤◌, ◌==◌, List, length, filter}
+use Rattle.std.specs.Prelude.{ℕ, ◌==◌, List, length, filter}
+use Rattle.trace.specs.Events.{HasLine}
 use Rattle.image_layout.specs.Places.{Shape, words_of}
 use Rattle.pm_trace.specs.declared.flushes.Flush.{Flush}
 
@@ -16,7 +17,7 @@ pub record Memory : Type 0 where
 
 -- a line of the image
 abbrev pub IsLine : Shape → ℕ → Type 0
-IsLine shape line = 8 * line + 8 ≤ words_of shape
+IsLine shape line = HasLine (words_of shape) line
 
 -- the flushes of a caller among these
 abbrev pub flushes_of : ℕ → List Flush → List Flush

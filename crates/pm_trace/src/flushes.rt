@@ -1,11 +1,12 @@
 //! The flushes that their callers have not fenced.
 
-ghost use Rattle.std.specs.Prelude.{◌≡◌, ◌<◌, ◌≤◌, ◌+◌, ◌*◌, ◌==◌, not, All, filter, map, length, vec_len, vec_capacity};
+ghost use Rattle.std.specs.Prelude.{◌≡◌, ◌<◌, ◌≤◌, ◌==◌, not, All, filter, map, length, vec_len, vec_capacity};
+ghost use Rattle.trace.specs.Events.{HasLine};
 ghost use Rattle.pm_trace.specs.Memory.{flushes_of};
 ghost use Rattle.pm_trace.specs.FlushLists.{is_of, added, with_line, settled_by, renewed, renewed_by, left_by};
 
 /// How many words a line has.
-pub(crate) const LINE: usize = 8;
+pub(crate) const LINE: usize = trace::LINE as usize;
 
 /// A line that a caller flushed, with its words then, or with later ones that were settled since.
 #[derive(Clone, Copy)]
@@ -45,7 +46,7 @@ pub(crate) fn add(flushes: &mut Vec<Flush>, flush: Flush)
 }
 
 fn settle_line(words: &mut [u64], line: u64, values: &[u64; LINE])
-    requires { 8 * line + 8 ≤ length words.old }
+    requires { HasLine (length words.old) line }
     ensures { words.new ≡ with_line words.old line values.now }
 {
     let at = LINE * line as usize;
@@ -54,7 +55,7 @@ fn settle_line(words: &mut [u64], line: u64, values: &[u64; LINE])
 
 /// Settles what a caller flushed.
 pub(crate) fn settle(words: &mut [u64], flushes: &[Flush], caller: u8)
-    requires { All (λ f. 8 * f.line + 8 ≤ length words.old) flushes.now }
+    requires { All (λ f. HasLine (length words.old) f.line) flushes.now }
     ensures { words.new ≡ settled_by caller flushes.now words.old }
 {
     for flush in flushes {

@@ -1,5 +1,6 @@
 -- How the redirecting of entries fits the world: the kind of each event, and how the view of its caller stands in each step.
-use Rattle.std.specs.Prelude.{◌≡◌, ◌≢◌, ℕ, ◌+◌, ◌*◌, ◌^◌, ◌<◌, ◌≤◌, ◌⊎◌, ⊤, None, Some, List, [], ◌∷◌}
+use Rattle.std.specs.Prelude.{◌≡◌, ◌≢◌, ℕ, ◌^◌, ◌<◌, ◌≤◌, ◌⊎◌, ⊤, None, Some, List, [], ◌∷◌}
+use Rattle.trace.specs.Events.{HasLine}
 use Rattle.segment_head.specs.HeadWord.{depth_in, pattern_in}
 use Rattle.image_layout.specs.Places.{root_word, entry_at, words_of}
 use Rattle.frame_facts.specs.Facts.{Fact, Lives, Lacks, Deep, Begins}
@@ -117,7 +118,7 @@ module _ (site : Ground) (here : Site) (g : Guarded) where
       -- the rounds have touched lines of the image
       pub record StandsInRounds (v : View) : Type 0 where
         pub round : RoundStands rounds v
-        pub lines : (line : ℕ) → Has line rounds.round → 8 * line + 8 ≤ words_of site.shape
+        pub lines : (line : ℕ) → Has line rounds.round → HasLine (words_of site.shape) line
 
       -- while entries are stored in rounds: this one comes next
       pub record ComesNext (index : ℕ) (v : View) : Type 0 where

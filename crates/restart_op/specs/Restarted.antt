@@ -1,8 +1,8 @@
 -- What a restart does to the image that it is run on: after any number of its events, and at its end.
-use Rattle.std.specs.Prelude.{◌≡◌, ◌≢◌, ℕ, ◌+◌, ◌*◌, ◌^◌, ◌<◌, ◌≤◌, ◌↔◌, true, List, [], ◌∷◌, length, replicate, slice_index}
+use Rattle.std.specs.Prelude.{◌≡◌, ◌≢◌, ℕ, ◌+◌, ◌^◌, ◌<◌, ◌≤◌, ◌↔◌, true, List, [], ◌∷◌, length, replicate, slice_index}
 use Rattle.std.specs.FinMap.{get}
 use Rattle.segment_head.specs.Versions.{unversioned}
-use Rattle.trace.specs.Events.{Words, Trace}
+use Rattle.trace.specs.Events.{Words, Trace, HasLine}
 use Rattle.trace.specs.Progress.{pending}
 use Rattle.trace.specs.Media.{IsPossible}
 use Rattle.image_layout.specs.Places.{Shape, IsShape, state_word, words_of}
@@ -61,7 +61,7 @@ RestartCounts = (shape : Shape) (words : List ℕ) (n : ℕ) → IsShape shape �
 pub record IsAsked (shape : Shape) (c : Course wanted taken shape) : Type 0 where
   pub asks : wanted c.op ≢ Done
   pub word : word_of shape (wanted c.op) < all_words_of shape
-  pub line : (l : ℕ) → wanted c.op ≡ want.Flush l → 8 * l + 8 ≤ words_of shape
+  pub line : (l : ℕ) → wanted c.op ≡ want.Flush l → HasLine (words_of shape) l
   pub few : (l : ℕ) → wanted c.op ≡ want.Flush l → length (pending 0 c.trace) < 8
 
 abbrev pub RestartAsks : Type 0

@@ -3,7 +3,7 @@
 ghost use Rattle.std.specs.Prelude.{◌≡◌, ◌≢◌, ◌↔◌, ℕ, ◌+◌, ◌^◌, ◌<◌, ◌≤◌, Option, None, Some};
 ghost use Rattle.trace.specs.Events.{with_word};
 ghost use Rattle.hash_word.specs.Hash.{index_of};
-ghost use Rattle.sound_image.specs.Places.{Shape, IsShape, root_word, state_word, entry_at, head_at, bucket_at, words_of};
+ghost use Rattle.sound_image.specs.Places.{Shape, IsShape, most_depth, block, buckets, root_word, state_word, entry_at, head_at, bucket_at, words_of};
 ghost use Rattle.sound_image.specs.Segments.{ImageWords, Frame, frame_of, depth_at, IsLive, CoversHash, IsLiveFor, Owns, InOneSide, IsReadySide, HasReadySide};
 ghost use Rattle.segment_table.specs.Claims.{Claims, ClaimsNoOneSide, ClaimsOneSide, IsSideEntry, IsSoundFrame, HasSoundFrame, FollowsFrameRules};
 ghost use Rattle.segment_table.specs.Owner.{owner};
@@ -20,19 +20,19 @@ pub fn rules_are_local()
 
 /// In a sound frame the segment that claims a hash is its owner, and the owner is what is computed, which looks at headers alone.
 pub fn owners_are_computed()
-    ensures claimer { (greatest : ℕ) (frame : Frame) → greatest ≤ 16 → IsSoundFrame greatest frame → (s h : ℕ) → h < 2 ^ 64 → Claims frame s h ↔ Owns frame s h }
-    ensures computed { (greatest : ℕ) (frame : Frame) → greatest ≤ 16 → IsSoundFrame greatest frame → (s h : ℕ) → h < 2 ^ 64
+    ensures claimer { (greatest : ℕ) (frame : Frame) → greatest ≤ most_depth → IsSoundFrame greatest frame → (s h : ℕ) → h < 2 ^ 64 → Claims frame s h ↔ Owns frame s h }
+    ensures computed { (greatest : ℕ) (frame : Frame) → greatest ≤ most_depth → IsSoundFrame greatest frame → (s h : ℕ) → h < 2 ^ 64
         → Owns frame s h ↔ (owner frame h ≡ Some s) }
-    ensures every { (greatest : ℕ) (frame : Frame) → greatest ≤ 16 → IsSoundFrame greatest frame → (h : ℕ) → h < 2 ^ 64 → owner frame h ≢ None }
+    ensures every { (greatest : ℕ) (frame : Frame) → greatest ≤ most_depth → IsSoundFrame greatest frame → (h : ℕ) → h < 2 ^ 64 → owner frame h ≢ None }
     ensures headers { (frame other : Frame) (h : ℕ) → other.segments ≡ frame.segments → ((s : ℕ) → s < frame.segments → other.header s ≡ frame.header s)
         → owner other h ≡ owner frame h }
 {}
 
 /// A live segment has a ready side exactly where it claims no hash of its 1-side, and has none exactly where it claims each.
 pub fn claims_tell_ready_sides()
-    ensures ready { (greatest : ℕ) (frame : Frame) → greatest ≤ 16 → IsSoundFrame greatest frame → (s : ℕ) → s < frame.segments → IsLive frame s
+    ensures ready { (greatest : ℕ) (frame : Frame) → greatest ≤ most_depth → IsSoundFrame greatest frame → (s : ℕ) → s < frame.segments → IsLive frame s
         → HasReadySide frame s ↔ ClaimsNoOneSide frame s }
-    ensures unready { (greatest : ℕ) (frame : Frame) → greatest ≤ 16 → IsSoundFrame greatest frame → (s : ℕ) → s < frame.segments → IsLive frame s
+    ensures unready { (greatest : ℕ) (frame : Frame) → greatest ≤ most_depth → IsSoundFrame greatest frame → (s : ℕ) → s < frame.segments → IsLive frame s
         → (HasReadySide frame s → ⊥) ↔ ClaimsOneSide frame s }
 {}
 
@@ -112,7 +112,7 @@ pub fn other_words_are_apart()
         → StoreKeeps shape word i x }
     ensures areas { (shape : Shape) (word : ImageWords) → IsShape shape → HasSoundFrame shape word → (e i : ℕ) → e ≤ shape.depth → i < 2 ^ e → e ≢ word root_word
         → IsFrameWord shape word (entry_at e i) → ⊥ }
-    ensures buckets { (shape : Shape) (word : ImageWords) → IsShape shape → HasSoundFrame shape word → (s b n : ℕ) → b < 66 → n < 32
+    ensures buckets { (shape : Shape) (word : ImageWords) → IsShape shape → HasSoundFrame shape word → (s b n : ℕ) → b < buckets → n < block
         → IsFrameWord shape word (bucket_at shape s b + n) → ⊥ }
     ensures behind { (shape : Shape) (word : ImageWords) → IsShape shape → HasSoundFrame shape word → (i : ℕ) → words_of shape ≤ i → IsFrameWord shape word i → ⊥ }
 {}
@@ -120,13 +120,13 @@ pub fn other_words_are_apart()
 /// A store that keeps the claims adds none, and each hash has the owner that it had; one that hands a side over moves the owners of
 /// the 1-side, and no others.
 pub fn owners_stay_or_move()
-    ensures claims { (greatest : ℕ) (before after : Frame) → greatest ≤ 16 → IsSoundFrame greatest before → Keeps greatest before after
+    ensures claims { (greatest : ℕ) (before after : Frame) → greatest ≤ most_depth → IsSoundFrame greatest before → Keeps greatest before after
         → (s h : ℕ) → h < 2 ^ 64 → Claims after s h → Claims before s h }
-    ensures stay { (greatest : ℕ) (before after : Frame) → greatest ≤ 16 → IsSoundFrame greatest before → Keeps greatest before after
+    ensures stay { (greatest : ℕ) (before after : Frame) → greatest ≤ most_depth → IsSoundFrame greatest before → Keeps greatest before after
         → (h : ℕ) → h < 2 ^ 64 → owner after h ≡ owner before h }
-    ensures moves { (greatest : ℕ) (before after : Frame) → greatest ≤ 16 → IsSoundFrame greatest before → (s n : ℕ) → HandsOver greatest before after s n
+    ensures moves { (greatest : ℕ) (before after : Frame) → greatest ≤ most_depth → IsSoundFrame greatest before → (s n : ℕ) → HandsOver greatest before after s n
         → (h : ℕ) → h < 2 ^ 64 → InOneSide before s h → (owner before h ≡ Some s) × (owner after h ≡ Some n) }
-    ensures others { (greatest : ℕ) (before after : Frame) → greatest ≤ 16 → IsSoundFrame greatest before → (s n : ℕ) → HandsOver greatest before after s n
+    ensures others { (greatest : ℕ) (before after : Frame) → greatest ≤ most_depth → IsSoundFrame greatest before → (s n : ℕ) → HandsOver greatest before after s n
         → (h : ℕ) → h < 2 ^ 64 → (InOneSide before s h → ⊥) → owner after h ≡ owner before h }
 {}
 
@@ -151,12 +151,12 @@ pub fn media_are_steady()
 /// Of a segment whose header and link are settled: a side that is ready in a medium is ready now, one that is ready now is so in
 /// each medium where it lives, and a segment that is deeper now at a hash of the 1-side was so in each medium.
 pub fn sides_are_ready_in_media()
-    ensures now { (greatest : ℕ) (medium newest : Frame) → greatest ≤ 16 → IsSoundFrame greatest medium → IsSoundFrame greatest newest → IsSteady medium newest
+    ensures now { (greatest : ℕ) (medium newest : Frame) → greatest ≤ most_depth → IsSoundFrame greatest medium → IsSoundFrame greatest newest → IsSteady medium newest
         → (s n : ℕ) → s < medium.segments → newest.header s ≡ medium.header s → newest.link s ≡ medium.link s → IsReadySide medium s n → IsReadySide newest s n }
-    ensures there { (greatest : ℕ) (medium newest : Frame) → greatest ≤ 16 → IsSoundFrame greatest medium → IsSoundFrame greatest newest → IsSteady medium newest
+    ensures there { (greatest : ℕ) (medium newest : Frame) → greatest ≤ most_depth → IsSoundFrame greatest medium → IsSoundFrame greatest newest → IsSteady medium newest
         → (s n : ℕ) → s < medium.segments → newest.header s ≡ medium.header s → newest.link s ≡ medium.link s → IsLive medium n → IsReadySide newest s n
         → IsReadySide medium s n }
-    ensures deeper { (greatest : ℕ) (medium newest : Frame) → greatest ≤ 16 → IsSoundFrame greatest medium → IsSoundFrame greatest newest → IsSteady medium newest
+    ensures deeper { (greatest : ℕ) (medium newest : Frame) → greatest ≤ most_depth → IsSoundFrame greatest medium → IsSoundFrame greatest newest → IsSteady medium newest
         → (s n h : ℕ) → s < medium.segments → newest.header s ≡ medium.header s → IsLive medium s → InOneSide medium s h → IsLiveFor medium h n → CoversHash newest n h
         → depth_at newest s < depth_at newest n → depth_at medium s < depth_at medium n }
 {}

@@ -1,5 +1,6 @@
 -- How a split fits the world: the kind of each event, and how the view of its caller stands in each step: what it holds and knows.
 use Rattle.std.specs.Prelude.{◌≡◌, ◌≢◌, ℕ, zero, suc, ◌+◌, ◌-◌, ◌*◌, ◌%◌, ◌^◌, ◌<◌, ◌≤◌, ◌⊎◌, ⊤, Bool, true, false, Option, None, Some, List, [], ◌∷◌, length, slice_index}
+use Rattle.trace.specs.Events.{HasLine}
 use Rattle.op_core.specs.declared.want.Want.{Want}
 use Rattle.op_core.specs.declared.want.Want.TheVariants.{Store}
 use Rattle.segment_head.specs.HeadWord.{state_in, free}
@@ -254,7 +255,7 @@ module _ (site : Ground) (here : Site) (call : Call) where
   pub record IsPutting (c : Copied) (locks : List ℕ) (batch : Batch) (rounds : Rounds) (v : View) : Type 0 where
     pub splits : IsSplitting c locks batch v
     pub stands : RoundStands rounds v
-    pub lines : (line : ℕ) → Has line rounds.round → 8 * line + 8 ≤ words_of site.shape
+    pub lines : (line : ℕ) → Has line rounds.round → HasLine (words_of site.shape) line
     pub asks : rounds_wanted rounds (due c locks batch) ≢ None
 
   -- ---- IN EACH STEP

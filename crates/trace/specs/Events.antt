@@ -1,13 +1,21 @@
 -- What callers did to a memory of words, and which words it then holds.
-use Rattle.std.specs.Prelude.{ℕ, ◌+◌, ◌-◌, ◌/◌, ◌%◌, ◌^◌, ◌==◌, List, [], ◌∷◌, length, drop, if◌then◌else◌}
+use Rattle.std.specs.Prelude.{ℕ, ◌+◌, ◌-◌, ◌*◌, ◌/◌, ◌%◌, ◌^◌, ◌==◌, ◌≤◌, List, [], ◌∷◌, length, drop, if◌then◌else◌}
 
 -- the words of a memory, by their numbers
 abbrev pub Words : Type 0
 Words = ℕ → ℕ
 
--- a line is eight words
+-- how many words a line has
+abbrev pub line_words : ℕ
+line_words = 8
+
+-- the line in which a word lies
 abbrev pub line_of : ℕ → ℕ
-line_of i = i / 8
+line_of i = i / line_words
+
+-- a memory of so many words has the whole of this line
+abbrev pub HasLine : ℕ → ℕ → Type 0
+HasLine words line = line_words * line + line_words ≤ words
 
 -- what one caller did in one step
 pub data Event : Type 0 where

@@ -2,6 +2,7 @@
 use Rattle.std.specs.Prelude.{◌≡◌, ◌≢◌, ◌⊎◌, true, ℕ, zero, suc, ◌+◌, ◌*◌, ◌%◌, ◌^◌, ◌-◌, ◌<◌, ◌≤◌, List, [], ◌∷◌, slice_index, length}
 use Rattle.op_core.specs.declared.want.Want.{Want}
 use Rattle.op_core.specs.declared.want.Want.TheVariants.{Load, Store, Exchange}
+use Rattle.image_layout.specs.Places.{block}
 use Rattle.world.specs.Ground.{Ground}
 use Rattle.world.specs.Views.{Glance, View, Has, IsFirm}
 use Rattle.world.specs.Kinds.{unlocks}
@@ -37,7 +38,7 @@ pub record WasBucket (site : Ground) (v : View) (lock version : ℕ) (bits : Lis
   pub same_view : IsBesideNotes v then
   pub moment : Moment site then
   pub free : moment.words lock ≡ 2 * version
-  pub same : (j : ℕ) → j < 32 → moment.words (lock + j) ≡ slice_index bits j
+  pub same : (j : ℕ) → j < block → moment.words (lock + j) ≡ slice_index bits j
 
 -- the events that were taken, with loads of the first words of a bucket behind them, the newest first: what each found is in these bits
 abbrev pub with_loads : ℕ → List ℕ → ℕ → List (Want × ℕ) → List (Want × ℕ)
@@ -51,19 +52,19 @@ LookedOnce lock x took later = later ≡ (Load lock, x) ∷ took
 -- the 32 words of the bucket were loaded, of which the lock word was the first and found to be `before`, and then the lock word once more, and found to
 -- be `after`
 abbrev pub ReadToItsEnd : ℕ → ℕ → ℕ → List (Want × ℕ) → List (Want × ℕ) → Type 0
-ReadToItsEnd lock before after took later = (bits : List ℕ) × (slice_index bits 0 ≡ before) × (later ≡ (Load lock, after) ∷ with_loads lock bits 32 took)
+ReadToItsEnd lock before after took later = (bits : List ℕ) × (slice_index bits 0 ≡ before) × (later ≡ (Load lock, after) ∷ with_loads lock bits block took)
 
 -- the view notes that the bucket was read, with its words, and that its lock word was the same behind them
 abbrev pub NotesBucket : ℕ → ℕ → List ℕ → View → Type 0
 NotesBucket lock version bits v =
     (note : Glance) × Has note v.notes × (note.word ≡ lock) × (note.value ≡ 2 * version) × (note.again ≡ true)
-    × ((j : ℕ) → 1 ≤ j → j < 32 → Has (lock + j, slice_index bits j) note.words)
+    × ((j : ℕ) → 1 ≤ j → j < block → Has (lock + j, slice_index bits j) note.words)
 
 -- WHAT READING A BUCKET TELLS, of what the seat knew before and knows after: where the bucket is clean, its 32 words were loaded, and then the
 -- lock word once more
 abbrev pub ReadSays : Ground → ℕ → Watch → ReadReply → Watch → Type 0
 ReadSays site lock p (Clean version bits) q =
-    WasBucket site p.view lock version bits × (q.took ≡ (Load lock, 2 * version) ∷ with_loads lock bits 32 p.took) × NotesBucket lock version bits q.view
+    WasBucket site p.view lock version bits × (q.took ≡ (Load lock, 2 * version) ∷ with_loads lock bits block p.took) × NotesBucket lock version bits q.view
 ReadSays site lock p (Moved before after) q =
     (before ≢ after) × (before % 2 ≡ 0) × (after % 2 ≡ 0) × WasFound site p.view lock before × WasFound site p.view lock after
     × ReadToItsEnd lock before after p.took q.took
@@ -84,7 +85,7 @@ pub record IsReading (site : Ground) (v : View) (lock before : ℕ) (bits : List
   pub value : note.value ≡ before
   pub even : before % 2 ≡ 0
   pub has : (j : ℕ) → 1 ≤ j → j < next → Has (lock + j, slice_index bits j) note.words
-  pub whole : length bits ≡ 32
+  pub whole : length bits ≡ block
   pub first : slice_index bits 0 ≡ before
   pub same_view : IsBesideNotes v w
   pub found : WasFound site v lock before

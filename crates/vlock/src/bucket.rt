@@ -2,7 +2,7 @@
 
 ghost use Rattle.std.specs.Prelude.{◌≡◌, ℕ, ◌+◌, ◌-◌, ◌%◌, ◌<◌, ◌≢◌, ◌^◌, None};
 ghost use Rattle.op_core.specs.declared.want.Want.TheVariants.{Load};
-ghost use Rattle.image_layout.specs.Places.{bucket_at, buckets};
+ghost use Rattle.image_layout.specs.Places.{bucket_at, block, buckets};
 ghost use Rattle.image_layout.specs.Volatile.{all_words_of};
 ghost use Rattle.world.specs.Facts.{Lives, Current};
 ghost use Rattle.world.specs.Ground.{IsLockWord};
@@ -16,7 +16,7 @@ ghost use Rattle.vlock.specs.Buckets.{MayCall, Loads, IsBesideNotes, ReadSays, L
 
 use crate::steps::event;
 use crate::table::{Acting, Image, ImageSeat};
-use image_layout::Geometry;
+use image_layout::{BLOCK, Geometry};
 use op_core::{Ans, Want};
 use std::marker::Brand;
 
@@ -25,7 +25,7 @@ use std::marker::Brand;
 pub enum ReadReply {
     /// The 32 words that loads found, and that the bucket has all at once in words which meet the invariant with this view
     /// there; its lock was free with this version before the loads and behind them.
-    Clean { version: u64, words: [u64; 32] },
+    Clean { version: u64, words: [u64; BLOCK as usize] },
     /// The lock was free both times, with these two values of its word, so the words that were loaded say nothing.
     Moved { before: u64, after: u64 },
     /// The lock was held, with this value of its word.
@@ -84,7 +84,7 @@ fn glance(image: &Image, geometry: &Geometry, seat: &mut ImageSeat, lock: u64, i
     requires table { IsSeatOf image.now.table_id image.now.key seat.old }
     requires geometry { geometry.now ≡ image.now.key.geometry }
     requires lock { IsLockWord image.now.key.geometry lock × MayCall seat.old.me.0.view }
-    requires inside { (0 < i) × (i < 32) }
+    requires inside { (0 < i) × (i < block) }
     ensures table { IsSeatOf image.now.table_id image.now.key seat.new }
     ensures view { Loads (ground_of image.now.key) (lock + i) (λ n. of_call (glances_word lock (lock + i))) seat.old.me.0 result seat.new.me.0 }
 {
@@ -149,9 +149,9 @@ pub fn read_bucket(
     if before % 2 == 1 {
         return ReadReply::Held { seen: before };
     }
-    let mut words = [0; 32];
+    let mut words = [0; BLOCK as usize];
     words[0] = before;
-    for i in 1..32 {
+    for i in 1..BLOCK as usize {
         words[i] = glance(image, geometry, seat, lock, i as u64);
     }
     let after = validate(image, geometry, seat, lock);
