@@ -1,13 +1,20 @@
 -- A segment owns its part exactly where the leaves of that part have its depth.
-use Rattle.std.proofs.Common.{ℕ, ◌+◌, ◌*◌, ◌^◌, ◌<◌, ◌≤◌, ◌∙◌, refl, sym, subst, arith, slice_index}
+use Rattle.std.proofs.Common.{◌≡◌, ℕ, ◌+◌, ◌*◌, ◌^◌, ◌<◌, ◌≤◌, ◌∙◌, refl, sym, subst, arith, slice_index}
 use Rattle.std.proofs.lemmas.Bool.{false≢true}
+use Rattle.image_layout.specs.Places.{Shape}
 use Rattle.image_layout.proofs.Areas.{power_double}
-use Rattle.sound_image.specs.Segments.{frame_of, HasReadySide}
+use Rattle.sound_image.specs.Segments.{ImageWords, frame_of, IsReadySide, HasReadySide}
 use Rattle.segment_head.specs.declared.prefix.Prefix.{Prefix}
+use Rattle.image_rules.specs.Divided.{IsNumbered, IsPrefixOf}
 use Rattle.image_rules.specs.Leaves.{AreDeepest}
 use Rattle.image_rules.proofs.covered.Owners.{side_depth}
 use Rattle.image_rules.proofs.covered.Parts.{whole-part, part-whole, sides-part, part-zeros, part-ones}
 use Rattle.image_rules.proofs.leaves.owns_its_part.Goals as goal
+
+-- a segment with a ready side is parted into halves that are no deeper than the image allows
+halves_fit : (shape : Shape) (word : ImageWords) (i : IsNumbered shape word) (s n : ℕ) → IsReadySide (frame_of shape word) s n → (prefix : Prefix)
+    → IsPrefixOf (frame_of shape word) s prefix → (greatest : ℕ) → greatest ≡ shape.depth → prefix.depth + 1 ≤ greatest
+halves_fit shape word i s n ready prefix is greatest same = omega (arith, same, is.depth, side_depth shape word i s n ready)
 
 pub returns-in_default : goal.returns-in_default
 returns-in_default c =
@@ -25,21 +32,11 @@ returns-in_default c =
 
 pub all_have-requires-2-clause-depth : goal.all_have-requires-2-clause-depth
 all_have-requires-2-clause-depth c =
-    omega (
-      arith,
-      c.depth-greatest.ensures.is,
-      c.prefix_of-prefix.ensures.is.depth,
-      side_depth c.args.geometry.now (slice_index c.args.words.now) c.requires.numbered c.args.s c.in-Some.field-0 c.in-Some.ensures.some,
-    )
+    omega (arith, halves_fit c.args.geometry.now (slice_index c.args.words.now) c.requires.numbered c.args.s c.in-Some.field-0 c.in-Some.ensures.some c.prefix_of-prefix.result c.prefix_of-prefix.ensures.is c.depth-greatest.result c.depth-greatest.ensures.is)
 
 pub none_has-requires-clause-depth : goal.none_has-requires-clause-depth
 none_has-requires-clause-depth c =
-    omega (
-      arith,
-      c.depth-greatest.ensures.is,
-      c.prefix_of-prefix.ensures.is.depth,
-      side_depth c.args.geometry.now (slice_index c.args.words.now) c.requires.numbered c.args.s c.in-Some.field-0 c.in-Some.ensures.some,
-    )
+    omega (arith, halves_fit c.args.geometry.now (slice_index c.args.words.now) c.requires.numbered c.args.s c.in-Some.field-0 c.in-Some.ensures.some c.prefix_of-prefix.result c.prefix_of-prefix.ensures.is c.depth-greatest.result c.depth-greatest.ensures.is)
 
 pub returns-then-all_have : goal.returns-then-all_have
 returns-then-all_have c =
@@ -50,12 +47,7 @@ returns-then-all_have c =
     let deep : prefix.depth ≤ greatest = omega (arith, c.depth-greatest.ensures.is, c.prefix_of-prefix.ensures.depth) in
     let ready : HasReadySide frame c.args.s = (c.in-Some.field-0, c.in-Some.ensures.some) in
     let further : prefix.depth + 1 ≤ greatest =
-    omega (
-      arith,
-      c.depth-greatest.ensures.is,
-      c.prefix_of-prefix.ensures.is.depth,
-      side_depth c.args.geometry.now (slice_index c.args.words.now) c.requires.numbered c.args.s c.in-Some.field-0 c.in-Some.ensures.some,
-    ) in
+    omega (arith, halves_fit c.args.geometry.now (slice_index c.args.words.now) c.requires.numbered c.args.s c.in-Some.field-0 c.in-Some.ensures.some c.prefix_of-prefix.result c.prefix_of-prefix.ensures.is c.depth-greatest.result c.depth-greatest.ensures.is) in
     let zeros_fit : 2 * prefix.pattern < 2 ^ (prefix.depth + 1) = omega (arith, power_double prefix.depth, c.prefix_of-prefix.ensures.pattern) in
     let ones_fit : 2 * prefix.pattern + 1 < 2 ^ (prefix.depth + 1) = omega (arith, power_double prefix.depth, c.prefix_of-prefix.ensures.pattern) in
     let zeros : Prefix = record { depth = prefix.depth + 1; pattern = 2 * prefix.pattern } in
@@ -77,12 +69,7 @@ returns-else-all_have c =
     let deep : prefix.depth ≤ greatest = omega (arith, c.depth-greatest.ensures.is, c.prefix_of-prefix.ensures.depth) in
     let ready : HasReadySide frame c.args.s = (c.in-Some.field-0, c.in-Some.ensures.some) in
     let further : prefix.depth + 1 ≤ greatest =
-    omega (
-      arith,
-      c.depth-greatest.ensures.is,
-      c.prefix_of-prefix.ensures.is.depth,
-      side_depth c.args.geometry.now (slice_index c.args.words.now) c.requires.numbered c.args.s c.in-Some.field-0 c.in-Some.ensures.some,
-    ) in
+    omega (arith, halves_fit c.args.geometry.now (slice_index c.args.words.now) c.requires.numbered c.args.s c.in-Some.field-0 c.in-Some.ensures.some c.prefix_of-prefix.result c.prefix_of-prefix.ensures.is c.depth-greatest.result c.depth-greatest.ensures.is) in
     let zeros_fit : 2 * prefix.pattern < 2 ^ (prefix.depth + 1) = omega (arith, power_double prefix.depth, c.prefix_of-prefix.ensures.pattern) in
     let ones_fit : 2 * prefix.pattern + 1 < 2 ^ (prefix.depth + 1) = omega (arith, power_double prefix.depth, c.prefix_of-prefix.ensures.pattern) in
     let zeros : Prefix = record { depth = prefix.depth + 1; pattern = 2 * prefix.pattern } in
