@@ -1,9 +1,12 @@
 -- The lowest slot of a set that is not empty is its trailing zeros, and a set without another one has the slots that are in it alone.
-use Rattle.std.proofs.Common.{◌≡◌, ℕ, ◌-◌, ◌^◌, ◌<◌, sym, ◌∙◌, subst, inl, inr, arith, lit<, bit_and}
+use Rattle.std.proofs.Common.{◌≡◌, ◌≢◌, ℕ, ◌-◌, ◌^◌, ◌<◌, ◌≤◌, Option, sym, ◌∙◌, subst, inl, inr, arith, lit<, bit_and, count_ones}
+use Rattle.std.specs.Prelude.{IfSome}
 use Rattle.std.proofs.lemmas.Bool.{cases_lt}
 use Rattle.std.proofs.lemmas.Nat.Bits.{bit_at-trailing_zeros, bit_at_above, bit_at-zero, bit_at_and, bit_at_not, bit_at-lt, same_from_bits_below}
+use Rattle.std.proofs.lemmas.Option.{IfSome_then}
 use Rattle.std.specs.Int.{w16, trailing_zeros}
 use Rattle.word_bits.specs.Bits.{bit}
+use Rattle.bucket_meta.specs.Bucket.{record_slots}
 
 -- a slot of a set of 14 is one of the 14
 within : (slots s : ℕ) → slots < 2 ^ 14 → bit s slots ≡ 1 → s < 14
@@ -23,6 +26,11 @@ lowest_slot slots t whole some e =
 pub empty_set : (slots : ℕ) → slots < 2 ^ 14 → ((s : ℕ) → s < 14 → bit s slots ≡ 0) → slots ≡ 0
 empty_set slots whole none =
     same_from_bits_below 14 slots 0 whole (lit< tt) (λ s low. none s low ∙ sym (bit_at-zero s))
+
+-- a bucket that is not full has room, whichever slot it is for
+pub has_room : (slot : Option ℕ) (filled alloc : ℕ) → IfSome slot (λ s. s < record_slots) → filled ≡ count_ones alloc → filled ≤ 14 → filled ≢ 14
+    → IfSome slot (λ _. count_ones alloc < record_slots)
+has_room slot filled alloc some count at_most not_full = IfSome_then slot some (λ s low. omega (arith, count, at_most, not_full))
 
 -- ---- the slots of a that are in m too
 

@@ -2,16 +2,14 @@
 use Rattle.std.proofs.Common.{inl, inr, arith}
 use Rattle.std.proofs.lemmas.Nat.{and_le_l}
 use Rattle.std.proofs.lemmas.Option.{IfSome_then}
-use Rattle.displace.proofs.Sets.{in_first, not_in_first, outside_first}
+use Rattle.displace.proofs.Sets.{has_room, in_first, not_in_first, outside_first}
 use Rattle.displace.proofs.victim.forward.Goals as goal
 
 pub lowest-requires : goal.lowest-requires
 lowest-requires c = omega (arith, and_le_l)
 
 pub returns-clause-room : goal.returns-clause-room
-returns-clause-room c =
-    IfSome_then c.lowest.result c.lowest.ensures.within
-    (λ slot low. omega (arith, c.filled.ensures.count, c.filled.ensures.at_most, c.if-filled-eq-SLOTS.false))
+returns-clause-room c = has_room c.lowest.result c.filled.result c.args.next.now.alloc c.lowest.ensures.within c.filled.ensures.count c.filled.ensures.at_most c.if-filled-eq-SLOTS.false
 
 pub returns-clause-allocated : goal.returns-clause-allocated
 returns-clause-allocated c =
