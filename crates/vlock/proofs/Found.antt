@@ -145,8 +145,6 @@ module _ (site : Ground) (hash root index segment header version : ℕ) (p a b q
   unfolding header_met
   was_owner within fits leads = record { header_met = header_met; owned = owner_by site b.view segment header hash within fits leads at_head.1 }
 
-  pub may_on : MayCall p.view → MayCall q.view
-  may_on may = subst MayCall (sym end_view) may
-
-  pub answer_on : p.view.answer ≡ None → q.view.answer ≡ None
-  answer_on none = ap (λ (v : View). v.answer) end_view ∙ none
+  -- it may call on, and has no answer where it had none
+  pub may_on : MayCall p.view → MayCall q.view × (p.view.answer ≡ None → q.view.answer ≡ None)
+  may_on may = (subst MayCall (sym end_view) may, λ none. ap (λ (v : View). v.answer) end_view ∙ none)

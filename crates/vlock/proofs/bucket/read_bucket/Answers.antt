@@ -1,12 +1,21 @@
-use Rattle.std.proofs.Common.{rules, inl, inr, ◌+◌, ◌/◌, ◌∙◌, sym, ap, refl}
-use Rattle.image_layout.specs.Places.{Shape, bucket_at}
+use Rattle.std.proofs.Common.{◌≡◌, ℕ, rules, inl, inr, ◌+◌, ◌/◌, ◌<◌, ◌∙◌, sym, ap, refl}
+use Rattle.image_layout.specs.Places.{Shape, bucket_at, buckets}
+use Rattle.world.specs.Ground.{IsLockWord}
+use Rattle.world.specs.Views.{View}
 use Rattle.world.specs.Kinds.{looks, glances_word, validates}
 use Rattle.world.specs.StepKinds.{of_call}
 use Rattle.vlock.specs.declared.knows.Watch.{Watch}
 use Rattle.vlock.specs.declared.bucket.ReadReply.TheVariants.{Clean, Moved, Held}
 use Rattle.vlock.specs.Ruling.{ground_of}
+use Rattle.vlock.specs.Buckets.{MayCall, IsBesideNotes}
 use Rattle.vlock.proofs.Noting.{even_of, found_at, says_there, looked, starts, goes_on, clean, notes_bucket, may_call, validated_view, first_load, next_load, last_load, looked_once, read_to_its_end}
 use Rattle.vlock.proofs.bucket.read_bucket.Goals as goal
+
+-- it may load of the lock of this bucket, in a view beside the one that it had
+may_load : (shape given : Shape) (segment bucket lock : ℕ) (v w : View) → (segment < shape.segments) × (bucket < buckets) → lock ≡ bucket_at given segment bucket → given ≡ shape
+    → IsBesideNotes v w → MayCall v → IsLockWord shape lock × MayCall w
+may_load shape given segment bucket lock v w place is same beside may =
+    ((segment, bucket, place.0, place.1, is ∙ ap (λ (g : Shape). bucket_at g segment bucket) same), may_call v w beside may)
 
 pub returns-then-before-eq1-clause-view : goal.returns-then-before-eq1-clause-view
 returns-then-before-eq1-clause-view c = looked (ground_of c.args.image.now.key) c.bucket_at-lock.result c.look-before.result c.args.seat.now.me.0 _ c.look-before.ensures.view c.requires.caller.1
@@ -37,10 +46,8 @@ loop-i-init c =
 
 pub glance-requires-clause-lock : goal.glance-requires-clause-lock
 glance-requires-clause-lock c =
-    let lock_is = c.bucket_at-lock.ensures.is ∙ ap (λ (g : Shape). bucket_at g c.args.segment c.args.bucket) c.requires.geometry in (
-      (c.args.segment, c.args.bucket, c.requires.place.0, c.requires.place.1, lock_is),
-      may_call c.args.seat.now.me.0.view c.loop-i.seat.me.0.view c.loop-i.invariant.reading.same_view c.requires.caller.0,
-    )
+    may_load c.args.image.now.key.geometry c.args.geometry.now c.args.segment c.args.bucket c.bucket_at-lock.result c.args.seat.now.me.0.view c.loop-i.seat.me.0.view c.requires.place c.bucket_at-lock.ensures.is c.requires.geometry
+    c.loop-i.invariant.reading.same_view c.requires.caller.0
 
 pub loop-i-preserved : goal.loop-i-preserved
 loop-i-preserved c =
@@ -58,15 +65,12 @@ loop-i-preserved c =
 
 pub validate-after-requires-clause-lock : goal.validate-after-requires-clause-lock
 validate-after-requires-clause-lock c =
-    let lock_is = c.bucket_at-lock.ensures.is ∙ ap (λ (g : Shape). bucket_at g c.args.segment c.args.bucket) c.requires.geometry in (
-      (c.args.segment, c.args.bucket, c.requires.place.0, c.requires.place.1, lock_is),
-      may_call c.args.seat.now.me.0.view c.loop-i.seat.me.0.view c.loop-i.invariant.reading.same_view c.requires.caller.0,
-    )
+    may_load c.args.image.now.key.geometry c.args.geometry.now c.args.segment c.args.bucket c.bucket_at-lock.result c.args.seat.now.me.0.view c.loop-i.seat.me.0.view c.requires.place c.bucket_at-lock.ensures.is c.requires.geometry
+    c.loop-i.invariant.reading.same_view c.requires.caller.0
 
 pub returns-then-after-eq1-clause-view : goal.returns-then-after-eq1-clause-view
 returns-then-after-eq1-clause-view c =
-    let i = c.loop-i.invariant in
-    validated_view (ground_of c.args.image.now.key) c.args.seat.now.me.0.view c.bucket_at-lock.result c.validate-after.result c.loop-i.seat.me.0 _ c.validate-after.ensures.view i.reading.same_view c.requires.caller.1
+    validated_view (ground_of c.args.image.now.key) c.args.seat.now.me.0.view c.bucket_at-lock.result c.validate-after.result c.loop-i.seat.me.0 _ c.validate-after.ensures.view c.loop-i.invariant.reading.same_view c.requires.caller.1
 
 pub returns-then-after-eq1-clause-read : goal.returns-then-after-eq1-clause-read
 returns-then-after-eq1-clause-read c =
@@ -88,8 +92,7 @@ returns-then-after-eq1-clause-read c =
 
 pub returns-then-after-before-clause-view : goal.returns-then-after-before-clause-view
 returns-then-after-before-clause-view c =
-    let i = c.loop-i.invariant in
-    validated_view (ground_of c.args.image.now.key) c.args.seat.now.me.0.view c.bucket_at-lock.result c.validate-after.result c.loop-i.seat.me.0 _ c.validate-after.ensures.view i.reading.same_view c.requires.caller.1
+    validated_view (ground_of c.args.image.now.key) c.args.seat.now.me.0.view c.bucket_at-lock.result c.validate-after.result c.loop-i.seat.me.0 _ c.validate-after.ensures.view c.loop-i.invariant.reading.same_view c.requires.caller.1
 
 pub returns-then-after-before-clause-read : goal.returns-then-after-before-clause-read
 returns-then-after-before-clause-read c =
@@ -107,8 +110,7 @@ returns-then-after-before-clause-read c =
 
 pub returns-else-after-before-clause-view : goal.returns-else-after-before-clause-view
 returns-else-after-before-clause-view c =
-    let i = c.loop-i.invariant in
-    validated_view (ground_of c.args.image.now.key) c.args.seat.now.me.0.view c.bucket_at-lock.result c.validate-after.result c.loop-i.seat.me.0 _ c.validate-after.ensures.view i.reading.same_view c.requires.caller.1
+    validated_view (ground_of c.args.image.now.key) c.args.seat.now.me.0.view c.bucket_at-lock.result c.validate-after.result c.loop-i.seat.me.0 _ c.validate-after.ensures.view c.loop-i.invariant.reading.same_view c.requires.caller.1
 
 pub returns-else-after-before-clause-read : goal.returns-else-after-before-clause-read
 returns-else-after-before-clause-read c =

@@ -1,7 +1,7 @@
 use Rattle.std.proofs.Common.{sym, ◌∙◌, arith}
 use Rattle.way.proofs.Indexes.{index_below}
 use Rattle.vlock.specs.Ruling.{ground_of}
-use Rattle.vlock.proofs.Found.{may_behind_root, may_behind_entry, went, knows_current, was_owner, may_on, answer_on}
+use Rattle.vlock.proofs.Found.{may_behind_root, may_behind_entry, went, knows_current, was_owner, may_on}
 use Rattle.vlock.proofs.find.find_segment.Goals as goal
 
 pub meet_entry-segment-requires-clause-caller : goal.meet_entry-segment-requires-clause-caller
@@ -22,12 +22,9 @@ meet_head-header-requires-clause-caller c =
     (may_behind_root (ground_of c.args.image.now.key) c.meet_root-depth.result c.args.seat.now.me.0 _ c.meet_root-depth.ensures.view c.requires.caller)
 
 pub returns-then-version_of-version-clause-caller : goal.returns-then-version_of-version-clause-caller
-returns-then-version_of-version-clause-caller c = (
-  may_on (ground_of c.args.image.now.key) c.args.hash c.meet_root-depth.result c.dir_index-index.result c.meet_entry-segment.result c.meet_head-header.result c.args.version c.args.seat.now.me.0
-      c.meet_root-depth.new.seat.me.0 c.meet_entry-segment.new.seat.me.0 c.meet_head-header.new.seat.me.0 c.dir_index-index.ensures c.meet_root-depth.ensures.view c.meet_entry-segment.ensures.view c.meet_head-header.ensures.view c.requires.caller,
-  λ none. answer_on (ground_of c.args.image.now.key) c.args.hash c.meet_root-depth.result c.dir_index-index.result c.meet_entry-segment.result c.meet_head-header.result c.args.version c.args.seat.now.me.0
-      c.meet_root-depth.new.seat.me.0 c.meet_entry-segment.new.seat.me.0 c.meet_head-header.new.seat.me.0 c.dir_index-index.ensures c.meet_root-depth.ensures.view c.meet_entry-segment.ensures.view c.meet_head-header.ensures.view none,
-)
+returns-then-version_of-version-clause-caller c =
+    may_on (ground_of c.args.image.now.key) c.args.hash c.meet_root-depth.result c.dir_index-index.result c.meet_entry-segment.result c.meet_head-header.result c.args.version c.args.seat.now.me.0
+    c.meet_root-depth.new.seat.me.0 c.meet_entry-segment.new.seat.me.0 c.meet_head-header.new.seat.me.0 c.dir_index-index.ensures c.meet_root-depth.ensures.view c.meet_entry-segment.ensures.view c.meet_head-header.ensures.view c.requires.caller
 
 pub returns-then-version_of-version-clause-finds : goal.returns-then-version_of-version-clause-finds
 returns-then-version_of-version-clause-finds c = (
@@ -37,12 +34,9 @@ returns-then-version_of-version-clause-finds c = (
 )
 
 pub returns-then-is_leading-clause-caller : goal.returns-then-is_leading-clause-caller
-returns-then-is_leading-clause-caller c = (
-  may_on (ground_of c.args.image.now.key) c.args.hash c.meet_root-depth.result c.dir_index-index.result c.meet_entry-segment.result c.meet_head-header.result c.args.version c.args.seat.now.me.0
-      c.meet_root-depth.new.seat.me.0 c.meet_entry-segment.new.seat.me.0 c.meet_head-header.new.seat.me.0 c.dir_index-index.ensures c.meet_root-depth.ensures.view c.meet_entry-segment.ensures.view c.meet_head-header.ensures.view c.requires.caller,
-  λ none. answer_on (ground_of c.args.image.now.key) c.args.hash c.meet_root-depth.result c.dir_index-index.result c.meet_entry-segment.result c.meet_head-header.result c.args.version c.args.seat.now.me.0
-      c.meet_root-depth.new.seat.me.0 c.meet_entry-segment.new.seat.me.0 c.meet_head-header.new.seat.me.0 c.dir_index-index.ensures c.meet_root-depth.ensures.view c.meet_entry-segment.ensures.view c.meet_head-header.ensures.view none,
-)
+returns-then-is_leading-clause-caller c =
+    may_on (ground_of c.args.image.now.key) c.args.hash c.meet_root-depth.result c.dir_index-index.result c.meet_entry-segment.result c.meet_head-header.result c.args.version c.args.seat.now.me.0
+    c.meet_root-depth.new.seat.me.0 c.meet_entry-segment.new.seat.me.0 c.meet_head-header.new.seat.me.0 c.dir_index-index.ensures c.meet_root-depth.ensures.view c.meet_entry-segment.ensures.view c.meet_head-header.ensures.view c.requires.caller
 
 pub returns-then-is_leading-clause-finds : goal.returns-then-is_leading-clause-finds
 returns-then-is_leading-clause-finds c =
@@ -60,12 +54,9 @@ returns-then-is_leading-clause-finds c =
     )
 
 pub returns-else-is_leading-clause-caller : goal.returns-else-is_leading-clause-caller
-returns-else-is_leading-clause-caller c = (
-  may_on (ground_of c.args.image.now.key) c.args.hash c.meet_root-depth.result c.dir_index-index.result c.meet_entry-segment.result c.meet_head-header.result c.args.version c.args.seat.now.me.0
-      c.meet_root-depth.new.seat.me.0 c.meet_entry-segment.new.seat.me.0 c.meet_head-header.new.seat.me.0 c.dir_index-index.ensures c.meet_root-depth.ensures.view c.meet_entry-segment.ensures.view c.meet_head-header.ensures.view c.requires.caller,
-  λ none. answer_on (ground_of c.args.image.now.key) c.args.hash c.meet_root-depth.result c.dir_index-index.result c.meet_entry-segment.result c.meet_head-header.result c.args.version c.args.seat.now.me.0
-      c.meet_root-depth.new.seat.me.0 c.meet_entry-segment.new.seat.me.0 c.meet_head-header.new.seat.me.0 c.dir_index-index.ensures c.meet_root-depth.ensures.view c.meet_entry-segment.ensures.view c.meet_head-header.ensures.view none,
-)
+returns-else-is_leading-clause-caller c =
+    may_on (ground_of c.args.image.now.key) c.args.hash c.meet_root-depth.result c.dir_index-index.result c.meet_entry-segment.result c.meet_head-header.result c.args.version c.args.seat.now.me.0
+    c.meet_root-depth.new.seat.me.0 c.meet_entry-segment.new.seat.me.0 c.meet_head-header.new.seat.me.0 c.dir_index-index.ensures c.meet_root-depth.ensures.view c.meet_entry-segment.ensures.view c.meet_head-header.ensures.view c.requires.caller
 
 pub returns-else-is_leading-clause-finds : goal.returns-else-is_leading-clause-finds
 returns-else-is_leading-clause-finds c =
