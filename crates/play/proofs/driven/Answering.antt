@@ -19,6 +19,11 @@ current_stays r drawn next call others calls count is =
     ap (λ (n : ℕ). slice_get next.calls.items n) (count ∙ ap (λ (q : PlayCaller). q.ended) others)
     ∙ ap (λ v. slice_get v.items r.ended) (calls ∙ ap (λ (q : PlayCaller). q.calls) others) ∙ is
 
+-- its engine has taken the answer behind its draw
+pub engine_taken : (r drawn next : PlayCaller) (e after : Engine) → drawn ≡ record r { drew = drawn.drew } → (drawn.engine ≡ Some e → next ≡ taken_to after drawn)
+    → r.engine ≡ Some e → next.engine ≡ Some after
+engine_taken r drawn next e after others takes runs = ap (λ (q : PlayCaller). q.engine) (takes (ap (λ (q : PlayCaller). q.engine) others ∙ runs))
+
 -- what an attempt leaves at its end has nothing of its engine, and nothing that the call drew
 ended_same : (r : PlayCaller) (drew other : Option Entry) (call : Call) (e : Engine) (told : List Entry) (end : End) (reply : Option (Reply × ℕ))
     → ended (caller_of (taken_to e (record r { drew = drew })) told) call end reply ≡ ended (record (caller_of r told) { drew = other }) call end reply

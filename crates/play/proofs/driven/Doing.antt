@@ -87,11 +87,17 @@ pub callers_as_scripts : (t : Setup) (s : State) (run_state : RunState) → Stan
 callers_as_scripts t s run_state st =
     sym (callers_many run_state.callers.items run_state.lists st.is_of.room) ∙ ap length st.is_of.its_callers ∙ callers_by t s.keeper s.core st.running
 
+-- and those are few
+pub callers_few : (t : Setup) (s : State) (run_state : RunState) → Stands t s run_state → length run_state.callers.items ≤ 64
+callers_few t s run_state st =
+    let many = callers_as_scripts t s run_state st in
+    let few = st.setup.few in
+    omega arith
+
 pub index_few : (t : Setup) (s : State) (run_state : RunState) (index : ℕ) (r : PlayCaller) → Stands t s run_state → slice_get run_state.callers.items index ≡ Some r → index < 64
 index_few t s run_state index r st is =
     let within = slice_get_within run_state.callers.items index r is in
-    let many = callers_as_scripts t s run_state st in
-    let few = st.setup.few in
+    let few = callers_few t s run_state st in
     omega arith
 
 -- ---- a caller

@@ -3,7 +3,7 @@ use Rattle.std.proofs.Common.{◌≡◌, Some, length, ap, ◌∙◌, sym}
 use Rattle.core_run.specs.Engines.{wanted, taken, reply_of_end, drawn_by, ended}
 use Rattle.play.specs.declared.caller.Caller.{Caller as PlayCaller}
 use Rattle.play.specs.Callers.{caller_of, taken_to}
-use Rattle.play.proofs.driven.Answering.{current_stays, ended_goes_on}
+use Rattle.play.proofs.driven.Answering.{current_stays, engine_taken, ended_goes_on}
 use Rattle.play.proofs.caller.Caller.take_answer.Goals as goal
 
 pub end_attempt-entry-requires-clause-current : goal.end_attempt-entry-requires-clause-current
@@ -31,10 +31,10 @@ returns-in-Some-clause-caller c e its told many =
 
 pub returns-in-Some-clause-waits : goal.returns-in-Some-clause-waits
 returns-in-Some-clause-waits c e its =
-    let its_drawn : c.keep_drawn.new.self.engine ≡ Some e = ap (λ (q : PlayCaller). q.engine) c.keep_drawn.ensures.others ∙ its in
-    c.waits_after-waits.ensures (taken e c.args.ans) (ap (λ (q : PlayCaller). q.engine) (c.answer_engine-end.ensures.taken e its_drawn))
+    c.waits_after-waits.ensures (taken e c.args.ans)
+    (engine_taken c.args.self.now c.keep_drawn.new.self c.answer_engine-end.new.self e (taken e c.args.ans) c.keep_drawn.ensures.others (c.answer_engine-end.ensures.taken e) its)
 
 pub returns-in-None-clause-waits : goal.returns-in-None-clause-waits
 returns-in-None-clause-waits c e its =
-    let its_drawn : c.keep_drawn.new.self.engine ≡ Some e = ap (λ (q : PlayCaller). q.engine) c.keep_drawn.ensures.others ∙ its in
-    c.waits_after-waits.ensures (taken e c.args.ans) (ap (λ (q : PlayCaller). q.engine) (c.answer_engine-end.ensures.taken e its_drawn))
+    c.waits_after-waits.ensures (taken e c.args.ans)
+    (engine_taken c.args.self.now c.keep_drawn.new.self c.answer_engine-end.new.self e (taken e c.args.ans) c.keep_drawn.ensures.others (c.answer_engine-end.ensures.taken e) its)

@@ -1,21 +1,13 @@
 use Rattle.std.proofs.Common.{arith}
-use Rattle.play.proofs.driven.Doing.{callers_as_scripts}
+use Rattle.play.proofs.driven.Doing.{callers_few}
 use Rattle.play.proofs.driven.Rounds.{many, round_begins, round_goes, round_ends}
 use Rattle.play.proofs.run_state.RunState.do_round.Goals as goal
 
 pub overflow_cast-index : goal.overflow_cast-index
-overflow_cast-index c =
-    let callers = callers_as_scripts c.requires.0 c.requires.1 c.args.self.now c.requires.2 in
-    let few = c.requires.2.setup.few in
-    let is_len = c.args.self.now.callers.ok.0 in
-    record { fits = omega arith }
+overflow_cast-index c = record { fits = omega (arith, callers_few c.requires.0 c.requires.1 c.args.self.now c.requires.2, c.args.self.now.callers.ok.0) }
 
 pub overflow_add-index : goal.overflow_add-index
-overflow_add-index c =
-    let callers = callers_as_scripts c.requires.0 c.requires.1 c.args.self.now c.requires.2 in
-    let few = c.requires.2.setup.few in
-    let is_len = c.args.self.now.callers.ok.0 in
-    record { fits = omega arith }
+overflow_add-index c = record { fits = omega (arith, callers_few c.requires.0 c.requires.1 c.args.self.now c.requires.2, c.args.self.now.callers.ok.0) }
 
 pub loop-index-init : goal.loop-index-init
 loop-index-init c t s st = round_begins t s c.args.most c.args.self.now st
