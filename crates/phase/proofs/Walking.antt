@@ -94,10 +94,10 @@ module _ (P : Walked → Type 0) (here : Site) (hash root segment n : ℕ) where
       (λ live. by_test P (version_in n == here.version) there stale (λ is. current live is) (λ is. old live is)) dead
 
 pub walk_falls : (here : Site) (hash : ℕ) (w : Walk) (n : ℕ) → walked_left (walk_taken here hash w n) < walk_left w
-walk_falls here hash Power n = by_both (λ x. walked_left x < 4) (n == 0) (On Root) Off (omega arith) (omega arith)
-walk_falls here hash Root n = by_both (λ x. walked_left x < 3) (nat_le n here.geometry.depth) (On (Entry n)) (Amiss root_word n) (omega arith) (omega arith)
+walk_falls here hash Power n = by_both (λ (x : Walked). walked_left x < 4) (n == 0) (On Root) Off (omega arith) (omega arith)
+walk_falls here hash Root n = by_both (λ (x : Walked). walked_left x < 3) (nat_le n here.geometry.depth) (On (Entry n)) (Amiss root_word n) (omega arith) (omega arith)
 walk_falls here hash (Entry root) n =
-    by_both (λ x. walked_left x < 2) (nat_lt n here.geometry.segments) (On (Head root n)) (Amiss (entry_word here.geometry hash root) n) (omega arith) (omega arith)
+    by_both (λ (x : Walked). walked_left x < 2) (nat_lt n here.geometry.segments) (On (Head root n)) (Amiss (entry_word here.geometry hash root) n) (omega arith) (omega arith)
 walk_falls here hash (Head root segment) n = by_head (λ x. walked_left x < 1) here hash root segment n (λ live is. omega arith) (λ live is. omega arith) (λ dead. omega arith)
 
 -- at most so many events
@@ -173,15 +173,15 @@ module _ (site : Ground) (here : Site) (hash : ℕ) (same : here.geometry ≡ si
 
     walk_on : (w : Walk) → IsWalking site w v.facts → (n : ℕ) → n ≡ words (word_of site.shape (walk_wanted here hash w))
         → HasWalked site (walk_taken here hash w n) (view_after site.shape (walk_kind here hash w) n v).facts
-    walk_on Power known n found = by_both (λ x. HasWalked site x v.facts) (n == 0) (On Root) Off tt tt
+    walk_on Power known n found = by_both (λ (x : Walked). HasWalked site x v.facts) (n == 0) (On Root) Off tt tt
     walk_on Root known n found =
-        by_test (λ x. HasWalked site x (Rooted n ∷ v.facts)) (nat_le n here.geometry.depth) (On (Entry n)) (Amiss root_word n)
+        by_test (λ (x : Walked). HasWalked site x (Rooted n ∷ v.facts)) (nat_le n here.geometry.depth) (On (Entry n)) (Amiss root_word n)
         (λ t. let low = leb-true n here.geometry.depth t in let d = depth_is in (inl refl, omega (arith, low, d)))
         (λ f. let high = leb-false n here.geometry.depth f in let d = depth_is in let r = root_low in omega (arith, high, found, d, r))
     walk_on (Entry root) known n found =
         let live : IsLiveSlot (frame_of site.shape words) n = subst (IsLiveSlot (frame_of site.shape words)) (sym found) (named root known.0 known.1) in
         subst (λ (u : View). HasWalked site (walk_taken here hash (Entry root) n) u.facts) (sym (after_entry root n v known.1))
-        (by_test (λ x. HasWalked site x (Lives n ∷ v.facts)) (nat_lt n here.geometry.segments) (On (Head root n)) (Amiss (entry_word here.geometry hash root) n)
+        (by_test (λ (x : Walked). HasWalked site x (Lives n ∷ v.facts)) (nat_lt n here.geometry.segments) (On (Head root n)) (Amiss (entry_word here.geometry hash root) n)
         (λ t. (inl refl, live.slot))
         (λ f. let high = ltb-false n here.geometry.segments f in let s = segments_are in let within = live.slot in omega (arith, high, s, within)))
     walk_on (Head root segment) known n found =
@@ -205,12 +205,12 @@ module _ (site : Ground) (here : Site) (hash : ℕ) (same : here.geometry ≡ si
     bare_if false e i n bare = bare
 
     walk_notes_on : (w : Walk) → IsWalking site w v.facts → HasBegun w v → (n : ℕ) → NotesWay site.shape (walk_taken here hash w n) (view_after site.shape (walk_kind here hash w) n v)
-    walk_notes_on Power known bare n = by_both (λ x. NotesWay site.shape x (record v { notes = []; answer = None })) (n == 0) (On Root) Off (record { notes = refl; answer = refl }) tt
+    walk_notes_on Power known bare n = by_both (λ (x : Walked). NotesWay site.shape x (record v { notes = []; answer = None })) (n == 0) (On Root) Off (record { notes = refl; answer = refl }) tt
     walk_notes_on Root known bare n =
-        by_both (λ x. NotesWay site.shape x (record v { facts = Rooted n ∷ v.facts })) (nat_le n here.geometry.depth) (On (Entry n)) (Amiss root_word n)
+        by_both (λ (x : Walked). NotesWay site.shape x (record v { facts = Rooted n ∷ v.facts })) (nat_le n here.geometry.depth) (On (Entry n)) (Amiss root_word n)
         (record { notes = bare.notes; answer = bare.answer }) tt
     walk_notes_on (Entry root) known bare n =
-        by_both (λ x. NotesWay site.shape x (view_after site.shape (walk_kind here hash (Entry root)) n v)) (nat_lt n here.geometry.segments) (On (Head root n))
+        by_both (λ (x : Walked). NotesWay site.shape x (view_after site.shape (walk_kind here hash (Entry root)) n v)) (nat_lt n here.geometry.segments) (On (Head root n))
         (Amiss (entry_word here.geometry hash root) n)
         (bare_if (nat_le root here.geometry.depth) root (index_of root hash) n bare) tt
     walk_notes_on (Head root segment) known bare n =
@@ -225,10 +225,10 @@ module _ (site : Ground) (here : Site) (hash : ℕ) (same : here.geometry ≡ si
   -- where each live segment has the image's version, none is stale
   module _ (words : Words) (facts : List Fact) (current : IsCurrent site.shape words here.version) (segment byte : ℕ) where
     never_by : (w : Walk) → IsWalking site w facts → (n : ℕ) → n ≡ words (word_of site.shape (walk_wanted here hash w)) → walk_taken here hash w n ≡ Stale segment byte → ⊥
-    never_by Power known n found = by_both (λ x. x ≡ Stale segment byte → ⊥) (n == 0) (On Root) Off (λ e. cc) (λ e. cc)
-    never_by Root known n found = by_both (λ x. x ≡ Stale segment byte → ⊥) (nat_le n here.geometry.depth) (On (Entry n)) (Amiss root_word n) (λ e. cc) (λ e. cc)
+    never_by Power known n found = by_both (λ (x : Walked). x ≡ Stale segment byte → ⊥) (n == 0) (On Root) Off (λ e. cc) (λ e. cc)
+    never_by Root known n found = by_both (λ (x : Walked). x ≡ Stale segment byte → ⊥) (nat_le n here.geometry.depth) (On (Entry n)) (Amiss root_word n) (λ e. cc) (λ e. cc)
     never_by (Entry root) known n found =
-        by_both (λ x. x ≡ Stale segment byte → ⊥) (nat_lt n here.geometry.segments) (On (Head root n)) (Amiss (entry_word here.geometry hash root) n) (λ e. cc) (λ e. cc)
+        by_both (λ (x : Walked). x ≡ Stale segment byte → ⊥) (nat_lt n here.geometry.segments) (On (Head root n)) (Amiss (entry_word here.geometry hash root) n) (λ e. cc) (λ e. cc)
     never_by (Head root slot) known n found =
         let header : n ≡ words (head_at site.shape slot + 1) = found ∙ ap words (head_is slot known.1) in
         by_head (λ x. x ≡ Stale segment byte → ⊥) here hash root slot n (λ live is e. cc)

@@ -1,6 +1,6 @@
 -- Where a get goes on: from a look at a free lock word, and from a word of a bucket, it never ends.
-use Rattle.std.proofs.Common.{◌≡◌, ℕ, Bool, true, false, List, None, refl}
-use Rattle.std.specs.Prelude.{⊤, if◌then◌else◌}
+use Rattle.std.proofs.Common.{◌≡◌, ℕ, List, None, refl}
+use Rattle.std.specs.Prelude.{⊤}
 use Rattle.op_core.specs.declared.want.Want.TheVariants.{Done}
 use Rattle.phase.specs.declared.walk.Walk.{Walk}
 use Rattle.phase.specs.declared.walk.Walk.TheVariants as walk
@@ -9,6 +9,7 @@ use Rattle.phase.specs.declared.load.Loaded.TheVariants as loaded
 use Rattle.phase.specs.Walks.{walk_wanted}
 use Rattle.phase.specs.declared.role.Role.{Role}
 use Rattle.phase.specs.declared.role.Role.TheVariants.{Home, Probing, First, Second}
+use Rattle.phase.proofs.locks.Choosing.{by_both}
 use Rattle.read_op.specs.declared.step.Seen.{Seen}
 use Rattle.read_op.specs.declared.step.ReadEnd.{ReadEnd}
 use Rattle.read_op.specs.declared.step.ReadStep.{ReadStep}
@@ -22,21 +23,17 @@ abbrev pub IsOpen : ReadStep → Type 0
 IsOpen (Ended end) = ⊥
 IsOpen s = ⊤
 
-both_open : (b : Bool) (s t : ReadStep) → IsOpen s → IsOpen t → IsOpen (if b then s else t)
-both_open true s t p q = p
-both_open false s t p q = q
-
 pub looked_open : (s : Seen) (p : Role) → IsOpen (looked s p)
 looked_open s Home = tt
 looked_open s Probing = tt
 looked_open s p = tt
 
 second_open : (s : Seen) → IsOpen (visit_second s)
-second_open s = both_open s.second (Look s Second) (Count s) tt tt
+second_open s = by_both IsOpen s.second (Look s Second) (Count s) tt tt
 
 all_open : (key hash : ℕ) (s : Seen) (p : Role) (ws : List ℕ) → IsOpen (read_all key hash s p ws)
 all_open key hash s Home ws = tt
-all_open key hash s Probing ws = let t : Seen = read_probing key hash s ws in both_open t.first (Look t First) (visit_second t) tt (second_open t)
+all_open key hash s Probing ws = let t : Seen = read_probing key hash s ws in by_both IsOpen t.first (Look t First) (visit_second t) tt (second_open t)
 all_open key hash s First ws = second_open (with_value key s ws)
 all_open key hash s p ws = tt
 

@@ -26,6 +26,7 @@ use Rattle.phase.proofs.Walking.{walk_never_stale}
 use Rattle.phase.proofs.locks.Giving.{known_lock}
 use Rattle.phase.specs.declared.role.Role.{Role}
 use Rattle.phase.specs.declared.role.Role.TheVariants.{Home, Probing, First, Second}
+use Rattle.phase.proofs.locks.Choosing.{by_both}
 use Rattle.read_op.specs.declared.step.Seen.{Seen}
 use Rattle.read_op.specs.declared.step.ReadEnd.TheVariants as ends
 use Rattle.read_op.specs.declared.step.ReadStep.{ReadStep}
@@ -225,10 +226,6 @@ module _ (task : Task) where
   NoStale (Ended (ends.Stale segment byte)) = ⊥
   NoStale next = ⊤
 
-  both_fresh : (b : Bool) (s t : ReadStep) → NoStale s → NoStale t → NoStale (if b then s else t)
-  both_fresh true s t p q = p
-  both_fresh false s t p q = q
-
   open_fresh : (s : ReadStep) → IsOpen s → NoStale s
   open_fresh (Ended end) goes = absurd goes
   open_fresh s goes = tt
@@ -250,24 +247,24 @@ module _ (task : Task) where
   end_fresh None placed = tt
 
   second_fresh : (s : Seen) (placed : ℕ) → NoStale (relook_second s placed)
-  second_fresh s placed = both_fresh s.second (Relook s placed Second) (Ended (end_of s.value placed)) tt (end_fresh s.value placed)
+  second_fresh s placed = by_both NoStale s.second (Relook s placed Second) (Ended (end_of s.value placed)) tt (end_fresh s.value placed)
 
   next_fresh : (s : Seen) (placed : ℕ) (p : Role) → NoStale (relook_next s placed p)
   next_fresh s placed Home = tt
-  next_fresh s placed Probing = both_fresh s.first (Relook s placed First) (relook_second s placed) tt (second_fresh s placed)
+  next_fresh s placed Probing = by_both NoStale s.first (Relook s placed First) (relook_second s placed) tt (second_fresh s placed)
   next_fresh s placed First = second_fresh s placed
   next_fresh s placed p = end_fresh s.value placed
 
   fresh_in : (s : ReadStep) (n : ℕ) → wanted_in task s ≢ Done → ((w : Walk) → s ≡ Way w → (segment byte : ℕ) → walk_taken task.site task.hash w n ≡ walked.Stale segment byte → ⊥) → NoStale (next_in task s n)
   fresh_in (Way w) n asks none = walked_fresh (walk_taken task.site task.hash w n) (none w refl)
   fresh_in (Look s p) n asks none =
-      both_fresh (n % 2 == 0) (looked (with_free s p n) p) (busy (lock_of task s p) n) (open_fresh (looked (with_free s p n) p) (looked_open (with_free s p n) p)) tt
+      by_both NoStale (n % 2 == 0) (looked (with_free s p n) p) (busy (lock_of task s p) n) (open_fresh (looked (with_free s p n) p) (looked_open (with_free s p n) p)) tt
   fresh_in (Fill s p load) n asks none = open_fresh (filled task.key task.hash s p (load_taken load n)) (filled_open task.key task.hash s p (load_taken load n))
   fresh_in (Count s) n asks none = tt
   fresh_in (Check s placed at) n asks none = backed_fresh s placed (back_taken task.site task.hash s.path at n)
   fresh_in (Relook s placed p) n asks none =
-      both_fresh (n % 2 == 1) (busy (lock_of task s p) n) (if n == free_at s.free p then relook_next s placed p else moved (lock_of task s p) (free_at s.free p) n) tt
-      (both_fresh (n == free_at s.free p) (relook_next s placed p) (moved (lock_of task s p) (free_at s.free p) n) (next_fresh s placed p) tt)
+      by_both NoStale (n % 2 == 1) (busy (lock_of task s p) n) (if n == free_at s.free p then relook_next s placed p else moved (lock_of task s p) (free_at s.free p) n) tt
+      (by_both NoStale (n == free_at s.free p) (relook_next s placed p) (moved (lock_of task s p) (free_at s.free p) n) (next_fresh s placed p) tt)
   fresh_in (Ended end) n asks none = absurd (asks refl)
 
 pub never_stale : NeverStale

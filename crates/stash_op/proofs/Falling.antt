@@ -1,6 +1,5 @@
 -- Each answer of the kind that was asked for leaves fewer events.
-use Rattle.std.proofs.Common.{◌≡◌, ℕ, ◌+◌, ◌%◌, ◌<◌, ◌≤◌, Bool, true, false, Option, Some, None, sym, subst, arith}
-use Rattle.std.specs.Prelude.{if◌then◌else◌}
+use Rattle.std.proofs.Common.{◌≡◌, ℕ, ◌+◌, ◌%◌, ◌<◌, ◌≤◌, Option, Some, None, sym, subst, arith}
 use Rattle.op_core.specs.declared.want.Ans.{Ans}
 use Rattle.op_core.specs.declared.want.Ans.TheVariants.{Value, Drawn, Passed}
 use Rattle.op_core.specs.Answers.{IsAnswer}
@@ -42,6 +41,7 @@ use Rattle.phase.specs.declared.ending.Ending.TheVariants as ending
 use Rattle.stash_op.specs.declared.step.NoteWords.{NoteWords}
 use Rattle.phase.specs.declared.note.NoteWord.{NoteWord}
 use Rattle.phase.specs.declared.note.NoteWord.TheVariants.{Mark, Fingers}
+use Rattle.phase.proofs.locks.Choosing.{by_both}
 use Rattle.stash_op.specs.declared.step.StashStep.{StashStep}
 use Rattle.stash_op.specs.declared.step.StashStep.TheVariants.{Lock, Fill, Note, Draw, CountSpent, Give, Ended}
 use Rattle.stash_op.specs.declared.step.StashStep.TheVariants as step
@@ -53,10 +53,6 @@ use Rattle.stash_op.specs.Left.{left_at, left_behind, left_behind_lock, left_of_
 
 abbrev left_of : Stage → ℕ
 left_of s = left_at s.step
-
-both_most : (n : ℕ) (b : Bool) (s t : Stage) → left_of s ≤ n → left_of t ≤ n → left_of (if b then s else t) ≤ n
-both_most n true s t p q = p
-both_most n false s t p q = q
 
 -- ---- locks back
 by_next : (next : Option (Role × ℕ)) (held : Held) (end : Ending) → left_at (given_by next held end) ≤ give_left held
@@ -115,7 +111,7 @@ made_most seen (made.On make) = omega arith
 made_most seen made.Settled = omega arith
 
 noted_most : (hash : ℕ) (seen : Seen) → left_of (noted_to hash seen Mark) ≤ 8
-noted_most hash seen = both_most 8 (has_finger seen (noted hash seen)) (go seen (Note Fingers)) (go seen Draw) (omega arith) (omega arith)
+noted_most hash seen = by_both (λ (s : Stage). left_of s ≤ 8) (has_finger seen (noted hash seen)) (go seen (Note Fingers)) (go seen Draw) (omega arith) (omega arith)
 
 -- ---- each event
 note_answer : (kept : Kept) (part : NoteWord) (note : NoteWords) (a : Ans) → IsAnswer (note_wanted kept part note) a → a ≡ Passed

@@ -1,6 +1,6 @@
 -- Each reply is told as it was seen.
-use Rattle.std.proofs.Common.{◌≡◌, ℕ, Bool, true, false, None, Some, refl, sym, ap, ◌∙◌, subst}
-use Rattle.std.specs.Prelude.{⊤, if◌then◌else◌}
+use Rattle.std.proofs.Common.{◌≡◌, ℕ, None, Some, refl, sym, ap, ◌∙◌, subst}
+use Rattle.std.specs.Prelude.{⊤}
 use Rattle.std.proofs.lemmas.Option.{none-some, same_Some}
 use Rattle.op_core.specs.declared.want.Ans.{Ans}
 use Rattle.op_core.specs.declared.want.Ans.TheVariants.{Value, Drawn, Passed}
@@ -18,6 +18,7 @@ use Rattle.phase.specs.declared.ending.Ending.TheVariants as ending
 use Rattle.phase.specs.declared.note.NoteWord.{NoteWord}
 use Rattle.phase.specs.declared.note.NoteWord.TheVariants.{Mark, Fingers}
 use Rattle.phase.specs.Endings.{outcome_then}
+use Rattle.phase.proofs.locks.Choosing.{by_both}
 use Rattle.stash_op.specs.declared.step.Stage.{Stage}
 use Rattle.stash_op.specs.declared.step.StashStep.{StashStep}
 use Rattle.stash_op.specs.declared.step.StashStep.TheVariants.{Lock, Fill, Note, Draw, CountSpent, Give}
@@ -45,12 +46,8 @@ made_quiet : (seen : Seen) (x : Made) → reply_at (made_to seen x).step ≡ Non
 made_quiet seen (made.On m) = refl
 made_quiet seen made.Settled = refl
 
-either_quiet : (b : Bool) (s t : Stage) → reply_at s.step ≡ None → reply_at t.step ≡ None → reply_at (if b then s else t).step ≡ None
-either_quiet true s t p q = p
-either_quiet false s t p q = q
-
 noted_quiet : (hash : ℕ) (seen : Seen) (part : NoteWord) → reply_at (noted_to hash seen part).step ≡ None
-noted_quiet hash seen Mark = either_quiet (has_finger seen (noted hash seen)) (go seen (Note Fingers)) (go seen Draw) refl refl
+noted_quiet hash seen Mark = by_both (λ (s : Stage). reply_at s.step ≡ None) (has_finger seen (noted hash seen)) (go seen (Note Fingers)) (go seen Draw) refl refl
 noted_quiet hash seen Fingers = refl
 
 replies : (kept : Kept) (seen : Seen) (s : StashStep) (a : Ans) → outcome_at s ≡ None → (answer : Reply) (place : ℕ) → outcome_at (next_in kept seen s a).step ≡ Some (replied answer place)

@@ -1,6 +1,6 @@
 -- Each answer of the kind that was asked for leaves a change fewer events.
-use Rattle.std.proofs.Common.{◌≡◌, ℕ, ◌+◌, ◌%◌, ◌^◌, ◌<◌, ◌≤◌, Bool, true, false, Option, Some, None, refl, sym, subst, arith}
-use Rattle.std.specs.Prelude.{if◌then◌else◌, nat_le}
+use Rattle.std.proofs.Common.{◌≡◌, ℕ, ◌+◌, ◌%◌, ◌^◌, ◌<◌, ◌≤◌, Option, Some, None, refl, sym, subst, arith}
+use Rattle.std.specs.Prelude.{nat_le}
 use Rattle.op_core.specs.declared.want.Ans.{Ans}
 use Rattle.op_core.specs.declared.want.Ans.TheVariants.{Value, Drawn, Passed}
 use Rattle.op_core.specs.Answers.{IsAnswer}
@@ -57,6 +57,7 @@ use Rattle.phase.specs.declared.ending.Ending.TheVariants as ending
 use Rattle.write_op.specs.declared.search.NoteWords.{NoteWords}
 use Rattle.phase.specs.declared.note.NoteWord.{NoteWord}
 use Rattle.phase.specs.declared.note.NoteWord.TheVariants.{Mark, Fingers}
+use Rattle.phase.proofs.locks.Choosing.{by_both}
 use Rattle.write_op.specs.declared.step.WriteStep.{WriteStep}
 use Rattle.write_op.specs.declared.step.WriteStep.TheVariants.{Way, Lock, Check, Fill, Count, Draw, Unnote, CountSpent, Give, Ended}
 use Rattle.write_op.specs.declared.step.WriteStep.TheVariants as step
@@ -68,14 +69,6 @@ use Rattle.write_op.specs.Left.{left_at, left_behind, left_behind_lock, left_of_
 
 abbrev left_of : Stage → ℕ
 left_of s = left_at s.step
-
-both_most : (n : ℕ) (b : Bool) (s t : Stage) → left_of s ≤ n → left_of t ≤ n → left_of (if b then s else t) ≤ n
-both_most n true s t p q = p
-both_most n false s t p q = q
-
-either_most : (n : ℕ) (b : Bool) (s t : WriteStep) → left_at s ≤ n → left_at t ≤ n → left_at (if b then s else t) ≤ n
-either_most n true s t p q = p
-either_most n false s t p q = q
 
 -- ---- locks back
 by_next : (next : Option (Role × ℕ)) (held : Held) (end : Ending) → left_at (given_by next held end) ≤ give_left held
@@ -131,10 +124,10 @@ backed_most seen (backed.Moved word before after) = let few = give_most seen (en
 
 -- ---- buckets
 second_most : (seen : Seen) → left_at (visit_second seen) ≤ 52
-second_most seen = either_most 52 seen.second (Lock Second Look) Count (omega arith) (omega arith)
+second_most seen = by_both (λ (s : WriteStep). left_at s ≤ 52) seen.second (Lock Second Look) Count (omega arith) (omega arith)
 
 first_most : (seen : Seen) → left_at (visit_first seen) ≤ 85
-first_most seen = let rest = second_most seen in either_most 85 seen.first (Lock First Look) (visit_second seen) (omega arith) (omega (arith, rest))
+first_most seen = let rest = second_most seen in by_both (λ (s : WriteStep). left_at s ≤ 85) seen.first (Lock First Look) (visit_second seen) (omega arith) (omega (arith, rest))
 
 filled_most : (hash : ℕ) (seen : Seen) (place : Role) → left_of (filled hash seen place) ≤ left_behind place
 filled_most hash seen Home = omega arith
@@ -164,7 +157,7 @@ decided_most task seen count (Update value) = changing_most task seen count (fou
 decided_most task seen count Remove = changing_most task seen count (found seen task.change.key)
 
 counted_most : (task : Task) (seen : Seen) (count : ℕ) → left_of (counted task seen count) ≤ 18
-counted_most task seen count = both_most 18 (nat_le (2 ^ 63) count) (answered seen count reply.Spent) (decided task seen count task.change.effect)
+counted_most task seen count = by_both (λ (s : Stage). left_of s ≤ 18) (nat_le (2 ^ 63) count) (answered seen count reply.Spent) (decided task seen count task.change.effect)
     (let few = answered_most seen count reply.Spent in omega (arith, few)) (decided_most task seen count task.change.effect)
 
 -- ---- stores, the draw, and the note
@@ -173,11 +166,11 @@ made_most seen (made.On make) = omega arith
 made_most seen made.Settled = omega arith
 
 drawn_most : (task : Task) (seen : Seen) (place : ℕ) → left_of (drawn_to task seen place) ≤ 8
-drawn_most task seen place = both_most 8 (leaves_note task.change.effect seen.place) (go seen (Unnote Mark place)) (answered seen place reply.Done)
+drawn_most task seen place = by_both (λ (s : Stage). left_of s ≤ 8) (leaves_note task.change.effect seen.place) (go seen (Unnote Mark place)) (answered seen place reply.Done)
     (omega arith) (let few = answered_most seen place reply.Done in omega (arith, few))
 
 unnoted_most : (task : Task) (seen : Seen) (place : ℕ) → left_of (unnoted_to task seen Mark place) ≤ 7
-unnoted_most task seen place = both_most 7 (has_finger seen (unnoted task.hash seen)) (go seen (Unnote Fingers place)) (answered seen place reply.Done)
+unnoted_most task seen place = by_both (λ (s : Stage). left_of s ≤ 7) (has_finger seen (unnoted task.hash seen)) (go seen (Unnote Fingers place)) (answered seen place reply.Done)
     (omega arith) (let few = answered_most seen place reply.Done in omega (arith, few))
 
 -- ---- each event

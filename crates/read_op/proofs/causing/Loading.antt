@@ -7,6 +7,7 @@ use Rattle.image_layout.specs.Places.{root_word}
 use Rattle.way.specs.Ways.{entry_word, head_word}
 use Rattle.part.specs.Doings.{Doings, with_event_of, nothing_done}
 use Rattle.phase.specs.declared.walk.Walk.TheVariants as walk
+use Rattle.phase.specs.declared.walk.Walked.{Walked}
 use Rattle.phase.specs.declared.walk.Walked.TheVariants as walked
 use Rattle.phase.specs.declared.back.Backed.{Backed}
 use Rattle.phase.specs.declared.back.Backed.TheVariants as backed
@@ -41,10 +42,6 @@ kept_or_not false x xs past within = later xs x past within
 module _ (task : Task) where
   abbrev Kept : List (ℕ × ℕ) → ReadStep → Type 0
   Kept past s = IsWithin (kept_in task s) past
-
-  either : (past : List (ℕ × ℕ)) (b : Bool) (s t : ReadStep) → Kept past s → Kept past t → Kept past (if b then s else t)
-  either past true s t p q = p
-  either past false s t p q = q
 
   -- ---- where a bucket is next
   second_within : (past : List (ℕ × ℕ)) (s : Seen) → IsWithin (kept_first task s) past → Kept past (visit_second s)
@@ -93,32 +90,32 @@ module _ (task : Task) where
       backed_within s placed (backed.Moved word before after) within = tt
 
       relook_second_within : (s : Seen) (placed : ℕ) → IsWithin (kept_in task (Relook s placed Home)) past → Kept (x ∷ past) (relook_second s placed)
-      relook_second_within s placed within = either (x ∷ past) s.second (Relook s placed Second) (Ended (end_of s.value placed)) (inr within) tt
+      relook_second_within s placed within = by_both (Kept (x ∷ past)) s.second (Relook s placed Second) (Ended (end_of s.value placed)) (inr within) tt
 
       relook_within : (s : Seen) (placed : ℕ) (p : Role) → IsWithin (kept_in task (Relook s placed Home)) past → Kept (x ∷ past) (relook_next s placed p)
       relook_within s placed Home within = inr within
-      relook_within s placed Probing within = either (x ∷ past) s.first (Relook s placed First) (relook_second s placed) (inr within) (relook_second_within s placed within)
+      relook_within s placed Probing within = by_both (Kept (x ∷ past)) s.first (Relook s placed First) (relook_second s placed) (inr within) (relook_second_within s placed within)
       relook_within s placed First within = relook_second_within s placed within
       relook_within s placed p within = tt
 
     step_within : (s : ReadStep) (n : ℕ) → Kept past s → Kept (load_of (wanted_in task s) (Value n) ++ past) (next_in task s n)
-    step_within (Way walk.Power) n within = by_both (λ x. Kept past (walked_to x)) (n == 0) (walked.On walk.Root) walked.Off tt tt
+    step_within (Way walk.Power) n within = by_both (λ (x : Walked). Kept past (walked_to x)) (n == 0) (walked.On walk.Root) walked.Off tt tt
     step_within (Way walk.Root) n within =
-        by_both (λ x. Kept ((root_word, n) ∷ past) (walked_to x)) (nat_le n task.site.geometry.depth) (walked.On (walk.Entry n)) (walked.Amiss root_word n) (inl (refl, tt)) tt
+        by_both (λ (x : Walked). Kept ((root_word, n) ∷ past) (walked_to x)) (nat_le n task.site.geometry.depth) (walked.On (walk.Entry n)) (walked.Amiss root_word n) (inl (refl, tt)) tt
     step_within (Way (walk.Entry root)) n within =
         let word = entry_word task.site.geometry task.hash root in
-        by_both (λ x. Kept ((word, n) ∷ past) (walked_to x)) (nat_lt n task.site.geometry.segments) (walked.On (walk.Head root n)) (walked.Amiss word n) (inl (refl, within)) tt
+        by_both (λ (x : Walked). Kept ((word, n) ∷ past) (walked_to x)) (nat_lt n task.site.geometry.segments) (walked.On (walk.Head root n)) (walked.Amiss word n) (inl (refl, within)) tt
     step_within (Way (walk.Head root segment)) n within =
         let word = head_word task.site.geometry segment in
         by_head (λ x. Kept ((word, n) ∷ past) (walked_to x)) task.site task.hash root segment n (λ live current. inl (refl, within)) (λ live old. tt) (λ dead. tt)
-    step_within (Look s p) n within = either ((lock_of task s p, n) ∷ past) (n % 2 == 0) (looked (with_free s p n) p) (busy (lock_of task s p) n) (look_within s p n within) tt
+    step_within (Look s p) n within = by_both (Kept ((lock_of task s p, n) ∷ past)) (n % 2 == 0) (looked (with_free s p n) p) (busy (lock_of task s p) n) (look_within s p n within) tt
     step_within (Fill s p load) n within = filled_within (lock_of task s p + load.next % 32, n) s p load (load_taken load n) within
     step_within (Count s) n within = inl (refl, within)
     step_within (Check s placed at) n within = backed_within (_, n) s placed (back_taken task.site task.hash s.path at n) within
     step_within (Relook s placed p) n within =
         let x : ℕ × ℕ = (lock_of task s p, n) in
-        either (x ∷ past) (n % 2 == 1) (busy (lock_of task s p) n) (if n == free_at s.free p then relook_next s placed p else moved (lock_of task s p) (free_at s.free p) n) tt
-        (either (x ∷ past) (n == free_at s.free p) (relook_next s placed p) (moved (lock_of task s p) (free_at s.free p) n) (relook_within x s placed p within) tt)
+        by_both (Kept (x ∷ past)) (n % 2 == 1) (busy (lock_of task s p) n) (if n == free_at s.free p then relook_next s placed p else moved (lock_of task s p) (free_at s.free p) n) tt
+        (by_both (Kept (x ∷ past)) (n == free_at s.free p) (relook_next s placed p) (moved (lock_of task s p) (free_at s.free p) n) (relook_within x s placed p within) tt)
     step_within (Ended end) n within = tt
 
 all_within : (seen : List ℕ) (op : ReadOp) (did : Doings) → IsWithin (kept_in op.task op.step) did.loads → IsWithin (kept_in (after_all op seen).task (after_all op seen).step) (did_all op seen did).loads

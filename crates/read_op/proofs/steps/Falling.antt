@@ -1,5 +1,5 @@
 -- Each event of a get leaves fewer to do.
-use Rattle.std.proofs.Common.{◌≡◌, ◌≢◌, ℕ, ◌+◌, ◌-◌, ◌<◌, ◌≤◌, Bool, true, false, List, [], ◌∷◌, length, refl, arith}
+use Rattle.std.proofs.Common.{◌≡◌, ◌≢◌, ℕ, ◌+◌, ◌-◌, ◌<◌, ◌≤◌, List, [], ◌∷◌, length, refl, arith}
 use Rattle.std.specs.Prelude.{if◌then◌else◌, ◌==◌, ◌%◌}
 use Rattle.op_core.specs.declared.want.Want.TheVariants.{Done}
 use Rattle.op_core.specs.declared.want.Ans.TheVariants.{Value}
@@ -18,6 +18,7 @@ use Rattle.phase.proofs.Loading.{load_falls}
 use Rattle.phase.proofs.Backing.{back_few, back_falls}
 use Rattle.phase.specs.declared.role.Role.{Role}
 use Rattle.phase.specs.declared.role.Role.TheVariants.{Home, Probing, First, Second}
+use Rattle.phase.proofs.locks.Choosing.{by_both}
 use Rattle.read_op.specs.declared.step.Seen.{Seen}
 use Rattle.read_op.specs.declared.step.ReadStep.{ReadStep}
 use Rattle.read_op.specs.declared.step.ReadStep.TheVariants.{Way, Look, Fill, Count, Check, Relook, Ended}
@@ -27,10 +28,6 @@ use Rattle.read_op.specs.Places.{free_at}
 use Rattle.read_op.specs.Steps.{begun, wanted, wanted_in, taken, next_in, walked_to, visit_first, visit_second, with_free, looked, read_all, read_probing, with_value, filled, backed_to, relook_first, relook_second, relook_next, relooked, busy, moved, end_of, lock_of}
 use Rattle.read_op.specs.Budget.{most_events, left, left_of_look, left_behind, left_of_relook, Falls, EndsInTime, after_all}
 
-pub both_most : (n : ℕ) (b : Bool) (s t : ReadStep) → left s ≤ n → left t ≤ n → left (if b then s else t) ≤ n
-both_most n true s t p q = p
-both_most n false s t p q = q
-
 walked_most : (x : Walked) → left (walked_to x) ≤ 136 + walked_left x
 walked_most (walked.On w) = omega arith
 walked_most (walked.There path) = omega arith
@@ -39,10 +36,10 @@ walked_most (walked.Amiss word seen) = omega arith
 walked_most (walked.Stale segment version) = omega arith
 
 second_most : (s : Seen) → left (visit_second s) ≤ 40
-second_most s = both_most 40 s.second (Look s Second) (Count s) (omega arith) (omega arith)
+second_most s = by_both (λ (s : ReadStep). left s ≤ 40) s.second (Look s Second) (Count s) (omega arith) (omega arith)
 
 first_most : (s : Seen) → left (visit_first s) ≤ 72
-first_most s = let rest = second_most s in both_most 72 s.first (Look s First) (visit_second s) (omega arith) (omega (arith, rest))
+first_most s = let rest = second_most s in by_both (λ (s : ReadStep). left s ≤ 72) s.first (Look s First) (visit_second s) (omega arith) (omega (arith, rest))
 
 all_most : (key hash : ℕ) (s : Seen) (p : Role) (words : List ℕ) → left (read_all key hash s p words) ≤ left_behind p
 all_most key hash s Home words = omega arith
@@ -71,10 +68,10 @@ backed_most s placed backed.Same = omega arith
 backed_most s placed (backed.Moved word before after) = omega arith
 
 relook_second_most : (s : Seen) (placed : ℕ) → left (relook_second s placed) ≤ 1
-relook_second_most s placed = both_most 1 s.second (Relook s placed Second) (Ended (end_of s.value placed)) (omega arith) (omega arith)
+relook_second_most s placed = by_both (λ (s : ReadStep). left s ≤ 1) s.second (Relook s placed Second) (Ended (end_of s.value placed)) (omega arith) (omega arith)
 
 relook_first_most : (s : Seen) (placed : ℕ) → left (relook_first s placed) ≤ 2
-relook_first_most s placed = let rest = relook_second_most s placed in both_most 2 s.first (Relook s placed First) (relook_second s placed) (omega arith) (omega (arith, rest))
+relook_first_most s placed = let rest = relook_second_most s placed in by_both (λ (s : ReadStep). left s ≤ 2) s.first (Relook s placed First) (relook_second s placed) (omega arith) (omega (arith, rest))
 
 relook_most : (s : Seen) (placed : ℕ) (p : Role) → left (relook_next s placed p) + 1 ≤ left_of_relook p
 relook_most s placed Home = omega arith
@@ -85,8 +82,8 @@ relook_most s placed p = omega arith
 relooked_most : (task : Task) (s : Seen) (placed : ℕ) (p : Role) (n : ℕ) → left (relooked task s placed p n) ≤ left_of_relook p - 1
 relooked_most task s placed p n =
     let next = relook_most s placed p in
-    both_most (left_of_relook p - 1) (n % 2 == 1) (busy (lock_of task s p) n) (if n == free_at s.free p then relook_next s placed p else moved (lock_of task s p) (free_at s.free p) n) (omega arith)
-    (both_most (left_of_relook p - 1) (n == free_at s.free p) (relook_next s placed p) (moved (lock_of task s p) (free_at s.free p) n) (omega (arith, next)) (omega arith))
+    by_both (λ (s : ReadStep). left s ≤ (left_of_relook p - 1)) (n % 2 == 1) (busy (lock_of task s p) n) (if n == free_at s.free p then relook_next s placed p else moved (lock_of task s p) (free_at s.free p) n) (omega arith)
+    (by_both (λ (s : ReadStep). left s ≤ (left_of_relook p - 1)) (n == free_at s.free p) (relook_next s placed p) (moved (lock_of task s p) (free_at s.free p) n) (omega (arith, next)) (omega arith))
 
 some_relook : (p : Role) → 0 < left_of_relook p
 some_relook Home = omega arith
@@ -100,7 +97,7 @@ lowers task (Way w) n =
     let most = walked_most (walk_taken task.site task.hash w n) in let low = walk_falls task.site task.hash w n in omega (arith, most, low)
 lowers task (Look s p) n =
     let next = looked_most (with_free s p n) p in let some = some_look p in
-    both_most (left_of_look p - 1) (n % 2 == 0) (looked (with_free s p n) p) (busy (lock_of task s p) n) (omega (arith, next, some)) (omega arith)
+    by_both (λ (s : ReadStep). left s ≤ (left_of_look p - 1)) (n % 2 == 0) (looked (with_free s p n) p) (busy (lock_of task s p) n) (omega (arith, next, some)) (omega arith)
 lowers task (Fill s p load) n = let most = filled_most task.key task.hash s p (load_taken load n) in let low = load_falls load n in omega (arith, most, low)
 lowers task (Count s) n = omega arith
 lowers task (Check s placed at) n =

@@ -1,5 +1,5 @@
 -- Each outcome has its cause, beside any other callers; and who is told that a lock is taken does not hold it.
-use Rattle.std.proofs.Common.{◌≡◌, ◌≢◌, ℕ, ◌+◌, ◌<◌, Bool, true, false, None, Some, IsTrue, inl, inr, refl, sym, ap, ◌∙◌, subst, arith, slice_index}
+use Rattle.std.proofs.Common.{◌≡◌, ◌≢◌, ℕ, ◌+◌, ◌<◌, false, None, Some, IsTrue, inl, inr, refl, sym, ap, ◌∙◌, subst, arith, slice_index}
 use Rattle.std.specs.Prelude.{⊤, if◌then◌else◌}
 use Rattle.std.proofs.lemmas.Bool.{lt-ltb}
 use Rattle.std.proofs.lemmas.Option.{none-some, same_Some}
@@ -53,6 +53,7 @@ use Rattle.phase.specs.declared.ending.Ending.TheVariants as ending
 use Rattle.phase.specs.declared.note.NoteWord.{NoteWord}
 use Rattle.phase.specs.declared.note.NoteWord.TheVariants.{Mark, Fingers}
 use Rattle.phase.specs.Endings.{outcome_then}
+use Rattle.phase.proofs.locks.Choosing.{by_both}
 use Rattle.stash_op.specs.declared.step.StashEnd.{StashEnd}
 use Rattle.stash_op.specs.declared.step.StashEnd.TheVariants as ends
 use Rattle.stash_op.specs.declared.step.StashStep.{StashStep}
@@ -166,12 +167,8 @@ module _ (site : Ground) (kept : Kept) (is : IsIn site kept) (words : Words) (se
   make_open m Passed = made_open (make_taken seen.written.slot m)
   make_open m a = refl
 
-  either_open : (b : Bool) (s t : Stage) → outcome_at s.step ≡ None → outcome_at t.step ≡ None → outcome_at (if b then s else t).step ≡ None
-  either_open true s t p q = p
-  either_open false s t p q = q
-
   noted_open : (part : NoteWord) → outcome_at (noted_to kept.hash seen part).step ≡ None
-  noted_open Mark = either_open (has_finger seen (noted kept.hash seen)) (go seen (Note Fingers)) (go seen Draw) refl refl
+  noted_open Mark = by_both (λ (s : Stage). outcome_at s.step ≡ None) (has_finger seen (noted kept.hash seen)) (go seen (Note Fingers)) (go seen Draw) refl refl
   noted_open Fingers = refl
 
   note_open : (part : NoteWord) (a : Ans) → outcome_at (next_in kept seen (Note part) a).step ≡ None

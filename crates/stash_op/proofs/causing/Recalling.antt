@@ -47,6 +47,7 @@ use Rattle.phase.specs.declared.ending.Ending.{Ending}
 use Rattle.phase.specs.declared.ending.Ending.TheVariants as ending
 use Rattle.phase.specs.declared.note.NoteWord.{NoteWord}
 use Rattle.phase.specs.declared.note.NoteWord.TheVariants.{Mark, Fingers}
+use Rattle.phase.proofs.locks.Choosing.{by_both}
 use Rattle.stash_op.specs.declared.step.StashEnd.TheVariants as ends
 use Rattle.stash_op.specs.declared.step.StashStep.{StashStep}
 use Rattle.stash_op.specs.declared.step.StashStep.TheVariants.{Lock, Fill, Note, Draw, CountSpent, Give, Ended}
@@ -224,12 +225,8 @@ module _ (site : Ground) (kept : Kept) where
     make_recalls m Passed = made_recalls (make_taken seen.written.slot m)
     make_recalls m a = tt
 
-    both : (b : Bool) (s t : Stage) → Recalls s d → Recalls t d → Recalls (if b then s else t) d
-    both true s t p q = p
-    both false s t p q = q
-
     noted_recalls : (part : NoteWord) → Recalls (noted_to kept.hash seen part) d
-    noted_recalls Mark = both (has_finger seen (noted kept.hash seen)) (go seen (Note Fingers)) (go seen Draw) tt tt
+    noted_recalls Mark = by_both (λ (s : Stage). Recalls s d) (has_finger seen (noted kept.hash seen)) (go seen (Note Fingers)) (go seen Draw) tt tt
     noted_recalls Fingers = tt
 
     note_recalls : (part : NoteWord) (a : Ans) → Recalls (next_in kept seen (Note part) a) d

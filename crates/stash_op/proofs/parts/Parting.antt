@@ -30,6 +30,7 @@ use Rattle.phase.specs.declared.ending.Ending.{Ending}
 use Rattle.phase.specs.declared.ending.Ending.TheVariants as ending
 use Rattle.phase.specs.declared.note.NoteWord.{NoteWord}
 use Rattle.phase.specs.declared.note.NoteWord.TheVariants.{Mark, Fingers}
+use Rattle.phase.proofs.locks.Choosing.{by_both}
 use Rattle.stash_op.specs.declared.step.StashEnd.{StashEnd}
 use Rattle.stash_op.specs.declared.step.StashEnd.TheVariants as ends
 use Rattle.stash_op.specs.declared.step.StashStep.{StashStep}
@@ -77,10 +78,6 @@ module _ (kept : Kept) (seen : Seen) where
   makes_in (Ended end) n p = absurd p
 
   -- ---- and it stays made
-  either_made : (b : Bool) (s t : Stage) → HasMadeAt s.step → HasMadeAt t.step → HasMadeAt (if b then s else t).step
-  either_made true s t p q = p
-  either_made false s t p q = q
-
   given_made : (next : Option (Role × ℕ)) (held : Held) (answer : Reply) (place : ℕ) → IsDone answer → HasMadeAt (given_by next held (ending.Replied answer place))
   given_made (Some next) held answer place d = d
   given_made None held answer place d = d
@@ -89,7 +86,7 @@ module _ (kept : Kept) (seen : Seen) where
   giving_made held answer place d = given_made (give_next held) held answer place d
 
   noted_made : (part : NoteWord) → HasMadeAt (next_in kept seen (Note part) Passed).step
-  noted_made Mark = either_made (has_finger seen (noted kept.hash seen)) (go seen (Note Fingers)) (go seen Draw) tt tt
+  noted_made Mark = by_both (λ (s : Stage). HasMadeAt s.step) (has_finger seen (noted kept.hash seen)) (go seen (Note Fingers)) (go seen Draw) tt tt
   noted_made Fingers = tt
 
   make_stays : (m : Make) (a : Ans) → IsPublished m → HasMadeAt (next_in kept seen (step.Make m) a).step

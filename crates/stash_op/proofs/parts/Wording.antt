@@ -25,6 +25,7 @@ use Rattle.stash_op.specs.declared.step.Seen.{Seen}
 use Rattle.phase.specs.declared.ending.Ending.{Ending}
 use Rattle.phase.specs.declared.note.NoteWord.{NoteWord}
 use Rattle.phase.specs.declared.note.NoteWord.TheVariants.{Mark, Fingers}
+use Rattle.phase.proofs.locks.Choosing.{by_both}
 use Rattle.stash_op.specs.declared.step.StashStep.{StashStep}
 use Rattle.stash_op.specs.declared.step.StashStep.TheVariants.{Lock, Fill, Note, Draw, CountSpent, Give, Ended}
 use Rattle.stash_op.specs.declared.step.StashStep.TheVariants as step
@@ -39,10 +40,6 @@ Words st = ((p : Role) → AreWords (words_in st.seen.buckets p)) × HasWordsAt 
 by_next : (next : Option (Role × ℕ)) (held : Held) (end : Ending) → HasWordsAt (given_by next held end)
 by_next (Some next) held end = tt
 by_next None held end = tt
-
-both_words : (b : Bool) (s t : Stage) → Words s → Words t → Words (if b then s else t)
-both_words true s t p q = p
-both_words false s t p q = q
 
 module _ (kept : Kept) (seen : Seen) (all : (p : Role) → AreWords (words_in seen.buckets p)) where
   give_words : (end : Ending) → Words (give seen end)
@@ -89,7 +86,7 @@ module _ (kept : Kept) (seen : Seen) (all : (p : Role) → AreWords (words_in se
   made_words made.Settled = (all, tt)
 
   noted_words : (part : NoteWord) → Words (noted_to kept.hash seen part)
-  noted_words Mark = both_words (has_finger seen (noted kept.hash seen)) (go seen (Note Fingers)) (go seen Draw) (all, tt) (all, tt)
+  noted_words Mark = by_both Words (has_finger seen (noted kept.hash seen)) (go seen (Note Fingers)) (go seen Draw) (all, tt) (all, tt)
   noted_words Fingers = (all, tt)
 
   -- an answer that is a word leaves words

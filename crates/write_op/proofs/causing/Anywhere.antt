@@ -41,6 +41,7 @@ use Rattle.phase.specs.declared.ending.Ending.{Ending}
 use Rattle.phase.specs.declared.ending.Ending.TheVariants as ending
 use Rattle.phase.specs.declared.note.NoteWord.{NoteWord}
 use Rattle.phase.specs.declared.note.NoteWord.TheVariants.{Mark, Fingers}
+use Rattle.phase.proofs.locks.Choosing.{by_both}
 use Rattle.write_op.specs.declared.step.WriteStep.{WriteStep}
 use Rattle.write_op.specs.declared.step.WriteStep.TheVariants.{Way, Lock, Check, Fill, Count, Draw, Unnote, CountSpent, Give, Ended}
 use Rattle.write_op.specs.declared.step.WriteStep.TheVariants as step
@@ -64,10 +65,6 @@ HoldsIn seen more = ⊤
 
 abbrev Holds : Stage → Type 0
 Holds s = HoldsIn s.seen s.step
-
-both : (b : Bool) (s t : Stage) → Holds s → Holds t → Holds (if b then s else t)
-both true s t p q = p
-both false s t p q = q
 
 given_holds : (seen : Seen) (next : Option (Role × ℕ)) (held : Held) (end : Ending) → HoldsIn seen (given_by next held end)
 given_holds seen (Some next) held end = tt
@@ -162,7 +159,7 @@ module _ (task : Task) (seen : Seen) where
   made_holds made.Settled = tt
 
   unnoted_holds : (part : NoteWord) (place : ℕ) → Holds (unnoted_to task seen part place)
-  unnoted_holds Mark place = both (has_finger seen (unnoted task.hash seen)) (go seen (Unnote Fingers place)) (answered seen place reply.Done) tt (giving_holds seen seen.held _)
+  unnoted_holds Mark place = by_both Holds (has_finger seen (unnoted task.hash seen)) (go seen (Unnote Fingers place)) (answered seen place reply.Done) tt (giving_holds seen seen.held _)
   unnoted_holds Fingers place = giving_holds seen seen.held _
 
   -- by any answer
@@ -171,9 +168,9 @@ module _ (task : Task) (seen : Seen) where
   next_holds (Lock place take) a h = taken_holds place (lock_of task seen place) (take_taken take a) h.0 h.1
   next_holds (Check back) (Value n) h = backed_holds (back_taken task.site task.hash seen.path back n) h
   next_holds (Fill place load) (Value n) h = filled_holds place (load_taken load n) h
-  next_holds Count (Value n) h = both (nat_le (2 ^ 63) n) (answered seen n reply.Spent) (decided task seen n task.change.effect) (giving_holds seen seen.held _) (decided_holds n task.change.effect)
+  next_holds Count (Value n) h = by_both Holds (nat_le (2 ^ 63) n) (answered seen n reply.Spent) (decided task seen n task.change.effect) (giving_holds seen seen.held _) (decided_holds n task.change.effect)
   next_holds (step.Make m) Passed h = made_holds (make_taken seen.written.slot m)
-  next_holds Draw (Drawn n) h = both (leaves_note task.change.effect seen.place) (go seen (Unnote Mark n)) (answered seen n reply.Done) tt (giving_holds seen seen.held _)
+  next_holds Draw (Drawn n) h = by_both Holds (leaves_note task.change.effect seen.place) (go seen (Unnote Mark n)) (answered seen n reply.Done) tt (giving_holds seen seen.held _)
   next_holds (Unnote part place) Passed h = unnoted_holds part place
   next_holds CountSpent (Value n) h = giving_holds seen seen.held _
   next_holds (Give held end) Passed h = giving_holds seen (given held) end

@@ -1,6 +1,6 @@
 -- The record that a change stores lies in its bucket, whatever values its events find, so each word that it asks for is one of the image.
-use Rattle.std.proofs.Common.{◌≡◌, ℕ, ◌^◌, ◌<◌, Bool, true, false, Option, Some, None, List, [], ◌∷◌, refl, sym, subst, arith, slice_index}
-use Rattle.std.specs.Prelude.{⊤, nat_le, if◌then◌else◌}
+use Rattle.std.proofs.Common.{◌≡◌, ℕ, ◌^◌, ◌<◌, Option, Some, None, List, [], ◌∷◌, refl, sym, subst, arith, slice_index}
+use Rattle.std.specs.Prelude.{⊤, nat_le}
 use Rattle.op_core.specs.declared.want.Ans.{Ans}
 use Rattle.op_core.specs.declared.want.Ans.TheVariants.{Value, Passed, Drawn}
 use Rattle.bucket_meta.specs.Bucket.{record_slots}
@@ -39,6 +39,7 @@ use Rattle.write_op.specs.declared.step.Seen.{Seen}
 use Rattle.phase.specs.declared.ending.Ending.{Ending}
 use Rattle.phase.specs.declared.note.NoteWord.{NoteWord}
 use Rattle.phase.specs.declared.note.NoteWord.TheVariants.{Mark, Fingers}
+use Rattle.phase.proofs.locks.Choosing.{by_both}
 use Rattle.write_op.specs.declared.step.WriteStep.{WriteStep}
 use Rattle.write_op.specs.declared.step.WriteStep.TheVariants.{Way, Lock, Check, Fill, Count, Draw, Unnote, CountSpent, Give, Ended}
 use Rattle.write_op.specs.declared.step.WriteStep.TheVariants as step
@@ -59,14 +60,6 @@ StoresIn seen more = ⊤
 
 abbrev Stores : Stage → Type 0
 Stores s = StoresIn s.seen s.step
-
-both : (b : Bool) (s t : Stage) → Stores s → Stores t → Stores (if b then s else t)
-both true s t p q = p
-both false s t p q = q
-
-either : (seen : Seen) (b : Bool) (s t : WriteStep) → StoresIn seen s → StoresIn seen t → StoresIn seen (if b then s else t)
-either seen true s t p q = p
-either seen false s t p q = q
 
 given_stores : (seen : Seen) (next : Option (Role × ℕ)) (held : Held) (end : Ending) → StoresIn seen (given_by next held end)
 given_stores seen (Some next) held end = tt
@@ -106,10 +99,10 @@ module _ (task : Task) (seen : Seen) where
   backed_stores (backed.Moved word before after) = giving_stores seen seen.held _
 
   second_stores : (s : Seen) → StoresIn s (visit_second s)
-  second_stores s = either s s.second (Lock Second Look) Count tt tt
+  second_stores s = by_both (StoresIn s) s.second (Lock Second Look) Count tt tt
 
   first_stores : (s : Seen) → StoresIn s (visit_first s)
-  first_stores s = either s s.first (Lock First Look) (visit_second s) tt (second_stores s)
+  first_stores s = by_both (StoresIn s) s.first (Lock First Look) (visit_second s) tt (second_stores s)
 
   all_stores : (s : Seen) (place : Role) → Stores (filled task.hash s place)
   all_stores s Home = tt
@@ -145,7 +138,7 @@ module _ (task : Task) (seen : Seen) where
   made_stores b made.Settled = tt
 
   unnoted_stores : (part : NoteWord) (place : ℕ) → Stores (unnoted_to task seen part place)
-  unnoted_stores Mark place = both (has_finger seen (unnoted task.hash seen)) (go seen (Unnote Fingers place)) (answered seen place reply.Done) tt (giving_stores seen seen.held _)
+  unnoted_stores Mark place = by_both Stores (has_finger seen (unnoted task.hash seen)) (go seen (Unnote Fingers place)) (answered seen place reply.Done) tt (giving_stores seen seen.held _)
   unnoted_stores Fingers place = giving_stores seen seen.held _
 
   -- by any answer
@@ -154,9 +147,9 @@ module _ (task : Task) (seen : Seen) where
   next_stores (Lock place take) a b = taken_stores place (lock_of task seen place) (take_taken take a)
   next_stores (Check at) (Value n) b = backed_stores (back_taken task.site task.hash seen.path at n)
   next_stores (Fill place load) (Value n) b = filled_stores place (load_taken load n)
-  next_stores Count (Value n) b = both (nat_le (2 ^ 63) n) (answered seen n reply.Spent) (decided task seen n task.change.effect) (giving_stores seen seen.held _) (decided_stores n task.change.effect)
+  next_stores Count (Value n) b = by_both Stores (nat_le (2 ^ 63) n) (answered seen n reply.Spent) (decided task seen n task.change.effect) (giving_stores seen seen.held _) (decided_stores n task.change.effect)
   next_stores (step.Make m) Passed b = made_stores b (make_taken seen.written.slot m)
-  next_stores Draw (Drawn n) b = both (leaves_note task.change.effect seen.place) (go seen (Unnote Mark n)) (answered seen n reply.Done) tt (giving_stores seen seen.held _)
+  next_stores Draw (Drawn n) b = by_both Stores (leaves_note task.change.effect seen.place) (go seen (Unnote Mark n)) (answered seen n reply.Done) tt (giving_stores seen seen.held _)
   next_stores (Unnote part place) Passed b = unnoted_stores part place
   next_stores CountSpent (Value n) b = giving_stores seen seen.held _
   next_stores (Give held end) Passed b = giving_stores seen (given held) end

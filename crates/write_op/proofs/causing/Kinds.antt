@@ -52,6 +52,7 @@ use Rattle.phase.specs.declared.ending.Ending.{Ending}
 use Rattle.phase.specs.declared.ending.Ending.TheVariants as ending
 use Rattle.phase.specs.declared.note.NoteWord.{NoteWord}
 use Rattle.phase.specs.declared.note.NoteWord.TheVariants.{Mark, Fingers}
+use Rattle.phase.proofs.locks.Choosing.{by_both}
 use Rattle.write_op.specs.declared.step.WriteStep.{WriteStep}
 use Rattle.write_op.specs.declared.step.WriteStep.TheVariants.{Way, Lock, Check, Fill, Count, Draw, Unnote, CountSpent, Give, Ended}
 use Rattle.write_op.specs.declared.step.WriteStep.TheVariants as step
@@ -133,14 +134,6 @@ TakesIn seen more = MayGive seen.held
 abbrev Takes : Stage → Type 0
 Takes s = TakesIn s.seen s.step
 
-both : (b : Bool) (s t : Stage) → Takes s → Takes t → Takes (if b then s else t)
-both true s t p q = p
-both false s t p q = q
-
-either : (seen : Seen) (b : Bool) (s t : WriteStep) → TakesIn seen s → TakesIn seen t → TakesIn seen (if b then s else t)
-either seen true s t p q = p
-either seen false s t p q = q
-
 given_takes : (seen : Seen) (next : Option (Role × ℕ)) (held : Held) (end : Ending) → MayGive held → TakesIn seen (given_by next held end)
 given_takes seen (Some next) held end g = g
 given_takes seen None held end g = tt
@@ -174,10 +167,10 @@ module _ (task : Task) (seen : Seen) (g : MayGive seen.held) where
   backed_takes (backed.Moved word before after) = giving_takes seen seen.held (ending.Again (Moved word before after)) g
 
   second_takes : (s : Seen) → MayGive s.held → TakesIn s (visit_second s)
-  second_takes s h = either s s.second (Lock Second Look) Count (h, tt) h
+  second_takes s h = by_both (TakesIn s) s.second (Lock Second Look) Count (h, tt) h
 
   first_takes : (s : Seen) → MayGive s.held → TakesIn s (visit_first s)
-  first_takes s h = either s s.first (Lock First Look) (visit_second s) (h, tt) (second_takes s h)
+  first_takes s h = by_both (TakesIn s) s.first (Lock First Look) (visit_second s) (h, tt) (second_takes s h)
 
   all_takes : (s : Seen) → MayGive s.held → (place : Role) → Takes (filled task.hash s place)
   all_takes s h Home = h
@@ -208,7 +201,7 @@ module _ (task : Task) (seen : Seen) (g : MayGive seen.held) where
   made_takes made.Settled = g
 
   unnoted_takes : (part : NoteWord) (place : ℕ) → Takes (unnoted_to task seen part place)
-  unnoted_takes Mark place = both (has_finger seen (unnoted task.hash seen)) (go seen (Unnote Fingers place)) (answered seen place reply.Done) g (giving_takes seen seen.held _ g)
+  unnoted_takes Mark place = by_both Takes (has_finger seen (unnoted task.hash seen)) (go seen (Unnote Fingers place)) (answered seen place reply.Done) g (giving_takes seen seen.held _ g)
   unnoted_takes Fingers place = giving_takes seen seen.held _ g
 
 module _ (task : Task) (seen : Seen) where
@@ -219,9 +212,9 @@ module _ (task : Task) (seen : Seen) where
   other_takes (Check back) (Value n) well h = backed_takes task seen h (back_taken task.site task.hash seen.path back n)
   other_takes (Fill place load) (Value n) well h = filled_takes task seen h place (load_taken load n)
   other_takes Count (Value n) well h =
-      both (nat_le (2 ^ 63) n) (answered seen n reply.Spent) (decided task seen n task.change.effect) (giving_takes seen seen.held _ h) (decided_takes task seen h n task.change.effect)
+      by_both Takes (nat_le (2 ^ 63) n) (answered seen n reply.Spent) (decided task seen n task.change.effect) (giving_takes seen seen.held _ h) (decided_takes task seen h n task.change.effect)
   other_takes (step.Make m) Passed well h = made_takes task seen h (make_taken seen.written.slot m)
-  other_takes Draw (Drawn n) well h = both (leaves_note task.change.effect seen.place) (go seen (Unnote Mark n)) (answered seen n reply.Done) h (giving_takes seen seen.held _ h)
+  other_takes Draw (Drawn n) well h = by_both Takes (leaves_note task.change.effect seen.place) (go seen (Unnote Mark n)) (answered seen n reply.Done) h (giving_takes seen seen.held _ h)
   other_takes (Unnote part place) Passed well h = unnoted_takes task seen h part place
   other_takes CountSpent (Value n) well h = giving_takes seen seen.held _ h
   other_takes (Give held end) Passed well h = giving_takes seen (given held) end (less_give held h)

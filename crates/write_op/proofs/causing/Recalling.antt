@@ -59,6 +59,7 @@ use Rattle.write_op.specs.declared.step.WriteEnd.{WriteEnd}
 use Rattle.write_op.specs.declared.step.WriteEnd.TheVariants as ends
 use Rattle.phase.specs.declared.note.NoteWord.{NoteWord}
 use Rattle.phase.specs.declared.note.NoteWord.TheVariants.{Mark, Fingers}
+use Rattle.phase.proofs.locks.Choosing.{by_both}
 use Rattle.write_op.specs.declared.step.WriteStep.{WriteStep}
 use Rattle.write_op.specs.declared.step.WriteStep.TheVariants.{Way, Lock, Check, Fill, Count, Draw, Unnote, CountSpent, Give, Ended}
 use Rattle.write_op.specs.declared.step.WriteStep.TheVariants as step
@@ -84,14 +85,6 @@ module _ (task : Task) where
   -- what a stage remembers
   abbrev pub Recalls : Stage → Doings → Type 0
   Recalls stage d = RemembersIn task stage.seen d stage.step
-
-  both : (d : Doings) (b : Bool) (s t : Stage) → Recalls s d → Recalls t d → Recalls (if b then s else t) d
-  both d true s t p q = p
-  both d false s t p q = q
-
-  either : (seen : Seen) (d : Doings) (b : Bool) (s t : WriteStep) → RemembersIn task seen d s → RemembersIn task seen d t → RemembersIn task seen d (if b then s else t)
-  either seen d true s t p q = p
-  either seen d false s t p q = q
 
   -- ---- with more that was loaded
   module _ (seen : Seen) (d e : Doings) (more : List (ℕ × ℕ)) (is : e.loads ≡ more ++ d.loads) where
@@ -265,10 +258,10 @@ module _ (task : Task) where
     make_recalls m a = tt
 
     draw_recalls : (n : ℕ) → Recalls (drawn_to task seen n) d
-    draw_recalls n = both d (leaves_note task.change.effect seen.place) (go seen (Unnote Mark n)) (answered seen n reply.Done) tt (giving_recalls seen d seen.held _)
+    draw_recalls n = by_both (λ (s : Stage). Recalls s d) (leaves_note task.change.effect seen.place) (go seen (Unnote Mark n)) (answered seen n reply.Done) tt (giving_recalls seen d seen.held _)
 
     unnoted_recalls : (part : NoteWord) (n : ℕ) → Recalls (unnoted_to task seen part n) d
-    unnoted_recalls Mark n = both d (has_finger seen (unnoted task.hash seen)) (go seen (Unnote Fingers n)) (answered seen n reply.Done) tt (giving_recalls seen d seen.held _)
+    unnoted_recalls Mark n = by_both (λ (s : Stage). Recalls s d) (has_finger seen (unnoted task.hash seen)) (go seen (Unnote Fingers n)) (answered seen n reply.Done) tt (giving_recalls seen d seen.held _)
     unnoted_recalls Fingers n = giving_recalls seen d seen.held _
 
     unnote_recalls : (part : NoteWord) (place : ℕ) (a : Ans) → Recalls (next_in task seen (Unnote part place) a) d
@@ -344,7 +337,7 @@ module _ (task : Task) where
   recalls_next seen Count n d r out asked =
       let x : ℕ × ℕ = (counter_word task.site.geometry, n) in
       let e : Doings = record { loads = x ∷ d.loads; changed = d.changed } in
-      both e (nat_le (2 ^ 63) n) (answered seen n reply.Spent) (decided task seen n task.change.effect) (giving_recalls seen e seen.held _)
+      by_both (λ (s : Stage). Recalls s e) (nat_le (2 ^ 63) n) (answered seen n reply.Spent) (decided task seen n task.change.effect) (giving_recalls seen e seen.held _)
       (let four = loaded_more seen d e (x ∷ []) refl 4 r.2 in
       decided_recalls seen e (there_more seen d e (x ∷ []) refl r.0) r.1 (λ place held. four place (asked refl place held)) four n task.change.effect)
   recalls_next seen (step.Make m) n d r out asked = make_recalls seen _ m _

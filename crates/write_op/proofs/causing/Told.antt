@@ -42,6 +42,7 @@ use Rattle.phase.specs.declared.ending.Ending.TheVariants as ending
 use Rattle.write_op.specs.declared.step.WriteEnd.TheVariants as ends
 use Rattle.phase.specs.declared.note.NoteWord.TheVariants.{Mark}
 use Rattle.phase.specs.Endings.{outcome_then}
+use Rattle.phase.proofs.locks.Choosing.{by_both}
 use Rattle.write_op.specs.declared.step.WriteStep.{WriteStep}
 use Rattle.write_op.specs.declared.step.WriteStep.TheVariants.{Way, Lock, Check, Fill, Count, Draw, Unnote, CountSpent, Give, Ended}
 use Rattle.write_op.specs.declared.step.WriteStep.TheVariants as step
@@ -55,10 +56,6 @@ module _ (P : Outcome → Type 0) where
   -- it is so of the outcome that is decided there, if one is
   abbrev pub Told : WriteStep → Type 0
   Told s = (outcome : Outcome) → outcome_at s ≡ Some outcome → P outcome
-
-  either : (b : Bool) (s t : WriteStep) → Told s → Told t → Told (if b then s else t)
-  either true s t p q = p
-  either false s t p q = q
 
   pub both : (b : Bool) (s t : Stage) → (b ≡ true → Told s.step) → (b ≡ false → Told t.step) → Told (if b then s else t).step
   both true s t p q = p refl
@@ -105,10 +102,10 @@ module _ (P : Outcome → Type 0) where
 
     -- ---- buckets
     second_open : (s : Seen) → Told (visit_second s)
-    second_open s = either s.second (Lock Second Look) Count (λ outcome some. absurd (none-some outcome some)) (λ outcome some. absurd (none-some outcome some))
+    second_open s = by_both Told s.second (Lock Second Look) Count (λ outcome some. absurd (none-some outcome some)) (λ outcome some. absurd (none-some outcome some))
 
     first_open : (s : Seen) → Told (visit_first s)
-    first_open s = either s.first (Lock First Look) (visit_second s) (λ outcome some. absurd (none-some outcome some)) (second_open s)
+    first_open s = by_both Told s.first (Lock First Look) (visit_second s) (λ outcome some. absurd (none-some outcome some)) (second_open s)
 
     all_open : (s : Seen) (place : Role) → Told (filled task.hash s place).step
     all_open s Home = λ outcome some. absurd (none-some outcome some)

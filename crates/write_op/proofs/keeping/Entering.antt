@@ -1,6 +1,5 @@
 -- Which replies are decided: none on the way, at the locks and while buckets are loaded.
-use Rattle.std.proofs.Common.{◌≡◌, ℕ, Bool, true, false, Option, None, Some, refl, ap}
-use Rattle.std.specs.Prelude.{if◌then◌else◌}
+use Rattle.std.proofs.Common.{◌≡◌, ℕ, Option, None, Some, refl, ap}
 use Rattle.op_core.specs.declared.why.Why.{Why}
 use Rattle.op_core.specs.declared.why.Why.TheVariants.{Busy, Moved}
 use Rattle.map_model.specs.declared.entry.Reply.{Reply}
@@ -22,6 +21,7 @@ use Rattle.write_op.specs.declared.step.Seen.{Seen}
 use Rattle.phase.specs.declared.ending.Ending.{Ending}
 use Rattle.phase.specs.declared.ending.Ending.TheVariants as ending
 use Rattle.phase.specs.Endings.{outcome_then}
+use Rattle.phase.proofs.locks.Choosing.{by_both}
 use Rattle.write_op.specs.declared.step.WriteStep.{WriteStep}
 use Rattle.write_op.specs.declared.step.WriteStep.TheVariants.{Lock, Count}
 use Rattle.write_op.specs.Steps.{given_by, giving, walked_to, locked, locked_to, backed_to, visit_second, visit_first, with_visits, filled, filled_to}
@@ -44,10 +44,6 @@ giving_again : (held : Held) (why : Why) → reply_at (giving held (ending.Again
 giving_again held why = ap reply_of (giving_outcome held (ending.Again why))
 
 -- ---- nothing is entered on the way, at the locks, and while buckets are loaded
-either_quiet : (b : Bool) (s t : WriteStep) → reply_at s ≡ None → reply_at t ≡ None → reply_at (if b then s else t) ≡ None
-either_quiet true s t p q = p
-either_quiet false s t p q = q
-
 pub walked_quiet : (seen : Seen) (x : Walked) → reply_at (walked_to seen x).step ≡ None
 walked_quiet seen (walked.On w) = refl
 walked_quiet seen (walked.There path) = refl
@@ -73,10 +69,10 @@ backed_quiet seen backed.Same = refl
 backed_quiet seen (backed.Moved word before after) = giving_again seen.held (Moved word before after)
 
 second_quiet : (seen : Seen) → reply_at (visit_second seen) ≡ None
-second_quiet seen = either_quiet seen.second (Lock Second Look) Count refl refl
+second_quiet seen = by_both (λ (s : WriteStep). reply_at s ≡ None) seen.second (Lock Second Look) Count refl refl
 
 first_quiet : (seen : Seen) → reply_at (visit_first seen) ≡ None
-first_quiet seen = either_quiet seen.first (Lock First Look) (visit_second seen) refl (second_quiet seen)
+first_quiet seen = by_both (λ (s : WriteStep). reply_at s ≡ None) seen.first (Lock First Look) (visit_second seen) refl (second_quiet seen)
 
 all_quiet : (hash : ℕ) (seen : Seen) (place : Role) → reply_at (filled hash seen place).step ≡ None
 all_quiet hash seen Home = refl

@@ -16,7 +16,7 @@ use Rattle.world.specs.declared.site.Site.{Site}
 use Rattle.world.specs.Ground.{Ground}
 use Rattle.world.specs.Views.{View}
 use Rattle.world.specs.Wants.{answer_to}
-use Rattle.world.specs.Kinds.{Kind, peeks, meets_entry, meets_head, pins, finds_room}
+use Rattle.world.specs.Kinds.{peeks, meets_entry, meets_head, pins, finds_room}
 use Rattle.world.specs.Pairs.{IsPublishingKind}
 use Rattle.world.specs.Attempts.{HoldsOnly}
 use Rattle.part.specs.Outcomes.{IsDone, replied}
@@ -44,6 +44,7 @@ use Rattle.phase.specs.declared.ending.Ending.{Ending}
 use Rattle.phase.specs.declared.ending.Ending.TheVariants as ending
 use Rattle.phase.specs.declared.note.NoteWord.{NoteWord}
 use Rattle.phase.specs.declared.note.NoteWord.TheVariants.{Mark, Fingers}
+use Rattle.phase.proofs.locks.Choosing.{by_both}
 use Rattle.write_op.specs.declared.step.WriteEnd.{WriteEnd}
 use Rattle.write_op.specs.declared.step.WriteEnd.TheVariants as ends
 use Rattle.write_op.specs.declared.step.WriteStep.{WriteStep}
@@ -58,15 +59,11 @@ use Rattle.write_op.proofs.Over.{over_done}
 
 -- ---- the one store
 module _ (task : Task) (seen : Seen) where
-  either_plain : (b : Bool) (k l : Kind) → IsPlain k → IsPlain l → IsPlain (if b then k else l)
-  either_plain true k l p q = p
-  either_plain false k l p q = q
-
   plain_walk : (w : Walk) → IsPlain (walk_kind task.site task.hash w)
   plain_walk walk.Power p = p
   plain_walk walk.Root p = p
-  plain_walk (walk.Entry root) p = either_plain (nat_le root task.site.geometry.depth) (meets_entry root (index_of root task.hash)) (peeks root_word) (λ q. q) (λ q. q) p
-  plain_walk (walk.Head root segment) p = either_plain (nat_lt segment task.site.geometry.segments) (meets_head segment task.site.version) (peeks root_word) (λ q. q) (λ q. q) p
+  plain_walk (walk.Entry root) p = by_both IsPlain (nat_le root task.site.geometry.depth) (meets_entry root (index_of root task.hash)) (peeks root_word) (λ q. q) (λ q. q) p
+  plain_walk (walk.Head root segment) p = by_both IsPlain (nat_lt segment task.site.geometry.segments) (meets_head segment task.site.version) (peeks root_word) (λ q. q) (λ q. q) p
 
   plain_back : (at : Back) → IsPlain (back_kind task.site task.hash seen.path (pins seen.path.segment (home_of task.hash)) at)
   plain_back back.Root p = p
@@ -133,10 +130,6 @@ module _ (task : Task) (seen : Seen) where
   makes_in s n p = makes_there s n (only_there s n p)
 
   -- ---- and it stays made
-  either_made : (b : Bool) (s t : Stage) → HasMadeAt s.step → HasMadeAt t.step → HasMadeAt (if b then s else t).step
-  either_made true s t p q = p
-  either_made false s t p q = q
-
   given_made : (next : Option (Role × ℕ)) (held : Held) (answer : Reply) (place : ℕ) → IsDone answer → HasMadeAt (given_by next held (ending.Replied answer place))
   given_made (Some next) held answer place d = d
   given_made None held answer place d = d
@@ -145,7 +138,7 @@ module _ (task : Task) (seen : Seen) where
   giving_made held answer place d = given_made (give_next held) held answer place d
 
   unnoted_made : (part : NoteWord) (place : ℕ) → HasMadeAt (next_in task seen (Unnote part place) Passed).step
-  unnoted_made Mark place = either_made (has_finger seen (unnoted task.hash seen)) (go seen (Unnote Fingers place)) (answered seen place reply.Done) tt (giving_made seen.held reply.Done place tt)
+  unnoted_made Mark place = by_both (λ (s : Stage). HasMadeAt s.step) (has_finger seen (unnoted task.hash seen)) (go seen (Unnote Fingers place)) (answered seen place reply.Done) tt (giving_made seen.held reply.Done place tt)
   unnoted_made Fingers place = giving_made seen.held reply.Done place tt
 
   make_stays : (m : Make) (a : Ans) → IsPublished m → HasMadeAt (next_in task seen (step.Make m) a).step
@@ -162,7 +155,7 @@ module _ (task : Task) (seen : Seen) where
 
   pub stays_in : (s : WriteStep) (a : Ans) → HasMadeAt s → HasMadeAt (next_in task seen s a).step
   stays_in (step.Make m) a d = make_stays m a d
-  stays_in Draw (Drawn n) d = either_made (leaves_note task.change.effect seen.place) (go seen (Unnote Mark n)) (answered seen n reply.Done) tt (giving_made seen.held reply.Done n tt)
+  stays_in Draw (Drawn n) d = by_both (λ (s : Stage). HasMadeAt s.step) (leaves_note task.change.effect seen.place) (go seen (Unnote Mark n)) (answered seen n reply.Done) tt (giving_made seen.held reply.Done n tt)
   stays_in Draw a d = tt
   stays_in (Unnote part place) Passed d = unnoted_made part place
   stays_in (Unnote part place) a d = tt

@@ -33,6 +33,7 @@ use Rattle.write_op.specs.declared.step.Spot.{Spot}
 use Rattle.write_op.specs.declared.step.Seen.{Seen}
 use Rattle.phase.specs.declared.ending.Ending.{Ending}
 use Rattle.phase.specs.declared.ending.Ending.TheVariants as ending
+use Rattle.phase.proofs.locks.Choosing.{by_both}
 use Rattle.write_op.specs.declared.step.WriteStep.{WriteStep}
 use Rattle.write_op.specs.declared.step.WriteStep.TheVariants.{Way, Lock, Check, Fill, Count, Draw, Unnote, CountSpent, Give, Ended}
 use Rattle.write_op.specs.declared.step.WriteStep.TheVariants as step
@@ -44,14 +45,6 @@ use Rattle.write_op.specs.Causes.{MadeOnlySo}
 
 abbrev Unmade : WriteStep → Type 0
 Unmade s = HasMadeAt s → ⊥
-
-either : (b : Bool) (s t : WriteStep) → Unmade s → Unmade t → Unmade (if b then s else t)
-either true s t p q = p
-either false s t p q = q
-
-both : (b : Bool) (s t : Stage) → Unmade s.step → Unmade t.step → Unmade (if b then s else t).step
-both true s t p q = p
-both false s t p q = q
 
 -- ---- locks back
 -- the end of locks that are given back is was where their giving is
@@ -92,10 +85,10 @@ module _ (task : Task) (seen : Seen) where
 
   -- ---- buckets
   second_unmade : (s : Seen) → Unmade (visit_second s)
-  second_unmade s = either s.second (Lock Second Look) Count (λ was. was) (λ was. was)
+  second_unmade s = by_both Unmade s.second (Lock Second Look) Count (λ was. was) (λ was. was)
 
   first_unmade : (s : Seen) → Unmade (visit_first s)
-  first_unmade s = either s.first (Lock First Look) (visit_second s) (λ was. was) (second_unmade s)
+  first_unmade s = by_both Unmade s.first (Lock First Look) (visit_second s) (λ was. was) (second_unmade s)
 
   all_unmade : (s : Seen) (place : Role) → Unmade (filled task.hash s place).step
   all_unmade s Home = λ was. was
@@ -123,7 +116,7 @@ module _ (task : Task) (seen : Seen) where
   decided_unmade count Remove = changing_unmade count (found seen task.change.key)
 
   counted_unmade : (count : ℕ) → Unmade (counted task seen count).step
-  counted_unmade count = both (nat_le (2 ^ 63) count) (answered seen count reply.Spent) (decided task seen count task.change.effect)
+  counted_unmade count = by_both (λ (s : Stage). Unmade s.step) (nat_le (2 ^ 63) count) (answered seen count reply.Spent) (decided task seen count task.change.effect)
       (giving_unmade seen.held (ending.Replied reply.Spent count) (λ was. was)) (decided_unmade count task.change.effect)
 
   -- ---- the stores

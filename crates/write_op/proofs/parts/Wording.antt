@@ -42,18 +42,11 @@ use Rattle.write_op.specs.Steps.{go, given_by, give, answered, walked_to, locked
 use Rattle.phase.specs.AreWords.{AreWords}
 use Rattle.write_op.specs.Fits.{HasWordsAt}
 use Rattle.phase.proofs.Wording.{none_words, set_words, put_words}
+use Rattle.phase.proofs.locks.Choosing.{by_both}
 
 -- ---- what is kept
 abbrev Words : Stage → Type 0
 Words st = ((p : Role) → AreWords (words_in st.seen.buckets p)) × HasWordsAt st.step
-
-either_words : (b : Bool) (s t : WriteStep) → HasWordsAt s → HasWordsAt t → HasWordsAt (if b then s else t)
-either_words true s t p q = p
-either_words false s t p q = q
-
-both_words : (b : Bool) (s t : Stage) → Words s → Words t → Words (if b then s else t)
-both_words true s t p q = p
-both_words false s t p q = q
 
 by_next : (next : Option (Role × ℕ)) (held : Held) (end : Ending) → HasWordsAt (given_by next held end)
 by_next (Some next) held end = tt
@@ -88,10 +81,10 @@ module _ (task : Task) (seen : Seen) (all : (p : Role) → AreWords (words_in se
   backed_words (backed.Moved word before after) = give_words _
 
   second_words : (s : Seen) → HasWordsAt (visit_second s)
-  second_words s = either_words s.second (Lock Second Look) Count tt tt
+  second_words s = by_both HasWordsAt s.second (Lock Second Look) Count tt tt
 
   first_words : (s : Seen) → HasWordsAt (visit_first s)
-  first_words s = either_words s.first (Lock First Look) (visit_second s) tt (second_words s)
+  first_words s = by_both HasWordsAt s.first (Lock First Look) (visit_second s) tt (second_words s)
 
   filled_words : (place : Role) (words : List ℕ) → AreWords words → Words (filled_with task.hash seen place words)
   filled_words Home words a = (put_words seen.buckets Home words a all, none_words)
@@ -125,7 +118,7 @@ module _ (task : Task) (seen : Seen) (all : (p : Role) → AreWords (words_in se
   made_words made.Settled = (all, tt)
 
   unnoted_words : (part : NoteWord) (place : ℕ) → Words (unnoted_to task seen part place)
-  unnoted_words Mark place = both_words (has_finger seen (unnoted task.hash seen)) (go seen (Unnote Fingers place)) (answered seen place reply.Done) (all, tt) (give_words _)
+  unnoted_words Mark place = by_both Words (has_finger seen (unnoted task.hash seen)) (go seen (Unnote Fingers place)) (answered seen place reply.Done) (all, tt) (give_words _)
   unnoted_words Fingers place = give_words _
 
   -- an answer that is a word leaves words
@@ -134,9 +127,9 @@ module _ (task : Task) (seen : Seen) (all : (p : Role) → AreWords (words_in se
   words_after (Lock place take) a small has = taken_words place (lock_of task seen place) (take_taken take a)
   words_after (Check back) (Value n) small has = backed_words (back_taken task.site task.hash seen.path back n)
   words_after (Fill place load) (Value n) small has = load_by place load n (set_words load.words load.next n small has) (nat_lt load.next 31)
-  words_after Count (Value n) small has = both_words (nat_le (2 ^ 63) n) (answered seen n reply.Spent) (decided task seen n task.change.effect) (give_words _) (decided_words n task.change.effect)
+  words_after Count (Value n) small has = by_both Words (nat_le (2 ^ 63) n) (answered seen n reply.Spent) (decided task seen n task.change.effect) (give_words _) (decided_words n task.change.effect)
   words_after (step.Make m) Passed small has = made_words (make_taken seen.written.slot m)
-  words_after Draw (Drawn n) small has = both_words (leaves_note task.change.effect seen.place) (go seen (Unnote Mark n)) (answered seen n reply.Done) (all, tt) (give_words _)
+  words_after Draw (Drawn n) small has = by_both Words (leaves_note task.change.effect seen.place) (go seen (Unnote Mark n)) (answered seen n reply.Done) (all, tt) (give_words _)
   words_after (Unnote part place) Passed small has = unnoted_words part place
   words_after CountSpent (Value n) small has = give_words _
   words_after (Give held end) Passed small has = (all, by_next (give_next (given held)) (given held) end)
