@@ -1,7 +1,7 @@
-mod machines
+pub mod machines
 mod holding
 pub mod Places
-mod sessions
-mod attempts
+pub mod sessions
+pub mod attempts
 mod lonely
 mod splits

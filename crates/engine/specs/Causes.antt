@@ -15,12 +15,14 @@ use Rattle.world.specs.Attempts.{HoldsOnly}
 use Rattle.world.specs.areas.Areas.{header_word}
 use Rattle.part.specs.Doings.{Doings, nothing_done, with_event_of}
 use Rattle.part.specs.Outcomes.{Outcome, replied, again, stale, need_split, off, finished}
-use Rattle.part.specs.Causes.{HasReplyCause, HasAgainCause, FindsNoRoom, IsStale}
-use Rattle.part.specs.Splits.{HasSplitCause}
-use Rattle.part.specs.Repairs.{HasRepairCause}
+use Rattle.part.specs.Part.{IsPart}
+use Rattle.part.specs.Causes.{HasReplyCause, HasAgainCause, FindsNoRoom, IsStale, EndsByCause}
+use Rattle.part.specs.Splits.{HasSplitCause, EndsBySplitCause}
+use Rattle.part.specs.Repairs.{HasRepairCause, EndsByRepairCause}
+use Rattle.repair_op.specs.Finishing.{FinishesCurrent}
 use Rattle.engine.specs.declared.engine.Engine.{Engine}
 use Rattle.engine.specs.Engine.{wanted, taken, end_of, outcome_of_end, IsFresh}
-use Rattle.engine.specs.OpPart.{Work, calls, splits, repairs, work_of, op_part}
+use Rattle.engine.specs.OpPart.{call_part, whole_split, split_segment_in, whole_repair, repaired_segment_in, Work, calls, splits, repairs, work_of, op_part}
 use Rattle.engine.specs.Core.{Caller, Core, current, turn, run}
 use Rattle.engine.specs.Laws.{IsServedImage, opened, AreScripts}
 
@@ -97,6 +99,25 @@ EndsAreDecided = (site : Ground) (here : Site) (call : Call) (e : Engine) (v : V
     → op_part.outcome e.op ≡ outcome_of_end (end_of e)
 
 -- ---- causes
+-- EACH OUTCOME OF A MACHINE HAS ITS CAUSE, of those of the call itself, of those of a split, and of those of a repair; and where a repair has finished,
+-- its segment has the image's version
+pub record OpCauses : Type 0 where
+  pub call : EndsByCause call_part
+  pub split : EndsBySplitCause whole_split split_segment_in
+  pub repair : EndsByRepairCause whole_repair repaired_segment_in
+  pub current : FinishesCurrent whole_repair repaired_segment_in
+
+-- an attempt that has done nothing remembers nothing
+abbrev pub RemembersNothing : Type 0
+RemembersNothing = (site : Ground) (here : Site) (e : Engine) → IsFresh here e → op_part.Remembers site e.op nothing_done
+
+-- what is used of the machines of a call: they are a part, each outcome has its cause, and none of the call itself ends as one that has finished
+pub record CallCauses : Type 0 where
+  pub part : IsPart op_part
+  pub causes : OpCauses
+  pub begins : RemembersNothing
+  pub never : (e : Engine) → work_of e.op ≡ calls → op_part.outcome e.op ≡ Some finished → ⊥
+
 -- THE CAUSE of an outcome of one of the call's own machines, in an image of this version: no attempt finds the power off, and none ends as
 -- one that has done its work
 abbrev pub HasCallCause : Shape → ℕ → Words → Doings → Call → Want → Outcome → Type 0

@@ -20,6 +20,7 @@ pub fn ends_have_causes()
     ensures busy { BusyIsOthers }
 {
     laws::calls_are_parts();
+    laws::attempts_have_causes();
     turns::opened_holds();
     turns::turn_keeps();
 }

@@ -17,6 +17,7 @@ pub fn turns_go_on()
     directory_op::free_guards_are_won();
     rest_op::rests_are_parts();
     laws::calls_are_parts();
+    laws::attempts_have_causes();
     turns::opened_holds();
     turns::turn_keeps();
 }
@@ -44,6 +45,7 @@ pub fn driven_calls_end()
     directory_op::free_guards_are_won();
     rest_op::rests_are_parts();
     laws::calls_are_parts();
+    laws::attempts_have_causes();
     turns::opened_holds();
     turns::turn_keeps();
     causes::ends_have_causes();

@@ -18,7 +18,7 @@ ghost use Rattle.part.specs.Splits.{EndsBySplitCause};
 ghost use Rattle.part.specs.Repairs.{EndsByRepairCause};
 ghost use Rattle.repair_op.specs.Finishing.{FinishesCurrent};
 ghost use Rattle.engine.specs.OpPart.{call_part, whole_split, split_segment_in, whole_repair, repaired_segment_in, op_part, calls, work_of};
-ghost use Rattle.engine.specs.Causes.{BeginsBare, EndsAreDecided};
+ghost use Rattle.engine.specs.Causes.{BeginsBare, EndsAreDecided, CallCauses};
 ghost use Rattle.engine.specs.Fits.{BeginsSuited, KeepsSuits};
 ghost use Rattle.engine.specs.Left.{most_events, left, waiting};
 ghost use Rattle.engine.specs.Pairs.{LeavesOrMakes, BeginsUnmade, StaysMade, EndsAsDone, TurnLeavesOrMakes};
@@ -63,6 +63,13 @@ pub fn calls_are_parts()
     redirect_op::ends_have_causes();
     mend_op::mends_are_parts();
     mend_op::mends_end_repaired();
+}
+
+/// What the causes of ends rest on, of the machines of a call.
+pub(crate) fn attempts_have_causes()
+    ensures { CallCauses }
+{
+    calls_are_parts();
 }
 
 /// An engine fits the world of many callers: at the beginning of a call, on a site of this shape and version, it suits the view of a caller

@@ -22,6 +22,7 @@ pub fn never_again_alone()
     ensures others { OthersStayResting }
 {
     laws::calls_are_parts();
+    laws::attempts_have_causes();
     turns::opened_holds();
     turns::turn_keeps();
     causes::ends_have_causes();

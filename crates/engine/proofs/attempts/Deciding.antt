@@ -23,10 +23,10 @@ use Rattle.engine.specs.Engine.{wanted}
 use Rattle.engine.specs.OpPart.{OpState, state_of, call_part, whole_split, split_segment_in, whole_repair, repaired_segment_in, calls, work_of}
 use Rattle.engine.specs.Holding.{TurnKeeps}
 use Rattle.engine.specs.Laws.{OpenedHolds}
-use Rattle.engine.specs.Causes.{engine_next, Decides, HasCallCause, HasSplittingCause, HasRepairingCause, HasCauseBy, HasCause, EndsHaveCauses}
+use Rattle.engine.specs.Causes.{engine_next, Decides, HasCallCause, HasSplittingCause, HasRepairingCause, HasCauseBy, HasCause, EndsHaveCauses, CallCauses}
 use Rattle.engine.proofs.machines.Ops.{either_ops}
 use Rattle.engine.proofs.attempts.Stepping.{work_in, work_is, next_work, CausedIn, CurrentIn, op_caused, op_current}
-use Rattle.engine.proofs.attempts.Seats.{IsSeated, CallCauses, site_there, there, holds_there, seat_there}
+use Rattle.engine.proofs.attempts.Seats.{IsSeated, site_there, there, holds_there, seat_there}
 
 -- ---- while the power is on the cause of an outcome is one of an engine's
 module _ (shape : Shape) (words : Words) (powered : words (power_word shape) ≡ 0) (did : Doings) (call : Call) where

@@ -1,5 +1,5 @@
 -- Along any turns the engine of each caller remembers what its attempt did.
-use Rattle.std.proofs.Common.{◌≡◌, ℕ, zero, suc, inl, inr, cond, ◌<◌, ◌^◌, Option, None, Some, List, [], ◌∷◌, length, slice_get, slice_set, refl, sym, ◌∙◌, ap, subst}
+use Rattle.std.proofs.Common.{◌≡◌, ℕ, zero, suc, inl, inr, cond, ◌<◌, ◌^◌, Option, None, Some, List, [], ◌∷◌, ◌++◌, length, slice_get, slice_set, refl, sym, ◌∙◌, ap, subst}
 use Rattle.std.proofs.lemmas.Bool.{cases_eq, eq-eqb, ne_eqb}
 use Rattle.std.proofs.lemmas.Option.{none-some, same_Some}
 use Rattle.op_core.specs.declared.want.Want.{Want}
@@ -24,22 +24,23 @@ use Rattle.engine.specs.Engine.{begun, wanted, end_of, outcome_of_end, reply_of_
 use Rattle.engine.specs.OpPart.{op_part}
 use Rattle.engine.specs.Core.{Caller, Core, call_at, current, engine_for, drawn_by, ended, ended_or_on, answered, callers_from, idle}
 use Rattle.engine.specs.Holding.{IsCalling, DoesCall, CallerFits, CoreHolds, TurnKeeps}
-use Rattle.engine.specs.Causes.{doings_by, Watched, with_doings, answer_now, engine_next, doings_of_call, doings_of_caller, watched_turn, watched_run, WatchingChangesNothing}
+use Rattle.engine.specs.Causes.{OpCauses, RemembersNothing, doings_by, Watched, with_doings, answer_now, engine_next, doings_of_call, doings_of_caller, watched_turn, watched_run, WatchingChangesNothing}
 use Rattle.engine.proofs.Places.{zip_at, set_cases}
-use Rattle.engine.proofs.attempts.Stepping.{OpCauses, op_remembers}
+use Rattle.engine.proofs.attempts.Stepping.{op_remembers}
 
 pub watching : WatchingChangesNothing
 watching shape w [] = refl
 watching shape w (c ∷ turns) = watching shape (watched_turn shape c w) turns
 
+-- one turn more
+pub one_more_turn : (shape : Shape) (turns : List ℕ) (c : ℕ) (w : Watched) → watched_run shape (turns ++ c ∷ []) w ≡ watched_turn shape c (watched_run shape turns w)
+one_more_turn shape [] c w = refl
+one_more_turn shape (d ∷ turns) c w = one_more_turn shape turns c (watched_turn shape d w)
+
 pub set_there : (callers : List Caller) (j : ℕ) (c d x : Caller) → slice_get callers j ≡ Some x → slice_get (slice_set callers j c) j ≡ Some d → c ≡ d
 set_there [] j c d x there is = absurd (none-some x there)
 set_there (y ∷ callers) zero c d x there is = same_Some c d is
 set_there (y ∷ callers) (suc j) c d x there is = set_there callers j c d x there is
-
--- what an attempt that has done nothing remembers
-abbrev pub RemembersNothing : Type 0
-RemembersNothing = (site : Ground) (here : Site) (e : Engine) → IsFresh here e → op_part.Remembers site e.op nothing_done
 
 -- the next attempt of a call has done nothing
 anew_by_fresh : (here : Site) (call : Call) (change : Option Change) (outcome : Option Outcome) → IsFresh here (anew_by here call change outcome)

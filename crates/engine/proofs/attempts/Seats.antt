@@ -14,20 +14,18 @@ use Rattle.world.specs.Wants.{word_of}
 use Rattle.world.specs.World.{fresh_view}
 use Rattle.world.specs.Invariant.{Holds}
 use Rattle.part.specs.Doings.{Doings}
-use Rattle.part.specs.Outcomes.{finished}
 use Rattle.part.specs.Part.{IsPart, Suits, finds, next, next_view, StepsWell}
 use Rattle.restart_op.specs.Restarted.{words_at_end, site_of}
 use Rattle.engine.specs.declared.engine.Engine.{Engine}
 use Rattle.engine.specs.Engine.{wanted}
-use Rattle.engine.specs.OpPart.{op_part, calls, work_of}
+use Rattle.engine.specs.OpPart.{op_part}
 use Rattle.engine.specs.Core.{Caller, Core, current, run}
 use Rattle.engine.specs.Holding.{IsCalling, DoesCall, CallerFits, CoreHolds, TurnKeeps}
 use Rattle.engine.specs.Laws.{IsServedImage, opened, OpenedHolds, AreScripts}
-use Rattle.engine.specs.Causes.{Watched, watched, watched_run}
+use Rattle.engine.specs.Causes.{CallCauses, Watched, watched, watched_run}
 use Rattle.engine.proofs.Places.{zip_at}
 use Rattle.engine.proofs.holding.Turning.{run_keeps}
-use Rattle.engine.proofs.attempts.Stepping.{OpCauses}
-use Rattle.engine.proofs.attempts.Doing.{watching, RemembersNothing, IsDoing, run_does, begin_doing}
+use Rattle.engine.proofs.attempts.Doing.{watching, IsDoing, run_does, begin_doing}
 
 -- WHERE A CALLER SITS whose attempt of this call, on this engine, did this: its view suits the engine, which asks for an event that finds a word, and
 -- remembers what it did
@@ -51,13 +49,6 @@ seat_steps part site words views h j here call e did seat = part.steps site here
 pub seat_stands : IsPart op_part → (site : Ground) (words : Words) (views : List View) (h : Holds site words views) (j : ℕ) (here : Site) (call : Call) (e : Engine) (did : Doings)
     (seat : IsSeated site words views j here call e did) → op_part.Stands site here call (next op_part site words e.op) (next_view op_part site words e.op seat.view)
 seat_stands part site words views h j here call e did seat = (seat_steps part site words views h j here call e did seat).stands seat.small
-
--- ---- what is used of the machines of a call
-pub record CallCauses : Type 0 where
-  pub part : IsPart op_part
-  pub causes : OpCauses
-  pub begins : RemembersNothing
-  pub never : (e : Engine) → work_of e.op ≡ calls → op_part.outcome e.op ≡ Some finished → ⊥
 
 -- ---- in a core that holds
 module _ (laws : CallCauses) (keeps : TurnKeeps) (site : Ground) (start : Words) (core : Core) (h : CoreHolds site start core)

@@ -15,23 +15,17 @@ use Rattle.world.specs.Invariant.{Holds}
 use Rattle.part.specs.Doings.{Doings, with_event_of}
 use Rattle.part.specs.Outcomes.{Outcome, again, finished}
 use Rattle.part.specs.Part.{Suits, finds, next}
-use Rattle.part.specs.Causes.{HasCause as HasCallCause, EndsByCause}
-use Rattle.part.specs.Splits.{HasSplitCause, EndsBySplitCause}
-use Rattle.part.specs.Repairs.{HasRepairCause, EndsByRepairCause}
+use Rattle.part.specs.Causes.{HasCause as HasCallCause}
+use Rattle.part.specs.Splits.{HasSplitCause}
+use Rattle.part.specs.Repairs.{HasRepairCause}
 use Rattle.part.specs.Either.{one, other}
-use Rattle.repair_op.specs.Finishing.{HasImageVersion, FinishesCurrent}
+use Rattle.repair_op.specs.Finishing.{HasImageVersion}
 use Rattle.engine.specs.declared.engine.Op.{Op}
 use Rattle.engine.specs.declared.engine.Op.TheVariants.{Read, Write, Move, Stash, Release, Enclose, Split, Publish, Rest, Repair, Redirect, Mend}
 use Rattle.engine.specs.OpPart.{OpState, state_of, named, call_part, whole_split, whole_repair, op_part, split_segment_in, repaired_segment_in, Work, calls, splits, repairs, work_of}
+use Rattle.engine.specs.Causes.{OpCauses}
 use Rattle.engine.proofs.machines.Ops.{either_ops, each_named, renamed_at}
 use Rattle.engine.proofs.machines.Deciding.{IsAsking, call_steps, split_steps, repair_steps, remembers_on}
-
--- what is used of the machines
-pub record OpCauses : Type 0 where
-  pub call : EndsByCause call_part
-  pub split : EndsBySplitCause whole_split split_segment_in
-  pub repair : EndsByRepairCause whole_repair repaired_segment_in
-  pub current : FinishesCurrent whole_repair repaired_segment_in
 
 -- ---- what a state works on
 abbrev pub work_in : OpState → Work

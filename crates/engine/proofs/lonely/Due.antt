@@ -79,10 +79,10 @@ use Rattle.engine.specs.declared.engine.Op.TheVariants.{Read, Write, Move, Stash
 use Rattle.engine.specs.OpPart.{OpState, state_of, move_of, stash_of, release_of, stash_or_release, entered, after_move, move_or_more, publish_of, rest_after, publish_and_rest, split_and_more, whole_split, split_segment_in, redirect_of, mend_of, redirect_and_mend, after_guard, whole_repair, repaired_segment_in, named, op_part, calls, work_of}
 use Rattle.engine.specs.Left.{is_stale}
 use Rattle.engine.specs.Alone.{IsStaleIn, TellsStale, TellsFull, IsDue}
+use Rattle.engine.specs.Causes.{CallCauses}
 use Rattle.engine.proofs.machines.Ops.{call_kind}
 use Rattle.engine.proofs.holding.Served.{sound_now}
 use Rattle.engine.proofs.attempts.Stepping.{work_in, work_is, CausedIn, op_caused, op_stays}
-use Rattle.engine.proofs.attempts.Seats.{CallCauses}
 use Rattle.engine.proofs.lonely.Looking.{header_none}
 use Rattle.engine.proofs.lonely.counts.Storing.{no_renews, repair_spares, repair_frees, repairs_at, redirect_spares, mend_spares, mend_renews, mends_at}
 use Rattle.engine.proofs.lonely.counts.Stale.{stale_test, slot_stale, version_now}

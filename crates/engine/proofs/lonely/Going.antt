@@ -19,13 +19,13 @@ use Rattle.engine.specs.Engine.{begun, end_of, outcome_of_end, reply_of_end, say
 use Rattle.engine.specs.OpPart.{op_part, state_of, calls as of_calls, work_of}
 use Rattle.engine.specs.Holding.{TurnKeeps}
 use Rattle.engine.specs.Laws.{OpenedHolds}
-use Rattle.engine.specs.Causes.{Watched, engine_next}
+use Rattle.engine.specs.Causes.{Watched, engine_next, CallCauses}
 use Rattle.engine.specs.Alone.{IsReply, IsTold, told_reply, told_again, told_to_split, told_stale, told_finished, EndsAreTold, EndsTell, IsNext, along}
 use Rattle.engine.specs.Driven.{TurnsGoOn, AttemptsAreShort, EndsBeginAnew}
 use Rattle.engine.proofs.machines.Ops.{either_ops}
 use Rattle.engine.proofs.machines.Ends.{ReleasesTellAlone}
 use Rattle.engine.proofs.attempts.Stepping.{work_named}
-use Rattle.engine.proofs.attempts.Seats.{CallCauses, site_there, holds_there, seat_there}
+use Rattle.engine.proofs.attempts.Seats.{site_there, holds_there, seat_there}
 use Rattle.engine.proofs.lonely.Staying.{calls_tell_stale}
 use Rattle.engine.proofs.lonely.Stages.{StageLaws, few_left, falls}
 

@@ -32,15 +32,15 @@ use Rattle.engine.specs.OpPart.{op_part, Work, calls as of_calls, splits, repair
 use Rattle.engine.specs.Core.{Caller, call_at, current, engine_for, idle, callers_from, drawn_by, ended, ended_or_on, answered, with_event, turn_of_call, turn_of_caller}
 use Rattle.engine.specs.Holding.{CoreHolds, TurnKeeps}
 use Rattle.engine.specs.Laws.{IsServedImage, OpenedHolds, AreScripts}
-use Rattle.engine.specs.Causes.{doings_by, with_doings, Watched, answer_now, engine_next, doings_of_call, doings_of_caller, watched_turn, Decides, BeginsBare, BeginsUndecided, DecidedStays, EndsAreDecided, HasCauseBy, EndsHaveCauses, watched_run}
+use Rattle.engine.specs.Causes.{doings_by, with_doings, Watched, answer_now, engine_next, doings_of_call, doings_of_caller, watched_turn, Decides, BeginsBare, BeginsUndecided, DecidedStays, EndsAreDecided, HasCauseBy, EndsHaveCauses, watched_run, CallCauses}
 use Rattle.engine.specs.Alone.{IsTold, told_reply, told_again, told_to_split, told_stale, told_finished, IsBetween, IsRestingBy, IsResting, IsAlone, IsNext, at_start, along, BusyIsOthers, AllRestAtStart, AloneAtStart, RestingIsAlone, OwnTurnsStayAlone, AloneNeverAgain, EndsAreTold, EndsTell, EndedRests, OthersStayResting}
 use Rattle.engine.specs.Driven.{OwnTurnsStayStill}
 use Rattle.engine.proofs.Places.{set_cases}
 use Rattle.engine.proofs.machines.Ops.{never_hands_on}
 use Rattle.engine.proofs.holding.Served.{sound_now}
 use Rattle.engine.proofs.attempts.Stepping.{op_decided}
-use Rattle.engine.proofs.attempts.Doing.{set_there, anew_fresh}
-use Rattle.engine.proofs.attempts.Seats.{IsSeated, seat_stands, CallCauses, site_there, holds_there, seat_there}
+use Rattle.engine.proofs.attempts.Doing.{one_more_turn, set_there, anew_fresh}
+use Rattle.engine.proofs.attempts.Seats.{IsSeated, seat_stands, site_there, holds_there, seat_there}
 use Rattle.engine.proofs.lonely.Looking.{counter_apart, own_no_areas}
 use Rattle.engine.proofs.lonely.Others.{others_bare}
 
@@ -179,10 +179,6 @@ IsToldOne outcome = IsTold (Some outcome)
 
 abbrev AllTold : Watched → Type 0
 AllTold w = (j : ℕ) (c : Caller) → slice_get w.core.callers j ≡ Some c → EachHolds IsToldOne c
-
-one_more_turn : (shape : Shape) (turns : List ℕ) (c : ℕ) (w : Watched) → watched_run shape (turns ++ c ∷ []) w ≡ watched_turn shape c (watched_run shape turns w)
-one_more_turn shape [] c w = refl
-one_more_turn shape (d ∷ turns) c w = one_more_turn shape turns c (watched_turn shape d w)
 
 told_by : (work : Work) (shape : Shape) (version : ℕ) (words : Words) (did : Doings) (call : Call) (event : Want) (outcome : Outcome) → HasCauseBy work shape version words did call event outcome
     → IsToldOne outcome

@@ -61,12 +61,12 @@ use Rattle.engine.specs.OpPart.{CallState, SplitState, RepairState, OpState, sta
 use Rattle.engine.specs.Core.{Caller, Core, current}
 use Rattle.engine.specs.Holding.{IsCalling, DoesCall, CallerFits, CoreHolds, TurnKeeps}
 use Rattle.engine.specs.Laws.{IsServedImage, OpenedHolds, AreScripts}
-use Rattle.engine.specs.Causes.{Watched, BeginsBare, Decides, HasCauseBy, HasCause, EndsHaveCauses}
+use Rattle.engine.specs.Causes.{Watched, BeginsBare, Decides, HasCauseBy, HasCause, EndsHaveCauses, CallCauses}
 use Rattle.engine.specs.Alone.{IsBetween, HasTaken, has_lock, has_guard, IsOthers, BusyIsOthers}
 use Rattle.engine.proofs.machines.Ops.{either_ops, each_named}
 use Rattle.engine.proofs.sessions.Goodness.{caller_at}
 use Rattle.engine.proofs.attempts.Stepping.{work_in, work_is, op_not_own}
-use Rattle.engine.proofs.attempts.Seats.{IsSeated, seat_steps, CallCauses, site_there, there, holds_there, seat_there}
+use Rattle.engine.proofs.attempts.Seats.{IsSeated, seat_steps, site_there, there, holds_there, seat_there}
 use Rattle.engine.proofs.lonely.Looking.{IsAbout, finds_about, by_kind, call_looks}
 use Rattle.engine.proofs.lonely.Guarding.{IsFoundTaken, a_lock, a_guard, enclose_found, split_told, split_found, IsTrying, repair_told, repair_found, redirect_told, redirect_found}
 

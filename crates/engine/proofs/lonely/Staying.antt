@@ -56,12 +56,12 @@ use Rattle.engine.specs.OpPart.{op_part, calls as of_calls, work_of}
 use Rattle.engine.specs.Core.{Caller, call_at, current, engine_for, idle, callers_from, drawn_by, ended, ended_or_on, answered, turn_of_call, turn_of_caller, turn}
 use Rattle.engine.specs.Holding.{CoreHolds, TurnKeeps}
 use Rattle.engine.specs.Laws.{IsServedImage, OpenedHolds, AreScripts}
-use Rattle.engine.specs.Causes.{Watched, answer_now, engine_next, EndsAreDecided}
+use Rattle.engine.specs.Causes.{Watched, answer_now, engine_next, EndsAreDecided, CallCauses}
 use Rattle.engine.specs.Alone.{IsStaleIn, TellsStale, IsDue, StandsDue, DueAtStart}
 use Rattle.engine.specs.Driven.{OwnTurnsStayDue, BegunIsDue}
 use Rattle.engine.proofs.machines.Ends.{ReleasesTellAlone}
 use Rattle.engine.proofs.attempts.Doing.{set_there}
-use Rattle.engine.proofs.attempts.Seats.{IsSeated, seat_stands, CallCauses, site_there, there, holds_there, seat_there}
+use Rattle.engine.proofs.attempts.Seats.{IsSeated, seat_stands, site_there, there, holds_there, seat_there}
 use Rattle.engine.proofs.lonely.counts.Stale.{StaleLaws, version_now, seat_stays}
 use Rattle.engine.proofs.lonely.Due.{RoomLaws, due_on}
 

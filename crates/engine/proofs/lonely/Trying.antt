@@ -69,12 +69,12 @@ use Rattle.engine.specs.OpPart.{op_part, calls as of_calls, work_of}
 use Rattle.engine.specs.Core.{Caller, Core}
 use Rattle.engine.specs.Holding.{DoesCall, CoreHolds, TurnKeeps}
 use Rattle.engine.specs.Laws.{IsServedImage, OpenedHolds, AreScripts}
-use Rattle.engine.specs.Causes.{Watched, BeginsBare}
+use Rattle.engine.specs.Causes.{Watched, BeginsBare, CallCauses}
 use Rattle.engine.specs.Alone.{IsNext}
 use Rattle.engine.specs.Driven.{tries_in_vain, tries_now, IsHeldByOther, TriesAreOthers}
 use Rattle.engine.proofs.machines.Ops.{call_kind}
 use Rattle.engine.proofs.sessions.Goodness.{caller_at}
-use Rattle.engine.proofs.attempts.Seats.{IsSeated, seat_steps, CallCauses, site_there, there, holds_there, seat_there}
+use Rattle.engine.proofs.attempts.Seats.{IsSeated, seat_steps, site_there, there, holds_there, seat_there}
 
 -- ---- a try in vain for the guard
 -- it is an exchange of its word, which has another value

@@ -30,7 +30,7 @@ anew_begins here call (Some change) outcome other fresh = refl
 anew_begins here call None outcome other fresh = refl
 
 -- where one is stale it is repaired
-anew_repairs : (here : Site) (call : Call) (change : Option Change) (segment version : ℕ) → anew_by here call change (Some (stale segment version)) ≡ repairing here segment
+pub anew_repairs : (here : Site) (call : Call) (change : Option Change) (segment version : ℕ) → anew_by here call change (Some (stale segment version)) ≡ repairing here segment
 anew_repairs here call None segment version = refl
 anew_repairs here call (Some change) segment version = refl
 

@@ -1,12 +1,10 @@
 -- The laws of an engine, by those of the one part that its machines are.
 use Rattle.std.proofs.Common.{◌≡◌, ◌≢◌, ◌<◌, ℕ, Some, refl, sym, subst}
 use Rattle.op_core.specs.declared.want.Want.{Want}
-use Rattle.trace.specs.Events.{Words}
 use Rattle.map_model.specs.Changes.{change_of}
-use Rattle.world.specs.Ground.{Ground}
 use Rattle.world.specs.Views.{View}
 use Rattle.world.specs.Wants.{answer_to, word_of}
-use Rattle.world.specs.StepKinds.{StepKind, of_call, of_structure, wanted_of, view_by}
+use Rattle.world.specs.StepKinds.{StepKind, view_by}
 use Rattle.world.specs.Laws.{CallersStay}
 use Rattle.world.specs.areas.Keeping.{StructureStepsReplyNothing}
 use Rattle.world.specs.Attempts.{EntersReply}
@@ -16,6 +14,7 @@ use Rattle.part.specs.Part.{IsPart}
 use Rattle.part.specs.Causes.{EndsByCause}
 use Rattle.part.specs.Splits.{EndsBySplitCause}
 use Rattle.part.specs.Repairs.{EndsByRepairCause}
+use Rattle.part.proofs.Turning.{as_many_callers}
 use Rattle.engine.specs.declared.engine.Engine.{Engine}
 use Rattle.engine.specs.Engine.{kind_of, anew_by}
 use Rattle.engine.specs.OpPart.{OpState, call_part, whole_split, split_segment_in, whole_repair, repaired_segment_in, op_part, state_of}
@@ -25,12 +24,6 @@ use Rattle.engine.specs.Causes.{EndsAreDecided}
 use Rattle.engine.proofs.machines.Ops.{either_ops, renamed_at, never_hands_on}
 use Rattle.engine.proofs.machines.Deciding.{IsAsking, doings_after, remembers_on, stays_on}
 use Rattle.engine.proofs.machines.Anew.{AnewLaws, anew_suits}
-
--- a step of whatever kind leaves a view for as many callers
-callers_stay : CallersStay → StructureStepsReplyNothing → (site : Ground) (words : Words) (kind : StepKind) (v : View)
-    → (view_by site.shape kind (words (word_of site.shape (wanted_of site.shape kind))) v).callers ≡ v.callers
-callers_stay calls structure site words (of_call kind) v = calls site.shape kind (words (word_of site.shape (wanted_of site.shape (of_call kind)))) v
-callers_stay calls structure site words (of_structure kind) v = structure.callers site kind words v
 
 -- what is used of the machines, and of the world
 pub record EngineLaws : Type 0 where
@@ -51,7 +44,7 @@ keeps_suits laws site here call e words views j before v shape version number sm
     let after : Engine = next_engine site e words in
     let now : View = view_by site.shape kind n v in
     let same : now.callers ≡ v.callers = subst (λ (x : Want). (view_by site.shape kind (words (word_of site.shape x)) v).callers ≡ v.callers) (sym w.wants)
-    (callers_stay laws.callers laws.structure site words kind v) in
+    (as_many_callers laws.callers laws.structure site kind words v) in
     let some : 0 < now.callers = subst (λ c. 0 < c) (sym same) s.suits.callers in
     let m : OpState = state_of e.op in
     let did : Doings = s.remembers.0 in

@@ -2,24 +2,15 @@
 use Rattle.engine.proofs.machines.Begins.{begins_undecided}
 use Rattle.engine.proofs.attempts.Stepping.{op_stays}
 use Rattle.engine.proofs.attempts.Doing.{watching}
-use Rattle.engine.proofs.attempts.Seats.{CallCauses}
 use Rattle.engine.proofs.attempts.Deciding.{ends_have_causes}
 use Rattle.engine.proofs.lonely.Others.{busy_others}
 use Rattle.engine.proofs.causes.ends_have_causes.Goals as goal
-
-call_causes : goal.After-turn_keeps → CallCauses
-call_causes c = record {
-  part = c.calls_are_parts.ensures.part;
-  causes = record { call = c.calls_are_parts.ensures.causes; split = c.calls_are_parts.ensures.split_causes; repair = c.calls_are_parts.ensures.repair_causes; current = c.calls_are_parts.ensures.repair_current };
-  begins = c.calls_are_parts.ensures.remembers;
-  never = c.calls_are_parts.ensures.finished;
-}
 
 pub returns-clause-begins : goal.returns-clause-begins
 returns-clause-begins c = begins_undecided
 
 pub returns-clause-stays : goal.returns-clause-stays
-returns-clause-stays c = λ e a outcome some. op_stays (record { call = c.calls_are_parts.ensures.causes; split = c.calls_are_parts.ensures.split_causes; repair = c.calls_are_parts.ensures.repair_causes; current = c.calls_are_parts.ensures.repair_current }) e.op a outcome some
+returns-clause-stays c = λ e a outcome some. op_stays c.attempts_have_causes.ensures.causes e.op a outcome some
 
 pub returns-clause-ends : goal.returns-clause-ends
 returns-clause-ends c = c.calls_are_parts.ensures.ends
@@ -28,7 +19,7 @@ pub returns-clause-watching : goal.returns-clause-watching
 returns-clause-watching c = watching
 
 pub returns-clause-causes : goal.returns-clause-causes
-returns-clause-causes c = ends_have_causes (call_causes c) c.opened_holds.ensures c.turn_keeps.ensures.one
+returns-clause-causes c = ends_have_causes c.attempts_have_causes.ensures c.opened_holds.ensures c.turn_keeps.ensures.one
 
 pub returns-clause-busy : goal.returns-clause-busy
-returns-clause-busy c = busy_others (call_causes c) c.calls_are_parts.ensures.bare c.opened_holds.ensures c.turn_keeps.ensures.one (returns-clause-causes c)
+returns-clause-busy c = busy_others c.attempts_have_causes.ensures c.calls_are_parts.ensures.bare c.opened_holds.ensures c.turn_keeps.ensures.one (returns-clause-causes c)

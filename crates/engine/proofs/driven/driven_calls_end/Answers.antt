@@ -1,7 +1,6 @@
 -- By the room that there is not, the slots that are taken, and the segments that are stale.
 use Rattle.engine.specs.Engine.{running}
 use Rattle.engine.proofs.machines.Ends.{ReleasesTellAlone, releases_tell_alone}
-use Rattle.engine.proofs.attempts.Seats.{CallCauses}
 use Rattle.engine.proofs.lonely.Lonely.{own_turns_stay_still}
 use Rattle.engine.proofs.lonely.Staying.{DueLaws, begun_is_due, own_turns_stay_due}
 use Rattle.engine.proofs.lonely.Stages.{StageLaws}
@@ -9,20 +8,12 @@ use Rattle.engine.proofs.lonely.Fewer.{own_turns_leave_fewer}
 use Rattle.engine.proofs.lonely.Going.{ends_begin_anew}
 use Rattle.engine.proofs.driven.driven_calls_end.Goals as goal
 
-call_causes : goal.After-never_again_alone → CallCauses
-call_causes c = record {
-  part = c.calls_are_parts.ensures.part;
-  causes = record { call = c.calls_are_parts.ensures.causes; split = c.calls_are_parts.ensures.split_causes; repair = c.calls_are_parts.ensures.repair_causes; current = c.calls_are_parts.ensures.repair_current };
-  begins = c.calls_are_parts.ensures.remembers;
-  never = c.calls_are_parts.ensures.finished;
-}
-
 tells_alone : goal.After-never_again_alone → ReleasesTellAlone
 tells_alone c = releases_tell_alone c.gets_are_parts.ensures.splits c.changes_are_parts.ensures.splits c.moves_are_parts.ensures.splits c.stashes_are_parts.ensures.splits
 
 due_laws : goal.After-never_again_alone → DueLaws
 due_laws c = record {
-  causes = call_causes c;
+  causes = c.attempts_have_causes.ensures;
   rooms = record { splits = c.releases_find_no_room.ensures.now; finds = c.enclosings_are_parts.ensures.room; keeps = c.enclosings_are_parts.ensures.keeps };
   stale = record { grows = c.stale_segments_only_go.ensures.stale; stays = c.stale_segments_only_go.ensures.stays; renewed = c.stale_segments_only_go.ensures.renewed };
   alone = tells_alone c;

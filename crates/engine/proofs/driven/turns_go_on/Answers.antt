@@ -1,18 +1,9 @@
 -- By the guard of the directory, which another has where it is tried in vain.
 use Rattle.engine.specs.Engine.{running}
-use Rattle.engine.proofs.attempts.Seats.{CallCauses}
 use Rattle.engine.proofs.lonely.Stages.{StageLaws}
 use Rattle.engine.proofs.lonely.Trying.{tries_are_others}
 use Rattle.engine.proofs.lonely.Going.{turns_go_on, attempts_are_short}
 use Rattle.engine.proofs.driven.turns_go_on.Goals as goal
-
-call_causes : goal.After-turn_keeps → CallCauses
-call_causes c = record {
-  part = c.calls_are_parts.ensures.part;
-  causes = record { call = c.calls_are_parts.ensures.causes; split = c.calls_are_parts.ensures.split_causes; repair = c.calls_are_parts.ensures.repair_causes; current = c.calls_are_parts.ensures.repair_current };
-  begins = c.calls_are_parts.ensures.remembers;
-  never = c.calls_are_parts.ensures.finished;
-}
 
 stage_laws : goal.After-turn_keeps → StageLaws
 stage_laws c = record {
@@ -25,10 +16,10 @@ stage_laws c = record {
 }
 
 pub returns-clause-tries : goal.returns-clause-tries
-returns-clause-tries c = tries_are_others (call_causes c) c.calls_are_parts.ensures.bare c.free_guards_are_won.ensures c.opened_holds.ensures c.turn_keeps.ensures.one
+returns-clause-tries c = tries_are_others c.attempts_have_causes.ensures c.calls_are_parts.ensures.bare c.free_guards_are_won.ensures c.opened_holds.ensures c.turn_keeps.ensures.one
 
 pub returns-clause-goes : goal.returns-clause-goes
-returns-clause-goes c = turns_go_on (call_causes c) (stage_laws c) c.opened_holds.ensures c.turn_keeps.ensures.one
+returns-clause-goes c = turns_go_on c.attempts_have_causes.ensures (stage_laws c) c.opened_holds.ensures c.turn_keeps.ensures.one
 
 pub returns-clause-short : goal.returns-clause-short
 returns-clause-short c = attempts_are_short (stage_laws c)

@@ -24,7 +24,8 @@ use Rattle.engine.specs.declared.engine.Engine.{Engine}
 use Rattle.engine.specs.Engine.{wanted}
 use Rattle.engine.specs.OpPart.{op_part}
 use Rattle.engine.specs.Left.{free_below, free_slots}
-use Rattle.engine.proofs.attempts.Seats.{IsSeated, seat_steps, CallCauses}
+use Rattle.engine.specs.Causes.{CallCauses}
+use Rattle.engine.proofs.attempts.Seats.{IsSeated, seat_steps}
 
 -- ---- how many are free
 abbrev pub one_if : Bool → ℕ

@@ -25,8 +25,9 @@ use Rattle.engine.specs.Engine.{wanted}
 use Rattle.engine.specs.OpPart.{op_part}
 use Rattle.engine.specs.Left.{is_stale, stale_below, stale_segments}
 use Rattle.engine.specs.Alone.{IsStaleIn}
+use Rattle.engine.specs.Causes.{CallCauses}
 use Rattle.engine.proofs.holding.Served.{sound_now}
-use Rattle.engine.proofs.attempts.Seats.{IsSeated, seat_steps, CallCauses}
+use Rattle.engine.proofs.attempts.Seats.{IsSeated, seat_steps}
 use Rattle.engine.proofs.lonely.counts.Slots.{one_if}
 
 -- ---- the test of a stale header
