@@ -1,12 +1,14 @@
 -- The turns that led to an open image, and the calls that are behind.
 use Rattle.std.specs.Prelude.{◌≡◌, ℕ, ◌+◌, ◌-◌, ◌≤◌, ⊤, Some, List, [], ◌∷◌, length}
-use Rattle.restart_op.specs.Closing.{left as close_left, events_of}
+use Rattle.restart_op.specs.Budget.{BeginsWithASweep, Falls as RestartFalls}
+use Rattle.restart_op.specs.Restarted.{RestartAsks}
+use Rattle.restart_op.specs.Closing.{left as close_left, events_of, Falls as CloseFalls}
 use Rattle.engine.specs.Core.{Caller, Core}
 use Rattle.engine.specs.Alone.{along}
 use Rattle.core_run.specs.declared.keeper.Keeper.{Keeper}
 use Rattle.core_run.specs.declared.keeper.Keeper.TheVariants.{Restarting, Open, Closing, Closed}
 use Rattle.core_run.specs.State.{State, Deed, deed, beginning}
-use Rattle.core_run.specs.Running.{Setup, IsSetup, start_of, IsRunning}
+use Rattle.core_run.specs.Running.{Setup, IsSetup, start_of, IsRunning, DeedsAreWell}
 
 -- some turns led to this core from the image's opening on
 pub record HasTurns (t : Setup) (core : Core) : Type 0 where
@@ -39,3 +41,13 @@ BeginsAlong = (t : Setup) → IsSetup t → IsAlong t (beginning t.shape (start_
 -- AND EACH EVENT keeps it, whichever caller does it
 abbrev pub ComesAlong : Type 0
 ComesAlong = (t : Setup) (c : ℕ) (s : State) (d : Deed) → IsSetup t → IsRunning t s → IsAlong t s → deed t.shape c s ≡ Some d → IsAlong t d.state
+
+-- what the ends of a restart and of a close rest on: each event of them leaves fewer, a restart has no more than with a sweep, and what is done keeps
+-- what holds of a run, and its turns
+pub record KeeperLaws : Type 0 where
+  pub wells : DeedsAreWell
+  pub comes : ComesAlong
+  pub most : BeginsWithASweep
+  pub restart : RestartFalls
+  pub asks : RestartAsks
+  pub close : CloseFalls

@@ -1,6 +1,6 @@
 //! The laws of what is done in a run. The functions do nothing: each stands for the law that its contract says.
 
-ghost use Rattle.core_run.specs.Along.{BeginsAlong, ComesAlong};
+ghost use Rattle.core_run.specs.Along.{BeginsAlong, ComesAlong, KeeperLaws};
 ghost use Rattle.core_run.specs.Ends.{DriveStays, RestartedStays, RoundStays, RoundsStay, ReadyStays, RunOutStays, LineStays, LinesStay, ClosedStays};
 ghost use Rattle.core_run.specs.Ends.{DrivesAreEnough, RestartEnds, RestartOpens, RunOutEnds, ClosedEnds, RunsAreWell};
 ghost use Rattle.core_run.specs.Wells.{LinesAreWell};
@@ -13,6 +13,16 @@ pub fn turns_lead_here()
     ensures comes { ComesAlong }
 {
     restart_op::close_ends();
+}
+
+/// What the ends of the restart and of the close rest on.
+fn keepers_have_laws()
+    ensures { KeeperLaws }
+{
+    restart_op::restart_ends();
+    restart_op::close_ends();
+    states::deeds_are_well();
+    turns_lead_here();
 }
 
 /// A caller that goes on, a restart that is brought to its end, and rounds of turns keep a state of the run.
@@ -35,10 +45,7 @@ pub fn drives_are_enough()
     engine::calls_end_alone();
     engine::turns_go_on();
     engine::driven_calls_end();
-    restart_op::restart_ends();
-    restart_op::close_ends();
-    states::deeds_are_well();
-    turns_lead_here();
+    keepers_have_laws();
 }
 
 /// The restart ends, and leaves the image to the callers.
@@ -46,10 +53,7 @@ pub fn restarts_end()
     ensures restart { RestartEnds }
     ensures opens { RestartOpens }
 {
-    restart_op::restart_ends();
-    restart_op::close_ends();
-    states::deeds_are_well();
-    turns_lead_here();
+    keepers_have_laws();
 }
 
 /// Each line, the end rule and the close keep a state of the run; the close begins, and it ends.
@@ -61,11 +65,9 @@ pub fn runs_stay_well()
     ensures shut { RunOutEnds }
     ensures ends { ClosedEnds }
 {
-    restart_op::restart_ends();
     restart_op::close_ends();
-    states::deeds_are_well();
     states::close_may_begin();
-    turns_lead_here();
+    keepers_have_laws();
     drives_stay();
     restarts_end();
     end_rule::calls_run_out();

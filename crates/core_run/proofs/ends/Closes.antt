@@ -17,10 +17,11 @@ use Rattle.core_run.specs.State.{State, close_deed, keeper_deed}
 use Rattle.core_run.specs.Run.{drive, restarted, rounds, close_begins, run_out, ready_for, line_done, lines_done, closed}
 use Rattle.core_run.specs.Running.{Setup, IsSetup, IsOpen, IsRunningBy}
 use Rattle.core_run.specs.States.{CloseMayBegin}
+use Rattle.core_run.specs.Along.{KeeperLaws}
 use Rattle.core_run.specs.Ends.{IsRun, most_of, IsShut}
 use Rattle.core_run.specs.Rounds.{RoundsEnd, RoundsAreEnough}
 use Rattle.core_run.proofs.ends.Choices.{either}
-use Rattle.core_run.proofs.ends.Measures.{KeeperLaws, stays_shut}
+use Rattle.core_run.proofs.ends.Measures.{stays_shut}
 use Rattle.core_run.proofs.ends.Driving.{drive_stays, restarted_stays, ready_stays, rounds_stay}
 use Rattle.core_run.proofs.ends.Keeping.{driven_through, drive_keeps, restart_ends}
 

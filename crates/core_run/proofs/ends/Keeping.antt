@@ -11,10 +11,11 @@ use Rattle.core_run.specs.declared.goal.Goal.TheVariants.{AnyEvent}
 use Rattle.core_run.specs.State.{State, Deed, restart_deed, close_deed, keeper_deed, deed}
 use Rattle.core_run.specs.Run.{counts, stops, by_deed, drive, restarted_by, restarted}
 use Rattle.core_run.specs.Running.{Setup, IsSetup}
+use Rattle.core_run.specs.Along.{KeeperLaws}
 use Rattle.core_run.specs.Ends.{IsRun, most_of}
 use Rattle.core_run.proofs.ends.Choices.{either, not_so}
 use Rattle.core_run.proofs.ends.Stopping.{StopsIn}
-use Rattle.core_run.proofs.ends.Measures.{KeeperLaws, keeper_low, keeper_stops, IsEarly, stays_early}
+use Rattle.core_run.proofs.ends.Measures.{keeper_low, keeper_stops, IsEarly, stays_early}
 
 module _ (keepers : KeeperLaws) (t : Setup) (is : IsSetup t) where
   -- caller 0 never pauses

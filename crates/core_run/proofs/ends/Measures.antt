@@ -10,11 +10,11 @@ use Rattle.world.specs.Wants.{answer_to, word_of}
 use Rattle.world.proofs.stepping.Answers.{is_answer}
 use Rattle.restart_op.specs.declared.restart.RestartOp.{RestartOp}
 use Rattle.restart_op.specs.Restart.{wanted as restart_wanted, taken as restart_taken}
-use Rattle.restart_op.specs.Budget.{events_of_sweep, events_of_restart, left as restart_left, BeginsWithASweep, Falls as RestartFalls}
-use Rattle.restart_op.specs.Restarted.{restarted, RestartAsks}
+use Rattle.restart_op.specs.Budget.{events_of_sweep, events_of_restart, left as restart_left}
+use Rattle.restart_op.specs.Restarted.{restarted}
 use Rattle.restart_op.specs.declared.close.CloseOp.{CloseOp}
 use Rattle.restart_op.specs.Close.{wanted as close_wanted, taken as close_taken}
-use Rattle.restart_op.specs.Closing.{left as close_left, Falls as CloseFalls}
+use Rattle.restart_op.specs.Closing.{left as close_left}
 use Rattle.engine.specs.declared.engine.Engine.{Engine}
 use Rattle.engine.specs.Core.{Caller, Core, current}
 use Rattle.engine.specs.Left.{left_alone, most_alone, events_of_call}
@@ -24,8 +24,8 @@ use Rattle.core_run.specs.declared.keeper.Keeper.TheVariants.{Restarting, Open, 
 use Rattle.core_run.specs.declared.goal.Goal.{Goal}
 use Rattle.core_run.specs.State.{State, Deed, by_keeper, restarting, closing, restart_deed, close_deed, keeper_deed, call_deed, caller_deed}
 use Rattle.core_run.specs.Run.{all_calls, drive}
-use Rattle.core_run.specs.Running.{Setup, IsSetup, IsOpen, IsRestarting, IsRunningBy, DeedsAreWell}
-use Rattle.core_run.specs.Along.{HasTurns, IsAlongBy, ComesAlong}
+use Rattle.core_run.specs.Running.{Setup, IsSetup, IsOpen, IsRestarting, IsRunningBy}
+use Rattle.core_run.specs.Along.{HasTurns, IsAlongBy, KeeperLaws}
 use Rattle.core_run.specs.Ends.{IsRun, most_of, IsShut}
 use Rattle.core_run.proofs.ends.Working.{EngineLaws, call_two, within_all, same_within}
 use Rattle.core_run.proofs.ends.Stopping.{StopsIn, stops_sooner, none_stops, same_drive}
@@ -39,15 +39,6 @@ keeper_left (Closing op) = close_left op
 keeper_left Closed = 0
 
 -- ---- the restart and the close
--- what is used of them, and of the events of a run
-pub record KeeperLaws : Type 0 where
-  pub wells : DeedsAreWell
-  pub comes : ComesAlong
-  pub most : BeginsWithASweep
-  pub restart : RestartFalls
-  pub asks : RestartAsks
-  pub close : CloseFalls
-
 module _ (keepers : KeeperLaws) where
   restart_less : (op : RestartOp) (n : ℕ) → restart_wanted op ≢ want.Done → restart_left (restart_taken op (answer_to (restart_wanted op) n)) < restart_left op
   restart_less op n some = keepers.restart op (answer_to (restart_wanted op) n) (is_answer (restart_wanted op) n some)

@@ -31,6 +31,7 @@ use Rattle.engine.specs.Causes.{Watched, answer_now, engine_next, watched_turn}
 use Rattle.engine.specs.Alone.{IsDue, StandsDue, IsNext, at_start, along}
 use Rattle.engine.specs.Driven.{waits_now}
 use Rattle.engine.proofs.Places.{one_more}
+use Rattle.engine.proofs.attempts.Doing.{one_more_turn}
 use Rattle.core_run.specs.declared.keeper.Keeper.TheVariants.{Open}
 use Rattle.core_run.specs.declared.goal.Goal.{Goal}
 use Rattle.core_run.specs.declared.goal.Goal.TheVariants.{AnyEvent, Kind, StoreTo, Turn}
@@ -39,7 +40,7 @@ use Rattle.core_run.specs.Run.{ends_in_again, pauses, stops}
 use Rattle.core_run.specs.Running.{Setup, IsSetup}
 use Rattle.core_run.proofs.ends.Choices.{neither}
 use Rattle.core_run.proofs.ends.Working.{EngineLaws, less_of_attempt, less_before, next_attempt, call_anew, call_after, next_call_low, later_within, due_within, less_within, same_within}
-use Rattle.core_run.proofs.ends.Staying.{set_here, one_more_turn, turn_is, deed_is}
+use Rattle.core_run.proofs.ends.Staying.{set_here, turn_is, deed_is}
 use Rattle.core_run.proofs.ends.Stopping.{StopsIn, none_stops}
 
 -- ---- a split or a repair goes on as one

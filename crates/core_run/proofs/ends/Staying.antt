@@ -13,8 +13,9 @@ use Rattle.restart_op.specs.Close.{wanted as close_wanted, taken as close_taken}
 use Rattle.restart_op.specs.Closing.{left as close_left, events_of, Falls as CloseFalls}
 use Rattle.engine.specs.declared.engine.Engine.{Engine}
 use Rattle.engine.specs.Core.{Caller, Core, current, with_event, turn, turn_of_call, turn_of_caller}
-use Rattle.engine.specs.Causes.{Watched, watched_turn, watched_run}
+use Rattle.engine.specs.Causes.{Watched}
 use Rattle.engine.specs.Alone.{at_start}
+use Rattle.engine.proofs.attempts.Doing.{one_more_turn}
 use Rattle.core_run.specs.declared.keeper.Keeper.{Keeper}
 use Rattle.core_run.specs.declared.keeper.Keeper.TheVariants.{Restarting, Open, Closing, Closed}
 use Rattle.core_run.specs.State.{Deed, by_keeper, restarting, closing, restart_deed, close_deed, keeper_deed, engine_deed, call_deed, caller_deed, open_deed}
@@ -33,12 +34,7 @@ set_here [] j x y at = absurd (none-some x at)
 set_here (z ∷ xs) zero x y at = refl
 set_here (z ∷ xs) (suc j) x y at = set_here xs j x y at
 
--- ---- one more turn
-pub one_more_turn : (shape : Shape) (turns : List ℕ) (c : ℕ) (w : Watched) → watched_run shape (turns ++ c ∷ []) w ≡ watched_turn shape c (watched_run shape turns w)
-one_more_turn shape [] c w = refl
-one_more_turn shape (d ∷ turns) c w = one_more_turn shape turns c (watched_turn shape d w)
-
--- a turn of a caller is the event of its engine
+-- ---- a turn of a caller is the event of its engine
 pub turn_is : (shape : Shape) (core : Core) (j : ℕ) (c : Caller) (call : Call) (e : Engine) → slice_get core.callers j ≡ Some c → current c ≡ Some call → c.engine ≡ Some e
     → turn shape (suc j) core ≡ with_event shape j core c call e
 turn_is shape core j c call e there calls runs =

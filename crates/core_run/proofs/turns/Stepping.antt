@@ -16,12 +16,13 @@ use Rattle.engine.specs.Holding.{IsCalling, DoesCall, CallerFits}
 use Rattle.engine.specs.Causes.{Watched, answer_now, engine_next, watched_turn}
 use Rattle.engine.specs.Alone.{IsNext, at_start, along}
 use Rattle.engine.proofs.Places.{zip_at, set_cases}
+use Rattle.engine.proofs.attempts.Doing.{one_more_turn}
 use Rattle.core_run.specs.declared.keeper.Keeper.TheVariants.{Open}
 use Rattle.core_run.specs.State.{State, Deed, end_by, engine_deed, call_deed, caller_deed, deed}
 use Rattle.core_run.specs.Run.{is_some_reply, ends_call}
 use Rattle.core_run.specs.Running.{Setup, IsSetup, site_in, IsOpen, DeedsAreWell}
 use Rattle.core_run.specs.Along.{behind, all_behind}
-use Rattle.core_run.proofs.ends.Staying.{behind_set, set_here, one_more_turn, turn_is as turn_at, deed_is as deed_at}
+use Rattle.core_run.proofs.ends.Staying.{behind_set, set_here, turn_is as turn_at, deed_is as deed_at}
 
 -- the state in which the image is open over a core
 abbrev pub at : Core → State

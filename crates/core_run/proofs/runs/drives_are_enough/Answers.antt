@@ -1,9 +1,9 @@
 -- A caller stops by itself, within the events that are counted.
 use Rattle.core_run.proofs.ends.Working.{EngineLaws}
-use Rattle.core_run.proofs.ends.Measures.{KeeperLaws, drives_are_enough}
+use Rattle.core_run.proofs.ends.Measures.{drives_are_enough}
 use Rattle.core_run.proofs.runs.drives_are_enough.Goals as goal
 
-engine_laws : goal.After-turns_lead_here → EngineLaws
+engine_laws : goal.After-keepers_have_laws → EngineLaws
 engine_laws c = record {
   ended = c.never_again_alone.ensures.ended;
   goes = c.turns_go_on.ensures.goes;
@@ -16,15 +16,5 @@ engine_laws c = record {
   few = c.calls_end_alone.ensures.few;
 }
 
-keeper_laws : goal.After-turns_lead_here → KeeperLaws
-keeper_laws c = record {
-  wells = c.deeds_are_well.ensures;
-  comes = c.turns_lead_here.ensures.comes;
-  most = c.restart_ends.ensures.most;
-  restart = c.restart_ends.ensures.falls;
-  asks = c.restart_ends.ensures.asks;
-  close = c.close_ends.ensures.falls;
-}
-
 pub returns : goal.returns
-returns c t most k aim n s is enough r = drives_are_enough (keeper_laws c) t is (engine_laws c) most k aim n s enough r
+returns c t most k aim n s is enough r = drives_are_enough c.keepers_have_laws.ensures t is (engine_laws c) most k aim n s enough r

@@ -4,14 +4,7 @@ use Rattle.core_run.proofs.runs.runs_stay_well.Goals as goal
 
 run_laws : goal.After-calls_run_out → RunLaws
 run_laws c = record {
-  keepers = record {
-    wells = c.deeds_are_well.ensures;
-    comes = c.turns_lead_here.ensures.comes;
-    most = c.restart_ends.ensures.most;
-    restart = c.restart_ends.ensures.falls;
-    asks = c.restart_ends.ensures.asks;
-    close = c.close_ends.ensures.falls;
-  };
+  keepers = c.keepers_have_laws.ensures;
   may_close = c.close_may_begin.ensures;
   close_low = c.close_ends.ensures.most;
   rounds_end = c.calls_run_out.ensures.rounds;
