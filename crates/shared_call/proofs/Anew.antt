@@ -18,10 +18,10 @@ use Rattle.release_op.specs.declared.op.ReleaseOp.{ReleaseOp}
 use Rattle.engine.specs.declared.engine.Op.{Op}
 use Rattle.engine.specs.declared.engine.Op.TheVariants.{Read, Write, Move, Stash, Release}
 use Rattle.engine.specs.declared.engine.Engine.{Engine}
-use Rattle.engine.specs.declared.engine.End.{End}
-use Rattle.engine.specs.Engine.{begun, splitting, repairing, outcome_of_end, IsFresh, anew_by, anew}
+use Rattle.engine.specs.Engine.{begun, splitting, repairing, anew_by}
 use Rattle.engine.specs.OpPart.{Work, calls, splits, repairs, work_of, op_part}
 use Rattle.engine.specs.Fits.{HasNumber, IsWordCall}
+use Rattle.engine.proofs.machines.Anew.{anew_repairs}
 use Rattle.shared_call.specs.Laws.{NextLaws, AttemptLaws}
 use Rattle.shared_call.specs.Suited.{Suits, HasCauseOf}
 
@@ -34,12 +34,7 @@ release_tells laws segment (Stash op) own some = absurd (laws.stash op segment s
 release_tells laws segment (Release op) own some = (op, refl)
 release_tells laws segment op own some = absurd (cc)
 
--- where one is stale it is repaired
-anew_repairs : (here : Site) (call : Call) (change : Option Change) (segment version : ℕ) → anew_by here call change (Some (stale segment version)) ≡ repairing here segment
-anew_repairs here call None segment version = refl
-anew_repairs here call (Some change) segment version = refl
-
--- and where it is to be tried again the call begins anew
+-- where it is to be tried again the call begins anew
 anew_begins : (here : Site) (call : Call) (change : Option Change) (why : _) → anew_by here call change (Some (again why)) ≡ begun here call
 anew_begins here call None why = refl
 anew_begins here call (Some change) why = refl
@@ -48,15 +43,6 @@ anew_begins here call (Some change) why = refl
 anew_behind : (here : Site) (call : Call) (change : Option Change) → anew_by here call change (Some finished) ≡ begun here call
 anew_behind here call None = refl
 anew_behind here call (Some change) = refl
-
--- whatever was told, the next attempt has done nothing yet
-anew_by_fresh : (here : Site) (call : Call) (change : Option Change) (outcome : Option Outcome) → IsFresh here (anew_by here call change outcome)
-anew_by_fresh here call (Some change) (Some (need_split segment)) = inr (inl (change, segment, refl))
-anew_by_fresh here call change (Some (stale segment version)) = inr (inr (segment, refl))
-anew_by_fresh here call change outcome = inl (call, refl)
-
-pub anew_fresh : (here : Site) (call : Call) (end : End) → IsFresh here (anew here call end)
-anew_fresh here call end = anew_by_fresh here call (change_of call) (outcome_of_end end)
 
 -- no split and no repair tells that a segment is to be split
 pub of_calls : (work : Work) (site : Ground) (words : Words) (did : Doings) (call : Call) (event : Want) (here : Site) (segment : ℕ) → HasCauseOf work site words did call event here (need_split segment)

@@ -27,33 +27,24 @@ use Rattle.engine.specs.Engine.{begun, wanted, taken, end_of, outcome_of_end, re
 use Rattle.engine.specs.Left.{left}
 use Rattle.engine.specs.OpPart.{Work, calls, work_of, op_part}
 use Rattle.engine.specs.Fits.{IsWordCall, HasNumber}
+use Rattle.engine.proofs.machines.Ops.{never_hands_on}
+use Rattle.engine.proofs.machines.Begins.{begins_undecided}
+use Rattle.engine.proofs.attempts.Stepping.{op_decided}
+use Rattle.engine.proofs.attempts.Doing.{anew_fresh}
 use Rattle.vlock.specs.declared.knows.Watch.{Watch}
 use Rattle.shared_call.specs.Laws.{AttemptLaws}
 use Rattle.shared_call.specs.Suited.{Suits, IsRunning, HasCauseOf}
 use Rattle.shared_call.specs.Turns.{Leaves, Turns}
 use Rattle.shared_call.specs.Attempts.{after_events, doings_of, IsDecided, IsGoing, IsPlaced, IsOver, IsAttempted, BeginsGoing, EndsOver}
-use Rattle.shared_call.proofs.Machines.{never_hands_on}
-use Rattle.shared_call.proofs.Deciding.{op_decided, next_work}
-use Rattle.shared_call.proofs.Anew.{of_calls, anew_fresh, begun_suits, anew_suits}
+use Rattle.shared_call.proofs.Deciding.{next_work}
+use Rattle.shared_call.proofs.Anew.{of_calls, begun_suits, anew_suits}
 
--- the machine of a call that has done nothing is one of the call itself, and has decided nothing
+-- the machine of a call that has done nothing is one of the call itself
 pub begun_works : (here : Site) (call : Call) → work_of (begun here call).op ≡ calls
 begun_works here (Get key) = refl
 begun_works here (Insert key value) = refl
 begun_works here (Update key value) = refl
 begun_works here (Remove key) = refl
-
-pub begun_undecided : (here : Site) (call : Call) → op_part.outcome (begun here call).op ≡ None
-begun_undecided here (Get key) = refl
-begun_undecided here (Insert key value) = refl
-begun_undecided here (Update key value) = refl
-begun_undecided here (Remove key) = refl
-
--- so has the machine of each attempt that has done nothing
-pub fresh_undecided : (here : Site) (e : Engine) → IsFresh here e → op_part.outcome e.op ≡ None
-fresh_undecided here e (inl of) = ap (λ (x : Engine). op_part.outcome x.op) of.1 ∙ begun_undecided here of.0
-fresh_undecided here e (inr (inl of)) = ap (λ (x : Engine). op_part.outcome x.op) of.2
-fresh_undecided here e (inr (inr of)) = ap (λ (x : Engine). op_part.outcome x.op) of.1
 
 -- a reply that was entered is among those that came since
 same_rest : (xs ys zs : List Entry) → xs ++ ys ≡ xs ++ zs → ys ≡ zs
@@ -129,7 +120,7 @@ module _ (site : Ground) (here : Site) (call : Call) (work : Work) where
       same_callers = refl;
       suits = subst (λ (x : Engine). SuitsPart op_part site here call x.op p.view p.view) (sym now) suits.suits;
       remembers = subst (λ (x : Engine). op_part.Remembers site x.op nothing_done) (sym now) suits.remembers;
-      decided = λ outcome some. absurd (none-some outcome (sym (fresh_undecided here start fresh) ∙ (ap (λ (x : Engine). op_part.outcome x.op) (sym now) ∙ some)));
+      decided = λ outcome some. absurd (none-some outcome (sym (begins_undecided here start fresh) ∙ (ap (λ (x : Engine). op_part.outcome x.op) (sym now) ∙ some)));
     }
 
     -- ---- it goes on

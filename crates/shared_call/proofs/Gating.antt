@@ -25,7 +25,7 @@ use Rattle.shared_call.specs.Gated.{IsLowered, HasNoneLeft, IsLetting, IsLetThro
 use Rattle.shared_call.proofs.Attempted.{begins, running, goes_on, over, call_begins, attempted}
 
 -- ---- the passes that are left
-not_lowered : (l : Option (Option ℕ)) → IsLowered l 0 l
+pub not_lowered : (l : Option (Option ℕ)) → IsLowered l 0 l
 not_lowered None = tt
 not_lowered (Some None) = refl
 not_lowered (Some (Some n)) = (n, refl, omega arith)

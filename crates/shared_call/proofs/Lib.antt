@@ -1,4 +1,3 @@
-pub mod Machines
 pub mod Deciding
 pub mod Turned
 pub mod Anew

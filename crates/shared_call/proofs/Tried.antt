@@ -8,6 +8,7 @@ use Rattle.world.specs.declared.site.Site.{Site}
 use Rattle.world.specs.Ground.{Ground, IsGround, version_of}
 use Rattle.world.specs.Wants.{answer_to}
 use Rattle.world.specs.Attempts.{HoldsOnly, HasNoMore, EntersReply}
+use Rattle.world.proofs.stepping.Answers.{is_answer}
 use Rattle.part.specs.Outcomes.{Outcome, replied, again, stale, need_split, off, finished, reply_of}
 use Rattle.engine.specs.declared.engine.Engine.{Engine}
 use Rattle.engine.specs.declared.engine.End.{End}
@@ -15,6 +16,8 @@ use Rattle.engine.specs.Engine.{begun, wanted, taken, end_of, outcome_of_end, re
 use Rattle.engine.specs.Left.{left}
 use Rattle.engine.specs.Fits.{IsWordCall, HasNumber}
 use Rattle.engine.specs.OpPart.{Work, calls, work_of, op_part}
+use Rattle.engine.proofs.machines.Ops.{never_hands_on}
+use Rattle.engine.proofs.attempts.Stepping.{op_decided}
 use Rattle.vlock.specs.declared.knows.Watch.{Watch}
 use Rattle.shared_call.specs.declared.going.Stop.TheVariants as stop
 use Rattle.shared_call.specs.declared.tries.Answer.{Answer}
@@ -23,9 +26,6 @@ use Rattle.shared_call.specs.Laws.{TurnLaws, AttemptLaws}
 use Rattle.shared_call.specs.Attempts.{IsGoing, IsPlaced, IsOver}
 use Rattle.shared_call.specs.Gated.{HasNoneLeft, HasGoneOn}
 use Rattle.shared_call.specs.Tries.{answer_for, IsTrying, IsReady, IsAnswered, Tells, HasTried}
-use Rattle.shared_call.proofs.Machines.{never_hands_on}
-use Rattle.shared_call.proofs.Deciding.{op_decided}
-use Rattle.shared_call.proofs.Turned.{is_answer}
 use Rattle.shared_call.proofs.Anew.{begun_suits}
 use Rattle.shared_call.proofs.Attempted.{fewer, begins, over, call_begins}
 

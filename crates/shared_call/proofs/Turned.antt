@@ -1,11 +1,8 @@
 -- An engine that suits the view of a seat may take its event there, and what that leaves.
-use Rattle.std.proofs.Common.{◌≡◌, ◌≢◌, ◌⊎◌, ℕ, ◌^◌, ◌<◌, Bool, true, false, cond, Option, None, Some, refl, sym, ap, ◌∙◌, subst}
-use Rattle.std.specs.Prelude.{◌==◌}
+use Rattle.std.proofs.Common.{◌≡◌, ◌≢◌, ◌⊎◌, ℕ, ◌^◌, ◌<◌, Option, None, Some, refl, sym, ap, ◌∙◌, subst}
 use Rattle.op_core.specs.declared.want.Want.{Want}
-use Rattle.op_core.specs.declared.want.Want.TheVariants.{Load, Store, Exchange, Flush, Fence, Draw, Power, Done}
+use Rattle.op_core.specs.declared.want.Want.TheVariants.{Done}
 use Rattle.op_core.specs.declared.want.Ans.{Ans}
-use Rattle.op_core.specs.declared.want.Ans.TheVariants.{Won, Lost}
-use Rattle.op_core.specs.Answers.{IsAnswer}
 use Rattle.image_layout.specs.Volatile.{all_words_of}
 use Rattle.map_model.specs.declared.call.Call.{Call}
 use Rattle.world.specs.declared.site.Site.{Site}
@@ -15,6 +12,7 @@ use Rattle.world.specs.Wants.{word_of, answer_to}
 use Rattle.world.specs.StepKinds.{StepKind, wanted_of, view_by, MayTake}
 use Rattle.world.specs.Attempts.{EntersReply}
 use Rattle.world.specs.Later.{IsLater}
+use Rattle.world.proofs.stepping.Answers.{is_answer}
 use Rattle.part.specs.Doings.{Doings}
 use Rattle.part.specs.Outcomes.{Outcome, off, reply_of}
 use Rattle.part.specs.Part.{IsWait, Suits as SuitsPart}
@@ -23,27 +21,14 @@ use Rattle.engine.specs.declared.engine.Engine.{Engine}
 use Rattle.engine.specs.Engine.{wanted, taken, kind_of}
 use Rattle.engine.specs.Left.{left}
 use Rattle.engine.specs.OpPart.{op_part}
+use Rattle.engine.proofs.machines.Ops.{never_hands_on}
+use Rattle.engine.proofs.attempts.Stepping.{op_stays, op_remembers, op_not_own}
 use Rattle.vlock.specs.declared.knows.Watch.{Watch}
 use Rattle.vlock.specs.Plays.{Moment, Met, MayDo, Answers, watched}
 use Rattle.shared_call.specs.Laws.{TurnLaws}
 use Rattle.shared_call.specs.Suited.{Suits, IsRunning, IsCaused}
 use Rattle.shared_call.specs.Turns.{FoundOff, Leaves, Turns}
-use Rattle.shared_call.proofs.Machines.{never_hands_on}
-use Rattle.shared_call.proofs.Deciding.{off_cause, op_stays, op_remembers, op_caused, op_not_own}
-
-pub is_answer : (w : Want) (n : ℕ) → w ≢ Done → IsAnswer w (answer_to w n)
-is_answer (Load i) n more = tt
-is_answer (Store i x) n more = tt
-is_answer (Exchange i a b) n more = either (n == a)
-  where
-    either : (t : Bool) → IsAnswer (Exchange i a b) (cond t Won (Lost n))
-    either true = tt
-    either false = tt
-is_answer (Flush l) n more = tt
-is_answer Fence n more = tt
-is_answer Draw n more = tt
-is_answer Power n more = tt
-is_answer Done n more = absurd (more refl)
+use Rattle.shared_call.proofs.Deciding.{off_cause, op_caused}
 
 module _ (laws : TurnLaws) (site : Ground) (e : Engine) where
   -- the engine and the view after, where the word of the event was found to have this value

@@ -12,31 +12,19 @@ use Rattle.world.specs.areas.Keeping.{StructureStepsReplyNothing}
 use Rattle.part.specs.Doings.{nothing_done}
 use Rattle.part.specs.Outcomes.{finished}
 use Rattle.part.specs.Part.{IsPart, IsWait}
-use Rattle.part.specs.Causes.{EndsByCause}
-use Rattle.part.specs.Splits.{EndsBySplitCause}
-use Rattle.part.specs.Repairs.{EndsByRepairCause}
 use Rattle.read_op.specs.GetPart.{NeverSplits as GetSplits}
 use Rattle.write_op.specs.ChangePart.{NeverSplits as ChangeSplits}
 use Rattle.move_op.specs.MovePart.{MoveNeverSplits as MoveSplits}
 use Rattle.stash_op.specs.StashPart.{NeverSplits as StashSplits}
 use Rattle.release_op.specs.Split.{LeavesThere}
 use Rattle.enclose_op.specs.EnclosePart.{BeginsAsPart as EncloseBegins}
-use Rattle.repair_op.specs.Finishing.{FinishesCurrent}
 use Rattle.repair_op.specs.RepairPart.{BeginsAsRepair as RepairBegins}
 use Rattle.engine.specs.declared.engine.Engine.{Engine}
 use Rattle.engine.specs.Engine.{begun, wanted, taken, IsFresh}
 use Rattle.engine.specs.Left.{left}
-use Rattle.engine.specs.OpPart.{call_part, whole_split, split_segment_in, whole_repair, repaired_segment_in, op_part, calls, work_of}
-use Rattle.engine.specs.Causes.{EndsAreDecided}
+use Rattle.engine.specs.OpPart.{op_part, calls, work_of}
+use Rattle.engine.specs.Causes.{EndsAreDecided, OpCauses}
 use Rattle.engine.specs.Fits.{BeginsSuited}
-
--- each outcome has its cause, of the machines of the call itself, of those of a split, and of those of a repair; and where a repair has finished, its
--- segment has the image's version
-pub record OpCauses : Type 0 where
-  pub call : EndsByCause call_part
-  pub split : EndsBySplitCause whole_split split_segment_in
-  pub repair : EndsByRepairCause whole_repair repaired_segment_in
-  pub current : FinishesCurrent whole_repair repaired_segment_in
 
 -- THE MACHINES are a part, each of whose outcomes has its cause; and where an engine wants nothing more its end is what was decided
 pub record MachineLaws : Type 0 where

@@ -20,6 +20,7 @@ use Rattle.shared_call.specs.declared.tries.Answer.{Answer}
 use Rattle.shared_call.specs.declared.tries.Answer.TheVariants as answers
 use Rattle.shared_call.specs.Gated.{IsLowered}
 use Rattle.shared_call.specs.Tries.{IsTrying, Tells, HasTried}
+use Rattle.shared_call.proofs.Gating.{not_lowered}
 use Rattle.shared_image.specs.Calling.{says_off, HasCalled, HasGoneOnTrying}
 use Rattle.shared_image.specs.Waiting.{HasTaken, IsTryingSince, StandsAt}
 
@@ -31,11 +32,6 @@ lowered_on (Some (Some l)) k m a b first then =
     let next = subst (λ (x : Option (Option ℕ)). IsLowered x b m) first.1 then in
     let low = first.2 in
     let more = next.2 in (next.0, next.1, omega (arith, low, more))
-
-not_lowered : (l : Option (Option ℕ)) → IsLowered l 0 l
-not_lowered None = tt
-not_lowered (Some None) = refl
-not_lowered (Some (Some n)) = (n, refl, omega arith)
 
 nothing_taken : (p : Watch) (left : Option (Option ℕ)) → HasTaken p left p left
 nothing_taken p left = record { events = []; took = refl; past = refl; callers = refl; lowered = not_lowered left }

@@ -13,9 +13,7 @@ loop-init g c = record {
 
 pub returns-then-wants_nothing-clause-gone : goal.returns-then-wants_nothing-clause-gone
 returns-then-wants_nothing-clause-gone g c =
-    let few : c.loop.counter ≤ c.args.most = search rules in
-    let done : wanted c.loop.engine ≡ Done = search rules in
-    over_now (ground_of c.args.image.now.key) c.args.engine.now c.args.seat.now.me.0 _ _ _ _ _ _ _ few c.loop.invariant.on done
+    over_now (ground_of c.args.image.now.key) c.args.engine.now c.args.seat.now.me.0 _ c.loop.counter c.args.most c.loop.engine _ _ _ (search rules) c.loop.invariant.on (search rules)
 
 pub turn-requires-clause-suits : goal.turn-requires-clause-suits
 turn-requires-clause-suits g c =
@@ -39,9 +37,7 @@ loop-preserved g c =
 
 pub returns-then-wants_nothing-2-clause-gone : goal.returns-then-wants_nothing-2-clause-gone
 returns-then-wants_nothing-2-clause-gone g c =
-    let few : c.loop.counter ≤ c.args.most = search rules in
-    let done : wanted c.loop.engine ≡ Done = search rules in
-    over_now (ground_of c.args.image.now.key) c.args.engine.now c.args.seat.now.me.0 _ _ _ _ _ _ _ few c.loop.invariant.on done
+    over_now (ground_of c.args.image.now.key) c.args.engine.now c.args.seat.now.me.0 _ c.loop.counter c.args.most c.loop.engine _ _ _ (search rules) c.loop.invariant.on (search rules)
 
 pub returns-else-wants_nothing-2-clause-gone : goal.returns-else-wants_nothing-2-clause-gone
 returns-else-wants_nothing-2-clause-gone g c =
