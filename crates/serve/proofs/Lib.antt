@@ -1,6 +1,5 @@
-pub mod Causes
+pub mod Owners
 pub mod ToSession
-pub mod Different
 pub mod Told
 pub mod OneByOne
 pub mod Lists

@@ -1,5 +1,5 @@
 -- What callers were told of an image that was restarted, shared and closed is a session.
-use Rattle.std.proofs.Common.{◌≡◌, ◌≢◌, ℕ, zero, suc, ◌+◌, ◌*◌, ◌^◌, ◌<◌, List, inl, inr, refl, sym, ap, ◌∙◌, subst, arith}
+use Rattle.std.proofs.Common.{◌≡◌, ◌≢◌, ℕ, ◌+◌, ◌*◌, ◌^◌, ◌<◌, List, inl, inr, refl, sym, ap, ◌∙◌, subst, arith}
 use Rattle.std.specs.Prelude.{map, slice_index, Contains}
 use Rattle.std.specs.List.{AllByRecursion, AllZip}
 use Rattle.std.specs.FinMap.{get}
@@ -16,7 +16,6 @@ use Rattle.map_model.specs.Legal.{IsLegal, replay}
 use Rattle.map_model.specs.ByPlaces.{map_at}
 use Rattle.map_model.proofs.Elements.{All-from_each}
 use Rattle.sound_image.specs.Segments.{frame_of, state_at}
-use Rattle.sound_image.specs.Image.{SaysShape}
 use Rattle.sound_image.specs.Left.{HasPairsOf}
 use Rattle.segment_table.proofs.stores.Moved.{live_same}
 use Rattle.session.specs.Session.{IsClosed, HadNoRoom, HasSpentBucket}
@@ -25,17 +24,11 @@ use Rattle.world.specs.Ground.{Ground, HasSpentLock}
 use Rattle.world.specs.Views.{View}
 use Rattle.world.specs.areas.Areas.{header_word}
 use Rattle.engine.specs.Holding.{all_own}
+use Rattle.engine.proofs.sessions.Causing.{had_room, drawn}
+use Rattle.engine.proofs.sessions.CutSession.{same_shape}
 use Rattle.serve.specs.Served.{AreMade, told_by, IsServedSession, WasShared, ServedIsSession}
 use Rattle.serve.proofs.Told.{histories, all_follow, all_answered}
-use Rattle.serve.proofs.Causes.{whose, among, had_room, drawn}
-
--- two images of one shape say it alike
-same_shape : (shape : Shape) (old new : List ℕ) → SaysShape shape old → SaysShape shape new → (i : ℕ) → i < 4 → slice_index new i ≡ slice_index old i
-same_shape shape old new o n zero low = n.magic_word ∙ sym o.magic_word
-same_shape shape old new o n (suc zero) low = n.format ∙ sym o.format
-same_shape shape old new o n (suc (suc zero)) low = n.segments ∙ sym o.segments
-same_shape shape old new o n (suc (suc (suc zero))) low = n.depth ∙ sym o.depth
-same_shape shape old new o n (suc (suc (suc (suc i)))) low = absurd (omega (arith, low))
+use Rattle.serve.proofs.Owners.{whose, among}
 
 lock_within : (first s b n : ℕ) → s < n → b < buckets → first + 2144 * s + 32 + 32 * b < first + 2144 * n
 lock_within first s b n q h = omega (arith, q, h)
