@@ -1,23 +1,26 @@
 -- How an engine fits the world of many callers: the view of its caller in the midst of a call, and at the end of it.
-use Rattle.std.specs.Prelude.{◌≡◌, ◌≢◌, ℕ, ◌^◌, ◌<◌, None, Some, List, []}
+use Rattle.std.specs.Prelude.{◌≡◌, ◌≢◌, ℕ, ◌^◌, ◌<◌, Option, None, Some, List, []}
 use Rattle.op_core.specs.declared.want.Want.TheVariants.{Done}
 use Rattle.trace.specs.Events.{Words}
 use Rattle.image_layout.specs.Volatile.{power_word}
 use Rattle.map_model.specs.declared.call.Call.{Call}
 use Rattle.map_model.specs.Map.{key_of, value_of}
+use Rattle.map_model.specs.Changes.{change_of}
 use Rattle.world.specs.declared.site.Site.{Site}
 use Rattle.world.specs.Ground.{Ground, IsGround, version_of}
-use Rattle.world.specs.Views.{View, At}
+use Rattle.world.specs.Facts.{Lives}
+use Rattle.world.specs.Views.{View, Has, At}
 use Rattle.world.specs.Wants.{answer_to, word_of}
 use Rattle.world.specs.StepKinds.{wanted_of, view_by, MayTake}
 use Rattle.world.specs.Invariant.{Holds}
 use Rattle.world.specs.Attempts.{HoldsOnly, EntersReply}
 use Rattle.part.specs.Doings.{Doings}
-use Rattle.part.specs.Outcomes.{off}
+use Rattle.part.specs.Outcomes.{Outcome, off}
 use Rattle.part.specs.Part.{Suits as SuitsPart}
 use Rattle.restart_op.specs.AtRest.{IsOpenStructure}
+use Rattle.engine.specs.declared.engine.Op.{Op}
 use Rattle.engine.specs.declared.engine.Engine.{Engine}
-use Rattle.engine.specs.Engine.{begun, wanted, taken, end_of, reply_of_end, anew, kind_of}
+use Rattle.engine.specs.Engine.{begun, repairing, wanted, taken, end_of, reply_of_end, anew_by, anew, kind_of}
 use Rattle.engine.specs.OpPart.{op_part}
 
 -- THE VIEW suits the machine in the midst of a call, whose attempt began with the view `before`; it has not found the power off, and remembers
@@ -53,6 +56,18 @@ IsServedGround site = IsOpenStructure site.shape site.front
 abbrev pub BeginsSuited : Type 0
 BeginsSuited = (site : Ground) (here : Site) (call : Call) (v : View) → IsGround site → here.geometry ≡ site.shape → here.version ≡ version_of site → IsWordCall call
     → HoldsOnly [] v → 0 < v.callers → Suits site here call (begun here call) v v
+
+-- and so does the next attempt of a call behind one that was decided so, or not yet, for a caller that has a number: that which splits the segment that
+-- is to be split, that which repairs the one that is stale, or the call begun anew
+abbrev pub AnewSuited : Type 0
+AnewSuited = (site : Ground) (here : Site) (call : Call) (v : View) → IsGround site → here.geometry ≡ site.shape → here.version ≡ version_of site → HasNumber here → IsWordCall call
+    → HoldsOnly [] v → 0 < v.callers → (op : Op) → op_part.Stands site here call op v → (outcome : Option Outcome) → op_part.outcome op ≡ outcome
+    → Suits site here call (anew_by here call (change_of call) outcome) v v
+
+-- and so does the repair of a segment that the view knows to be live
+abbrev pub RepairSuited : Type 0
+RepairSuited = (site : Ground) (here : Site) (call : Call) (segment : ℕ) (v : View) → here.geometry ≡ site.shape → here.version ≡ version_of site → HasNumber here → HoldsOnly [] v
+    → Has (Lives segment) v.facts → 0 < v.callers → Suits site here call (repairing here segment) v v
 
 module _ (site : Ground) (e : Engine) (words : Words) where
   -- the value that the next event finds, the engine after it, and the view

@@ -15,3 +15,4 @@ pub mod Short
 pub mod Driven
 pub mod Seen
 pub mod Repaired
+pub use Rattle.repair_op.specs.Finishing

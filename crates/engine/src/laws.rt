@@ -19,7 +19,7 @@ ghost use Rattle.part.specs.Repairs.{EndsByRepairCause};
 ghost use Rattle.repair_op.specs.Finishing.{FinishesCurrent};
 ghost use Rattle.engine.specs.OpPart.{call_part, whole_split, split_segment_in, whole_repair, repaired_segment_in, op_part, calls, work_of};
 ghost use Rattle.engine.specs.Causes.{BeginsBare, EndsAreDecided, CallCauses};
-ghost use Rattle.engine.specs.Fits.{BeginsSuited, KeepsSuits};
+ghost use Rattle.engine.specs.Fits.{BeginsSuited, AnewSuited, RepairSuited, KeepsSuits};
 ghost use Rattle.engine.specs.Left.{most_events, left, waiting};
 ghost use Rattle.engine.specs.Pairs.{LeavesOrMakes, BeginsUnmade, StaysMade, EndsAsDone, TurnLeavesOrMakes};
 ghost use Rattle.engine.specs.Asks.{AsksWithin, AsksWords, KeepsNotes};
@@ -75,9 +75,12 @@ pub(crate) fn attempts_have_causes()
 /// An engine fits the world of many callers: at the beginning of a call, on a site of this shape and version, it suits the view of a caller
 /// that holds, knows and owes nothing; while the power is on each event is one of a kind that the view may take, and leaves a view that suits
 /// the engine; or the attempt has ended, and the caller holds and owes nothing, and has its reply as its next entry, or its view suits the
-/// next attempt of the call, which splits a segment where that is needed, and repairs one that is stale.
+/// next attempt of the call, which splits a segment where that is needed, and repairs one that is stale. Whatever an attempt was decided to
+/// be, the next one begins so with a view that holds and owes nothing; and so does the repair of a segment that the view knows to be live.
 pub fn fits_the_world()
     ensures begins { BeginsSuited }
+    ensures anew { AnewSuited }
+    ensures repairs { RepairSuited }
     ensures steps { KeepsSuits }
 {
     world::steps_add_one_reply();

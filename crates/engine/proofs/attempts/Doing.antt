@@ -43,7 +43,7 @@ set_there (y ∷ callers) zero c d x there is = same_Some c d is
 set_there (y ∷ callers) (suc j) c d x there is = set_there callers j c d x there is
 
 -- the next attempt of a call has done nothing
-anew_by_fresh : (here : Site) (call : Call) (change : Option Change) (outcome : Option Outcome) → IsFresh here (anew_by here call change outcome)
+pub anew_by_fresh : (here : Site) (call : Call) (change : Option Change) (outcome : Option Outcome) → IsFresh here (anew_by here call change outcome)
 anew_by_fresh here call (Some change) (Some (need_split segment)) = inr (inl (change, segment, refl))
 anew_by_fresh here call change (Some (stale segment version)) = inr (inr (segment, refl))
 anew_by_fresh here call change outcome = inl (call, refl)

@@ -1,23 +1,19 @@
 -- AT AN END the view suits the next attempt of the call: that which splits the segment that is to be split, that which repairs the one that is
 -- stale, or the call begun anew.
-use Rattle.std.proofs.Common.{◌≡◌, ◌≢◌, ◌<◌, ℕ, Option, None, Some, [], refl, sym, subst}
+use Rattle.std.proofs.Common.{◌≡◌, ◌≢◌, ℕ, Option, None, Some, refl, sym, subst}
 use Rattle.map_model.specs.declared.call.Call.{Call}
 use Rattle.map_model.specs.declared.change.Change.{Change}
 use Rattle.map_model.specs.Changes.{change_of}
 use Rattle.map_model.specs.Legal.{IsInsert}
 use Rattle.world.specs.declared.site.Site.{Site}
-use Rattle.world.specs.Ground.{Ground, IsGround, version_of}
-use Rattle.world.specs.Views.{View}
-use Rattle.world.specs.Attempts.{HoldsOnly}
 use Rattle.part.specs.Outcomes.{Outcome, stale, need_split}
 use Rattle.part.specs.Part.{KnowsStale, LeavesKnown}
 use Rattle.release_op.specs.Split.{LeavesThere}
 use Rattle.enclose_op.specs.EnclosePart.{BeginsAsPart as EncloseBegins, BeginsRemembering as EncloseRemembers}
-use Rattle.engine.specs.declared.engine.Op.{Op}
 use Rattle.repair_op.specs.RepairPart.{BeginsAsRepair as RepairBegins, BeginsRemembering as RepairRemembers}
 use Rattle.engine.specs.Engine.{begun, splitting, repairing, anew_by}
 use Rattle.engine.specs.OpPart.{op_part}
-use Rattle.engine.specs.Fits.{HasNumber, IsWordCall, Suits, BeginsSuited}
+use Rattle.engine.specs.Fits.{Suits, BeginsSuited, AnewSuited}
 use Rattle.engine.proofs.machines.Begins.{split_suits, repair_suits}
 use Rattle.engine.proofs.machines.Ends.{ReleasesTellAlone}
 
@@ -45,9 +41,7 @@ pub record AnewLaws : Type 0 where
   pub repair_begins : RepairBegins
   pub repair_remembers : RepairRemembers
 
-pub anew_suits : AnewLaws → (site : Ground) (here : Site) (call : Call) (v : View) → IsGround site → here.geometry ≡ site.shape → here.version ≡ version_of site → HasNumber here → IsWordCall call
-    → HoldsOnly [] v → 0 < v.callers → (op : Op) → op_part.Stands site here call op v → (outcome : Option Outcome) → op_part.outcome op ≡ outcome
-    → Suits site here call (anew_by here call (change_of call) outcome) v v
+pub anew_suits : AnewLaws → AnewSuited
 anew_suits laws site here call v good shape version number small bare callers op s (Some (need_split segment)) is =
     let told = laws.alone segment op is in
     let left = laws.leaves site here call told.0 v (subst (λ x. op_part.Stands site here call x v) told.1 s) segment (subst (λ x. op_part.outcome x ≡ Some (need_split segment)) told.1 is) in

@@ -1,6 +1,5 @@
 -- Where an attempt begins, of a call, of the split of a segment and of the repair of one.
 use Rattle.std.proofs.Common.{◌≡◌, ◌^◌, ◌<◌, ◌≤◌, ℕ, None, [], inl, inr, refl, sym, subst, arith}
-use Rattle.frame_facts.specs.Facts.{Lives}
 use Rattle.map_model.specs.declared.call.Call.{Call}
 use Rattle.map_model.specs.declared.call.Call.TheVariants.{Get, Insert, Update, Remove}
 use Rattle.map_model.specs.declared.change.Effect.TheVariants as effect
@@ -9,7 +8,7 @@ use Rattle.map_model.specs.Changes.{call_of}
 use Rattle.map_model.specs.Legal.{IsInsert}
 use Rattle.world.specs.declared.site.Site.{Site}
 use Rattle.world.specs.Ground.{Ground, IsGround, version_of}
-use Rattle.world.specs.Views.{View, Has}
+use Rattle.world.specs.Views.{View}
 use Rattle.world.specs.Attempts.{HoldsOnly}
 use Rattle.part.specs.Doings.{nothing_done}
 use Rattle.part.specs.Part.{IsPart}
@@ -28,7 +27,7 @@ use Rattle.engine.specs.OpPart.{op_part}
 use Rattle.engine.specs.Left.{left, waiting}
 use Rattle.engine.specs.Pairs.{HasMade, BeginsUnmade}
 use Rattle.engine.specs.Causes.{BeginsBare, BeginsUndecided}
-use Rattle.engine.specs.Fits.{HasNumber, Suits, BeginsSuited}
+use Rattle.engine.specs.Fits.{HasNumber, Suits, BeginsSuited, RepairSuited}
 
 -- what is so of the engine of each call, and of each that splits or repairs a segment, is so of each that has done nothing yet
 pub of_fresh : (P : Engine → Type 0) (here : Site) → ((call : Call) → P (begun here call)) → ((change : Change) (segment : ℕ) → P (splitting here change segment))
@@ -81,8 +80,7 @@ split_suits begins remembers site here change segment v same version number inse
 }
 
 -- and the repair of a segment that the view knows to be live
-pub repair_suits : RepairBegins → RepairRemembers → (site : Ground) (here : Site) (call : Call) (segment : ℕ) (v : View) → here.geometry ≡ site.shape → here.version ≡ version_of site → HasNumber here
-    → HoldsOnly [] v → Has (Lives segment) v.facts → 0 < v.callers → Suits site here call (repairing here segment) v v
+pub repair_suits : RepairBegins → RepairRemembers → RepairSuited
 repair_suits begins remembers site here call segment v same version number holds lives some = record {
   asks = λ e. absurd (cc);
   on = λ e. absurd (cc);

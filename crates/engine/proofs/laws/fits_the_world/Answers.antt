@@ -1,7 +1,7 @@
 -- By the laws of a part.
-use Rattle.engine.proofs.machines.Begins.{begins_suited}
+use Rattle.engine.proofs.machines.Begins.{begins_suited, repair_suits}
 use Rattle.engine.proofs.machines.Ends.{releases_tell_alone}
-use Rattle.engine.proofs.machines.Anew.{AnewLaws}
+use Rattle.engine.proofs.machines.Anew.{AnewLaws, anew_suits}
 use Rattle.engine.proofs.machines.Engines.{keeps_suits}
 use Rattle.engine.proofs.laws.fits_the_world.Goals as goal
 
@@ -19,6 +19,12 @@ anew_laws c = record {
   repair_begins = c.repairs_are_parts.ensures.begins;
   repair_remembers = c.ends_have_causes-2.ensures.remembers;
 }
+
+pub returns-clause-anew : goal.returns-clause-anew
+returns-clause-anew c = anew_suits (anew_laws c)
+
+pub returns-clause-repairs : goal.returns-clause-repairs
+returns-clause-repairs c = repair_suits c.repairs_are_parts.ensures.begins c.ends_have_causes-2.ensures.remembers
 
 pub returns-clause-steps : goal.returns-clause-steps
 returns-clause-steps c = keeps_suits (record {
