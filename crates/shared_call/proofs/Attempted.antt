@@ -9,7 +9,6 @@ use Rattle.map_model.specs.declared.call.Call.TheVariants.{Get, Insert, Update, 
 use Rattle.map_model.specs.declared.entry.Entry.{Entry}
 use Rattle.map_model.specs.declared.entry.Reply.{Reply}
 use Rattle.map_model.specs.Map.{is_done}
-use Rattle.map_model.specs.Changes.{change_of}
 use Rattle.world.specs.declared.site.Site.{Site}
 use Rattle.world.specs.Ground.{Ground, IsGround, version_of}
 use Rattle.world.specs.Views.{View, Has}
@@ -23,7 +22,7 @@ use Rattle.part.specs.Outcomes.{Outcome, off, reply_of}
 use Rattle.part.specs.Part.{IsWait, Suits as SuitsPart}
 use Rattle.engine.specs.declared.engine.Engine.{Engine}
 use Rattle.engine.specs.declared.engine.End.{End}
-use Rattle.engine.specs.Engine.{begun, wanted, taken, end_of, outcome_of_end, reply_of_end, IsFresh, anew_by, anew}
+use Rattle.engine.specs.Engine.{begun, repairing, wanted, taken, end_of, outcome_of_end, reply_of_end, IsFresh, anew}
 use Rattle.engine.specs.Left.{left}
 use Rattle.engine.specs.OpPart.{Work, calls, work_of, op_part}
 use Rattle.engine.specs.Fits.{IsWordCall, HasNumber}
@@ -35,9 +34,10 @@ use Rattle.vlock.specs.declared.knows.Watch.{Watch}
 use Rattle.shared_call.specs.Laws.{AttemptLaws}
 use Rattle.shared_call.specs.Suited.{Suits, IsRunning, HasCauseOf}
 use Rattle.shared_call.specs.Turns.{Leaves, Turns}
+use Rattle.shared_call.specs.Tries.{BeginsRepairing}
 use Rattle.shared_call.specs.Attempts.{after_events, doings_of, IsDecided, IsGoing, IsPlaced, IsOver, IsAttempted, BeginsGoing, EndsOver}
 use Rattle.shared_call.proofs.Deciding.{next_work}
-use Rattle.shared_call.proofs.Anew.{of_calls, begun_suits, anew_suits}
+use Rattle.shared_call.proofs.Anew.{begun_suits, anew_suits, repair_suits}
 
 -- the machine of a call that has done nothing is one of the call itself
 pub begun_works : (here : Site) (call : Call) → work_of (begun here call).op ≡ calls
@@ -155,17 +155,12 @@ module _ (site : Ground) (here : Site) (call : Call) (work : Work) where
         }
 
     -- ---- it ends
-    -- the next attempt, where the end tells this outcome
-    pub anew_at : (p q : Watch) (e : Engine) (end : End) (outcome : Outcome) (events : List (Want × ℕ)) → IsGround site → here.geometry ≡ site.shape → here.version ≡ version_of site → IsWordCall call
-        → IsGoing site here call work start p e q → wanted e ≡ Done → outcome_of_end end ≡ Some outcome → op_part.outcome e.op ≡ Some outcome → IsDecided site here call work p.view events outcome
-        → reply_of_end end ≡ None → outcome ≢ off → HasNumber here → Suits site here call (anew here call end) nothing_done q.view q.view
-    anew_at p q e end outcome events ground shape version small g done told is d none on number =
-        let bare = laws.machines.part.ends site here call e.op q.view g.suits.stands done (never_hands_on e.op) (λ o. on (same_Some outcome off (sym is ∙ o))) in
-        subst (λ (o : Option Outcome). Suits site here call (anew_by here call (change_of call) o) nothing_done q.view q.view) (sym told)
-        (anew_suits laws site here call q.view ground shape version small bare g.suits.callers number e.op g.suits.stands outcome is
-        (subst (λ (o : Option Outcome). reply_of o ≡ None) told none) on
-        (λ segment to_split. g.work_is ∙ of_calls work site d.moment.words (doings_of d.before) call d.event here segment
-        (subst (λ (x : Outcome). HasCauseOf work site d.moment.words (doings_of d.before) call d.event here x) to_split d.cause)))
+    -- the next attempt, where the power was not found off
+    pub anew_at : (p q : Watch) (e : Engine) (end : End) → IsGround site → here.geometry ≡ site.shape → here.version ≡ version_of site → IsWordCall call → IsGoing site here call work start p e q
+        → wanted e ≡ Done → op_part.outcome e.op ≡ outcome_of_end end → outcome_of_end end ≢ Some off → HasNumber here → Suits site here call (anew here call end) nothing_done q.view q.view
+    anew_at p q e end ground shape version small g done same on number =
+        let bare = laws.machines.part.ends site here call e.op q.view g.suits.stands done (never_hands_on e.op) (λ o. on (sym same ∙ o)) in
+        anew_suits laws site here call q.view ground shape version small bare g.suits.callers number e.op g.suits.stands (outcome_of_end end) same
 
     -- an attempt that has taken no event wants one
     pub some_taken : (e : Engine) (events : List (Want × ℕ)) → wanted start ≢ Done → e ≡ after_events start events → wanted e ≡ Done → 0 < length events
@@ -196,7 +191,7 @@ module _ (site : Ground) (here : Site) (call : Call) (work : Work) where
           outcome = d.0;
           told = sym same ∙ d.1;
           decided = g.decided d.0 d.1;
-          anew = anew_at p q e end d.0 g.events ground shape version small g done (sym same ∙ d.1) d.1 (g.decided d.0 d.1);
+          anew = λ none on number. anew_at p q e end ground shape version small g done same (λ o. on (same_Some d.0 off (sym (sym same ∙ d.1) ∙ o))) number;
           fresh = anew_fresh here call end;
         }
 
@@ -232,3 +227,14 @@ begins_going laws site here call start p fresh suits = begins site here call (wo
 
 pub ends_over : AttemptLaws → EndsOver
 ends_over laws site here call work start p e q ground shape version small asks g done = over site here call work laws start p q e (end_of e) ground shape version small asks g done refl
+
+pub begins_repairing : AttemptLaws → BeginsRepairing
+begins_repairing laws site here call segment p shape version number bare some lives =
+    let suits : Suits site here call (repairing here segment) nothing_done p.view p.view = repair_suits laws site here call segment p.view shape version number bare some lives in
+    record {
+      work = work_of (repairing here segment).op;
+      start = repairing here segment;
+      first = p;
+      going = begins_going laws site here call (repairing here segment) p (inr (inr (segment, refl))) suits;
+      asks = suits.asks;
+    }

@@ -12,19 +12,12 @@ use Rattle.world.specs.areas.Keeping.{StructureStepsReplyNothing}
 use Rattle.part.specs.Doings.{nothing_done}
 use Rattle.part.specs.Outcomes.{finished}
 use Rattle.part.specs.Part.{IsPart, IsWait}
-use Rattle.read_op.specs.GetPart.{NeverSplits as GetSplits}
-use Rattle.write_op.specs.ChangePart.{NeverSplits as ChangeSplits}
-use Rattle.move_op.specs.MovePart.{MoveNeverSplits as MoveSplits}
-use Rattle.stash_op.specs.StashPart.{NeverSplits as StashSplits}
-use Rattle.release_op.specs.Split.{LeavesThere}
-use Rattle.enclose_op.specs.EnclosePart.{BeginsAsPart as EncloseBegins}
-use Rattle.repair_op.specs.RepairPart.{BeginsAsRepair as RepairBegins}
 use Rattle.engine.specs.declared.engine.Engine.{Engine}
 use Rattle.engine.specs.Engine.{begun, wanted, taken, IsFresh}
 use Rattle.engine.specs.Left.{left}
 use Rattle.engine.specs.OpPart.{op_part, calls, work_of}
 use Rattle.engine.specs.Causes.{EndsAreDecided, OpCauses}
-use Rattle.engine.specs.Fits.{BeginsSuited}
+use Rattle.engine.specs.Fits.{BeginsSuited, AnewSuited, RepairSuited}
 
 -- THE MACHINES are a part, each of whose outcomes has its cause; and where an engine wants nothing more its end is what was decided
 pub record MachineLaws : Type 0 where
@@ -40,18 +33,8 @@ pub record TurnLaws : Type 0 where
   pub structure : StructureStepsReplyNothing
   pub later : RepliesComeLater
 
--- THE NEXT ATTEMPT: of the machines of a call a release alone tells that a segment is to be split, and leaves what the split begins with; a split and
--- a repair begin with a view that suits them
-pub record NextLaws : Type 0 where
-  pub get : GetSplits
-  pub change : ChangeSplits
-  pub move : MoveSplits
-  pub stash : StashSplits
-  pub leaves : LeavesThere
-  pub enclose : EncloseBegins
-  pub repair : RepairBegins
-
--- AN ATTEMPT OF A CALL begins with a view that suits it, having done nothing; it never waits, takes few events, and does no other work
+-- AN ATTEMPT OF A CALL begins with a view that suits it, having done nothing, and so does the next one, and the repair of a segment; it never waits, takes few
+-- events, and does no other work
 pub record AttemptLaws : Type 0 where
   pub machines : MachineLaws
   pub begins : BeginsSuited
@@ -59,5 +42,6 @@ pub record AttemptLaws : Type 0 where
   pub finishes : (e : Engine) → work_of e.op ≡ calls → op_part.outcome e.op ≡ Some finished → ⊥
   pub waits : (e : Engine) → work_of e.op ≡ calls → op_part.is_waiting e.op ≡ false
   pub few : (here : Site) (call : Call) → left (begun here call) ≤ 700
-  pub next : NextLaws
+  pub next : AnewSuited
+  pub repairs : RepairSuited
   pub few_of_get : (here : Site) (key : ℕ) → left (begun here (Get key)) ≤ 150

@@ -4,3 +4,4 @@ pub mod Turns
 pub mod Attempts
 pub mod Gated
 pub mod Tries
+pub mod Engines

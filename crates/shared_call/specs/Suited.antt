@@ -14,7 +14,7 @@ use Rattle.part.specs.Part.{Suits as SuitsPart}
 use Rattle.part.specs.Causes.{HasCause}
 use Rattle.part.specs.Splits.{HasSplitCause}
 use Rattle.part.specs.Repairs.{HasRepairCause}
-use Rattle.repair_op.specs.Finishing.{HasImageVersion}
+use Rattle.engine.specs.Finishing.{HasImageVersion}
 use Rattle.engine.specs.declared.engine.Engine.{Engine}
 use Rattle.engine.specs.Engine.{wanted}
 use Rattle.engine.specs.OpPart.{Work, calls, splits, repairs, work_of, op_part}

@@ -1,16 +1,18 @@
 -- What a try of a call tells, and the next one.
-use Rattle.std.specs.Prelude.{◌≡◌, ◌≢◌, ℕ, ◌≤◌, Option, None, Some, List, [], ◌++◌, length, ◌⊎◌}
+use Rattle.std.specs.Prelude.{◌≡◌, ◌≢◌, ℕ, ◌<◌, ◌≤◌, Option, None, Some, List, [], ◌++◌, length, ◌⊎◌}
 use Rattle.op_core.specs.declared.want.Want.{Want}
 use Rattle.op_core.specs.declared.want.Want.TheVariants.{Done}
 use Rattle.map_model.specs.declared.call.Call.{Call}
 use Rattle.world.specs.declared.site.Site.{Site}
-use Rattle.world.specs.Ground.{Ground}
+use Rattle.world.specs.Ground.{Ground, version_of}
+use Rattle.world.specs.Facts.{Lives}
+use Rattle.world.specs.Views.{Has}
 use Rattle.world.specs.Attempts.{HoldsOnly, HasNoMore, HasOneMore}
 use Rattle.world.specs.Later.{IsLater}
 use Rattle.part.specs.Outcomes.{Outcome, replied, again, stale, need_split, off, finished}
 use Rattle.engine.specs.declared.engine.Engine.{Engine}
 use Rattle.engine.specs.declared.engine.End.{End}
-use Rattle.engine.specs.Engine.{wanted, outcome_of_end, anew}
+use Rattle.engine.specs.Engine.{repairing, wanted, outcome_of_end, anew}
 use Rattle.engine.specs.Fits.{HasNumber}
 use Rattle.engine.specs.OpPart.{Work, work_of, op_part}
 use Rattle.vlock.specs.declared.knows.Watch.{Watch}
@@ -76,3 +78,8 @@ pub record HasTried (site : Ground) (here : Site) (call : Call) (most : ℕ) (e 
   -- the power is told off where the gate cut it, and so has no pass left where it told of them, or where the engine found it off
   pub off_by : answer ≡ answers.Off → HasNoneLeft left now ⊎ (op_part.outcome (after_events e events).op ≡ Some off)
   pub tells : (work : Work) (start : Engine) (first : Watch) → wanted start ≢ Done → IsGoing site here call work start first e p → Tells site here call work start first answer next q
+
+-- A REPAIR BEGINS of a segment, behind whatever call, with a view that holds and owes nothing and knows the segment to be live
+abbrev pub BeginsRepairing : Type 0
+BeginsRepairing = (site : Ground) (here : Site) (call : Call) (segment : ℕ) (p : Watch) → here.geometry ≡ site.shape → here.version ≡ version_of site → HasNumber here → HoldsOnly [] p.view
+    → 0 < p.view.callers → Has (Lives segment) p.view.facts → IsTrying site here call (repairing here segment) p

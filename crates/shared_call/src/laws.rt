@@ -1,7 +1,8 @@
 //! What a turn and an attempt rest on. The functions do nothing: each stands for the laws that its contract says.
 
-ghost use Rattle.shared_call.specs.Laws.{MachineLaws, TurnLaws, NextLaws, AttemptLaws};
+ghost use Rattle.shared_call.specs.Laws.{MachineLaws, TurnLaws, AttemptLaws};
 ghost use Rattle.shared_call.specs.Attempts.{BeginsGoing, EndsOver};
+ghost use Rattle.shared_call.specs.Tries.{BeginsRepairing};
 
 /// The machines of an attempt are one part, and each outcome has its cause.
 fn machines_have_laws()
@@ -21,35 +22,23 @@ pub fn turns_have_laws()
     world::steps_leave();
 }
 
-/// What the next attempt begins with, which splits a segment or repairs one.
-fn next_attempts_have_laws()
-    ensures { NextLaws }
-{
-    read_op::gets_are_parts();
-    write_op::changes_are_parts();
-    move_op::moves_are_parts();
-    stash_op::stashes_are_parts();
-    release_op::releases_find_no_room();
-    enclose_op::enclosings_are_parts();
-    repair_op::repairs_are_parts();
-}
-
 /// What an attempt rests on.
 pub fn attempts_have_laws()
     ensures { AttemptLaws }
 {
     machines_have_laws();
-    next_attempts_have_laws();
     engine::calls_are_parts();
     engine::fits_the_world();
     engine::attempts_end();
 }
 
 /// An attempt is under way where its engine has done nothing yet and the view suits it, be it that of a call, of a split or of a repair; and
-/// where its engine wants nothing more it is over: with a reply, or with none, and then the view suits the next attempt.
+/// where its engine wants nothing more it is over: with a reply, or with none, and then the view suits the next attempt. So begins the repair of
+/// a segment that the view knows to be live.
 pub fn attempts_begin_and_end()
     ensures begins { BeginsGoing }
     ensures ends { EndsOver }
+    ensures repairs { BeginsRepairing }
 {
     attempts_have_laws();
 }

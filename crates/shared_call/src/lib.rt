@@ -2,7 +2,7 @@
 //!
 //! `turns` has one event of an engine as a step of a seat, `attempts` an attempt of a call, event by event, `gated` the same behind a
 //! gate, `going` an attempt at whatever work, by so many events, and `tries` what an attempt came to and the next one; `laws` is what
-//! they rest on.
+//! they rest on. The engine is passed on, which who makes calls keeps from one try to the next.
 #![tactic(auto)]
 
 mod attempts;
@@ -13,6 +13,7 @@ mod tries;
 mod turns;
 
 pub use attempts::attempt;
+pub use engine::{Engine, Op, RepairOp};
 pub use gated::{Gated, attempt_gated};
 pub use going::{Stop, go_on};
 pub use laws::attempts_begin_and_end;

@@ -13,24 +13,16 @@ ghost use Rattle.shared_call.specs.Tries.{answer_for, IsTrying, HasTried, Tells}
 
 use crate::going::{Stop, go_on};
 use crate::laws::{attempts_have_laws, turns_have_laws};
-use enclose_op::{EncloseEnd, NotEnclosed};
-use engine::{End, Engine};
+use engine::{
+    EncloseEnd, End, Engine, MoveEnd, NotEnclosed, ReadEnd, RedirectEnd, ReleaseEnd, RepairEnd,
+    RestEnd, SplitEnd, StashEnd, WriteEnd,
+};
 use image_layout::Geometry;
 use map_model::{Call, Reply};
-use mend_op::MendEnd;
-use move_op::MoveEnd;
 use op_core::Why;
 use outside::Gate;
-use read_op::ReadEnd;
-use redirect_op::RedirectEnd;
-use release_op::ReleaseEnd;
-use repair_op::RepairEnd;
-use rest_op::RestEnd;
-use split_op::SplitEnd;
-use stash_op::StashEnd;
 use vlock::{Image, ImageSeat};
 use world::Site;
-use write_op::WriteEnd;
 
 /// What an attempt came to.
 #[derive(Clone, Copy, Debug)]
