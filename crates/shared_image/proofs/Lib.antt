@@ -6,4 +6,4 @@ pub mod Opens
 pub mod TakenIn
 pub mod Finished
 pub mod Waited
-pub mod Repairable
+pub use Rattle.restart_op.proofs.restarts.Beginning

@@ -11,10 +11,7 @@ use Rattle.world.specs.declared.site.Site.{Site}
 use Rattle.world.specs.Ground.{Ground}
 use Rattle.world.specs.Views.{View}
 use Rattle.world.specs.Attempts.{HasNoMore, HasOneMore}
-use Rattle.engine.specs.declared.engine.Engine.{Engine}
-use Rattle.engine.specs.Engine.{begun, wanted}
-use Rattle.engine.specs.Fits.{HasNumber}
-use Rattle.engine.specs.OpPart.{Work, calls, work_of}
+use Rattle.shared_call.specs.Engines.{Engine, begun, wanted, HasNumber, Work, calls, work_of}
 use Rattle.vlock.specs.declared.knows.Watch.{Watch}
 use Rattle.shared_call.specs.declared.tries.Answer.{Answer}
 use Rattle.shared_call.specs.declared.tries.Answer.TheVariants as answers

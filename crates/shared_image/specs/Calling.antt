@@ -5,10 +5,7 @@ use Rattle.map_model.specs.declared.call.Call.{Call}
 use Rattle.world.specs.declared.site.Site.{Site}
 use Rattle.world.specs.Ground.{Ground, version_of}
 use Rattle.world.specs.Attempts.{HoldsOnly}
-use Rattle.engine.specs.declared.engine.Engine.{Engine}
-use Rattle.engine.specs.Engine.{begun}
-use Rattle.engine.specs.Fits.{IsWordCall, HasNumber}
-use Rattle.engine.specs.OpPart.{calls}
+use Rattle.shared_call.specs.Engines.{Engine, begun, IsWordCall, HasNumber, calls}
 use Rattle.shared_call.specs.declared.tries.Answer.{Answer}
 use Rattle.shared_call.specs.declared.tries.Answer.TheVariants as answers
 use Rattle.shared_call.specs.Tries.{Tells, HasTried}

@@ -3,3 +3,7 @@ pub mod Powered
 pub mod Closed
 pub mod Calling
 pub mod Waiting
+pub use Rattle.shared_call.specs.Engines
+pub use Rattle.restart_op.specs.Restarted
+pub use Rattle.vlock.specs.Seats
+pub use Rattle.vlock.specs.declared.knows.Watch

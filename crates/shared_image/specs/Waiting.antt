@@ -7,9 +7,7 @@ use Rattle.map_model.specs.declared.entry.Reply.{Reply}
 use Rattle.world.specs.declared.site.Site.{Site}
 use Rattle.world.specs.Ground.{Ground}
 use Rattle.world.specs.Attempts.{HoldsOnly, HasNoMore, HasOneMore}
-use Rattle.engine.specs.declared.engine.Engine.{Engine}
-use Rattle.engine.specs.Engine.{wanted}
-use Rattle.engine.specs.OpPart.{Work}
+use Rattle.shared_call.specs.Engines.{Engine, wanted, Work}
 use Rattle.vlock.specs.declared.knows.Watch.{Watch}
 use Rattle.shared_call.specs.declared.tries.Answer.{Answer}
 use Rattle.shared_call.specs.declared.tries.Answer.TheVariants as answers

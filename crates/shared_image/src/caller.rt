@@ -3,10 +3,9 @@
 ghost use Rattle.std.specs.Prelude.{◌≡◌, ℕ, ◌<◌, [], false};
 ghost use Rattle.world.specs.Attempts.{HoldsOnly};
 ghost use Rattle.map_model.specs.declared.call.Call.TheVariants.{Get, Insert, Update, Remove};
-ghost use Rattle.engine.specs.Fits.{IsWordCall};
+ghost use Rattle.shared_call.specs.Engines.{IsWordCall, repairing};
 ghost use Rattle.world.specs.Facts.{Lives};
 ghost use Rattle.world.specs.Views.{Has};
-ghost use Rattle.engine.specs.Engine.{repairing};
 ghost use Rattle.shared_call.specs.Tries.{IsTrying};
 ghost use Rattle.vlock.specs.Seats.{note_left, note_right, both};
 ghost use Rattle.shared_image.specs.Powered.{ground_in, IsOn, IsPassOf};
@@ -14,10 +13,9 @@ ghost use Rattle.shared_image.specs.Calling.{IsSiteOf, IsCallerOf, Rests, says_o
 
 use crate::calls::{first_try, next_try, repair_of, try_repair_in};
 use crate::image::{Pass, SharedImage};
-use engine::Engine;
 use map_model::Call;
 use outside::Gate;
-use shared_call::Answer;
+use shared_call::{Answer, Engine};
 use world::Site;
 
 /// What a thread holds to make calls on a shared image: a pass of the image, and the gate that its events go through.

@@ -1,20 +1,17 @@
 //! Tries of calls over the parts of a caller.
 
 ghost use Rattle.std.specs.Prelude.{◌≡◌, false, true};
-ghost use Rattle.engine.specs.Fits.{IsWordCall};
+ghost use Rattle.shared_call.specs.Engines.{IsWordCall, repairing};
 ghost use Rattle.world.specs.Facts.{Lives};
 ghost use Rattle.world.specs.Views.{Has};
-ghost use Rattle.engine.specs.Engine.{repairing};
 ghost use Rattle.shared_call.specs.Tries.{IsTrying};
 ghost use Rattle.shared_image.specs.Powered.{ground_in, IsOn, IsPassOf};
 ghost use Rattle.shared_image.specs.Calling.{IsSiteOf, Rests, says_off, HasCalled, HasGoneOnTrying};
 
 use crate::image::{Pass, SharedImage};
-use engine::{Engine, Op};
 use map_model::Call;
 use outside::Gate;
-use repair_op::RepairOp;
-use shared_call::{Answer, try_call, try_on};
+use shared_call::{Answer, Engine, Op, RepairOp, try_call, try_on};
 use world::Site;
 
 /// Notes an answer: the gate is told of a reply.
@@ -135,8 +132,6 @@ pub(crate) fn try_repair_in<G: Gate>(
     ensures tried { HasGoneOnTrying (ground_in image.now) site.now call most off.old (repairing site.now segment) pass.old.me.0 (G.left gate.old) result engine.new pass.new.me.0 (G.left gate.new) }
     ensures off { off.new ≡ says_off result }
 {
-    repair_op::repairs_are_parts();
-    engine::calls_are_parts();
     shared_call::attempts_begin_and_end();
     let _ = segment;
     next_try(image, pass, gate, engine, off, call, site, most)

@@ -2,7 +2,7 @@
 
 ghost use Rattle.std.specs.Prelude.{◌≡◌, false};
 ghost use Rattle.map_model.specs.declared.call.Call.TheVariants.{Get, Insert, Update, Remove};
-ghost use Rattle.engine.specs.Fits.{IsWordCall};
+ghost use Rattle.shared_call.specs.Engines.{IsWordCall};
 ghost use Rattle.shared_image.specs.Powered.{ground_in, IsOn, IsPassOf};
 ghost use Rattle.shared_image.specs.Calling.{IsSiteOf, IsCallerOf, Rests};
 ghost use Rattle.shared_image.specs.Waiting.{HasTaken, CameToReply, has_none};
@@ -11,10 +11,9 @@ use crate::caller::Caller;
 use crate::calls::{first_try, next_try};
 use crate::image::{Pass, SharedImage};
 use crossbeam_utils::Backoff;
-use engine::Engine;
 use map_model::{Call, Reply};
 use outside::Gate;
-use shared_call::Answer;
+use shared_call::{Answer, Engine};
 use std::sync::Wait;
 use world::Site;
 

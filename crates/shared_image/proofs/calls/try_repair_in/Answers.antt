@@ -1,16 +1,15 @@
 use Rattle.std.proofs.Common.{sym, subst}
-use Rattle.engine.specs.declared.engine.Engine.{Engine}
+use Rattle.shared_call.specs.Engines.{Engine}
 use Rattle.shared_call.specs.Tries.{IsTrying}
 use Rattle.shared_image.specs.Powered.{ground_in}
 use Rattle.shared_image.specs.Calling.{HasGoneOnTrying}
-use Rattle.shared_image.proofs.Repairable.{repair_trying}
 use Rattle.shared_image.proofs.calls.try_repair_in.Goals as goal
 
 pub next_try-requires-clause-trying : goal.next_try-requires-clause-trying
 next_try-requires-clause-trying g c = λ on.
     subst (λ (e : Engine). IsTrying (ground_in c.args.image.now) c.args.site.now c.args.call e c.args.pass.now.me.0) (sym c.requires.engine)
-    (repair_trying c.repairs_are_parts.ensures.begins c.calls_are_parts.ensures.remembers c.attempts_begin_and_end.ensures.begins (ground_in c.args.image.now) c.args.site.now c.args.call
-    c.args.segment c.args.pass.now.me.0 c.requires.site.shape c.requires.site.version c.requires.site.number (c.requires.rests on).0 (c.requires.rests on).1 (c.requires.known on))
+    (c.attempts_begin_and_end.ensures.repairs (ground_in c.args.image.now) c.args.site.now c.args.call c.args.segment c.args.pass.now.me.0 c.requires.site.shape c.requires.site.version
+    c.requires.site.number (c.requires.rests on).0 (c.requires.rests on).1 (c.requires.known on))
 
 pub returns-clause-tried : goal.returns-clause-tried
 returns-clause-tried g c =
