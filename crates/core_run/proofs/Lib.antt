@@ -9,3 +9,5 @@ mod Goods
 mod Follows
 mod Acts
 mod WorkedRun
+pub use Rattle.engine.proofs.sessions.Causing
+pub use Rattle.engine.proofs.sessions.CutSession

@@ -6,4 +6,5 @@ pub use Rattle.engine.specs.declared.engine.Engine.{Engine}
 pub use Rattle.engine.specs.OpPart.{op_part}
 pub use Rattle.engine.specs.Driven.{tries_in_vain, waits_after}
 pub use Rattle.engine.specs.Laws.{IsServedImage}
+pub use Rattle.engine.specs.Holding.{all_own}
 pub use Rattle.engine.specs.Fits.{IsWordCall}

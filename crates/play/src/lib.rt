@@ -16,5 +16,5 @@ mod run_state;
 mod starting;
 
 pub use calls::{calls_of_caller, last_caller};
-pub use core_run::sessions_compose;
+pub use core_run::{runs_are_sessions, sessions_compose};
 pub use playing::play;
