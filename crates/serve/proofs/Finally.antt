@@ -13,10 +13,10 @@ use Rattle.sound_image.specs.Image.{IsSoundImage}
 use Rattle.sound_image.specs.Left.{HasPairsOf}
 use Rattle.session.specs.Session.{IsSession, SessionEnd}
 use Rattle.session.specs.Transcript.{Told, transcript_of}
-use Rattle.restart_op.specs.Restarted.{words_at_end}
+use Rattle.shared_image.specs.Restarted.{words_at_end}
 use Rattle.reply_text.specs.Told.{tolds_of}
 use Rattle.world.specs.Ground.{Ground}
-use Rattle.vlock.specs.declared.knows.Watch.{Watch}
+use Rattle.shared_image.specs.Watch.{Watch}
 use Rattle.shared_image.specs.declared.image.SharedImage.{SharedImage}
 use Rattle.shared_image.specs.Closed.{HasWhatWasReplied, WasEnded, replies_of}
 use Rattle.serve.specs.declared.job.Job.{Job}

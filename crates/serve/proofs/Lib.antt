@@ -7,3 +7,4 @@ pub mod Collected
 pub mod Readied
 pub mod Tried
 pub mod Finally
+pub use Rattle.play.proofs.Printed

@@ -6,7 +6,7 @@ use Rattle.map_model.specs.declared.call.Call.{Call}
 use Rattle.map_model.specs.declared.entry.Entry.{Entry}
 use Rattle.map_model.specs.declared.entry.Reply.{Reply}
 use Rattle.map_model.specs.Map.{is_done}
-use Rattle.vlock.specs.declared.knows.Watch.{Watch}
+use Rattle.shared_image.specs.Watch.{Watch}
 use Rattle.world.specs.Attempts.{HoldsOnly}
 use Rattle.shared_image.specs.declared.image.SharedImage.{SharedImage}
 use Rattle.shared_image.specs.Powered.{IsPassOf}

@@ -5,7 +5,7 @@ use Rattle.map_model.specs.declared.entry.Entry.{Entry}
 use Rattle.map_model.proofs.Elements.{Has as IsIn, Has-append_cases}
 use Rattle.world.specs.Views.{View, Has, At}
 use Rattle.world.proofs.Legality.{turned}
-use Rattle.engine.specs.Holding.{all_own}
+use Rattle.play.specs.Runs.{all_own}
 
 pub whose : (views : List View) (e : Entry) → IsIn (all_own views) e → (j : ℕ) × (v : View) × At views j v × Has e v.own
 whose [] e h = absurd h

@@ -8,10 +8,10 @@ use Rattle.script_text.specs.Calls.{calls_of, last_caller, IsCallSoFar, IsLineSo
 use Rattle.script_text.proofs.SoFar.{last_so_far}
 use Rattle.script_text.specs.declared.line.Line.{Line}
 use Rattle.script_text.specs.declared.line.Line.TheVariants.{Call as CallLine, Fuse, Step, Until, At, Close, Cut}
-use Rattle.engine.specs.Fits.{IsWordCall}
+use Rattle.shared_image.specs.Engines.{IsWordCall}
 use Rattle.world.specs.Attempts.{HoldsOnly}
-use Rattle.vlock.specs.declared.knows.Watch.{Watch}
-use Rattle.vlock.specs.Seats.{pass_right}
+use Rattle.shared_image.specs.Watch.{Watch}
+use Rattle.shared_image.specs.Seats.{pass_right}
 
 word_call : (call : Call) → IsCallSoFar call → IsWordCall call
 word_call (Get k) is = (is, omega arith)

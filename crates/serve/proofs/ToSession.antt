@@ -19,13 +19,13 @@ use Rattle.sound_image.specs.Segments.{frame_of, state_at}
 use Rattle.sound_image.specs.Left.{HasPairsOf}
 use Rattle.segment_table.proofs.stores.Moved.{live_same}
 use Rattle.session.specs.Session.{IsClosed, HadNoRoom, HasSpentBucket}
-use Rattle.restart_op.proofs.restarts.Beginning.{is_restart}
+use Rattle.shared_image.proofs.Beginning.{is_restart}
 use Rattle.world.specs.Ground.{Ground, HasSpentLock}
 use Rattle.world.specs.Views.{View}
 use Rattle.world.specs.areas.Areas.{header_word}
-use Rattle.engine.specs.Holding.{all_own}
-use Rattle.engine.proofs.sessions.Causing.{had_room, drawn}
-use Rattle.engine.proofs.sessions.CutSession.{same_shape}
+use Rattle.play.specs.Runs.{all_own}
+use Rattle.play.proofs.Causing.{had_room, drawn}
+use Rattle.play.proofs.CutSession.{same_shape}
 use Rattle.serve.specs.Served.{AreMade, told_by, IsServedSession, WasShared, ServedIsSession}
 use Rattle.serve.proofs.Told.{histories, all_follow, all_answered}
 use Rattle.serve.proofs.Owners.{whose, among}

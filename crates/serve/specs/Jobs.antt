@@ -5,8 +5,8 @@ use Rattle.atomic_table.specs.declared.shared.Seat.{Seat}
 use Rattle.map_model.specs.declared.call.Call.{Call}
 use Rattle.map_model.specs.declared.entry.Entry.{Entry}
 use Rattle.map_model.specs.Roomed.{Roomed, with_room}
-use Rattle.engine.specs.Fits.{IsWordCall}
-use Rattle.vlock.specs.declared.knows.Watch.{Watch}
+use Rattle.shared_image.specs.Engines.{IsWordCall}
+use Rattle.shared_image.specs.Watch.{Watch}
 use Rattle.world.specs.Attempts.{HoldsOnly}
 use Rattle.shared_image.specs.declared.image.SharedImage.{SharedImage}
 use Rattle.shared_image.specs.Powered.{IsPassOf}

@@ -11,7 +11,7 @@ use Rattle.sound_image.specs.Image.{IsSoundImage}
 use Rattle.sound_image.specs.Left.{HasPairsOf}
 use Rattle.session.specs.Transcript.{Told, transcript_of}
 use Rattle.session.specs.Session.{IsSession}
-use Rattle.restart_op.specs.Restarted.{words_at_end}
+use Rattle.shared_image.specs.Restarted.{words_at_end}
 use Rattle.world.specs.Ground.{Ground}
 use Rattle.script_text.specs.declared.line.Line.{Line}
 use Rattle.map_model.specs.Roomed.{lists_of}

@@ -10,5 +10,6 @@ mod making;
 mod serving;
 mod sessions;
 
+pub use play::{play, sessions_compose};
 pub use serving::serve;
 pub use sessions::served_is_session;

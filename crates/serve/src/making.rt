@@ -2,7 +2,7 @@
 
 ghost use Rattle.std.specs.Prelude.{◌≡◌, ℕ, ◌≤◌, ◌<◌, All, false, [], length, vec_capacity, IsTrue, slice_index_or};
 ghost use Rattle.map_model.specs.Map.{is_done};
-ghost use Rattle.engine.specs.Fits.{IsWordCall};
+ghost use Rattle.shared_image.specs.Engines.{IsWordCall};
 ghost use Rattle.shared_image.specs.Powered.{IsOn};
 ghost use Rattle.shared_image.specs.Calling.{IsCallerOf, Rests};
 ghost use Rattle.serve.specs.declared.job.Job.{Job};

@@ -13,7 +13,7 @@ use crate::job::Job;
 use crate::making::serve_all;
 use image_file::{Medium, Words};
 use map_model::{Entry, Lists, NoMemory};
-use play::{calls_of_caller, last_caller};
+use play::{calls_of_caller, last_caller, runs_are_sessions};
 use reply_text::Session;
 use script_text::{Line, Script};
 use shared_image::{Keeper, Pass, SharedImage, close, power_on};
@@ -123,7 +123,7 @@ pub fn serve<R: Threads + Wait + Sync>(
     ensures served { IfOk result (IsServe medium.geometry medium.words script.now) }
     ensures few_lists { IfOk result (λ left. length left.lists ≤ 64) }
 {
-    core_run::runs_are_sessions();
+    runs_are_sessions();
     let lines = script.as_slice();
     let last = last_caller(lines);
     let geometry = medium.geometry;

@@ -2,7 +2,7 @@
 use Rattle.std.proofs.Common.{◌≡◌, ◌∷◌, ◌++◌, [], ℕ, List, Some, rules, length, ap, sym, subst, ◌∙◌, append_assoc, length-append, arith}
 use Rattle.std.specs.Vec.Iter.{into_iter_items}
 use Rattle.atomic_table.specs.declared.shared.Seat.{Seat}
-use Rattle.vlock.specs.declared.knows.Watch.{Watch}
+use Rattle.shared_image.specs.Watch.{Watch}
 use Rattle.serve.specs.declared.job.Job.{Job}
 use Rattle.serve.specs.Jobs.{IsLeftJob, IsDoneJob}
 use Rattle.serve.proofs.Collected.{IsCollecting, goes_on, left_one, listing}

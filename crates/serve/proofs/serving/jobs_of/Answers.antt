@@ -5,10 +5,10 @@ use Rattle.std.specs.List.{range_with_len}
 use Rattle.std.proofs.lemmas.List.{map-append}
 use Rattle.std.proofs.lemmas.List.FromFn.{map-range_with_len_more}
 use Rattle.map_model.specs.declared.call.Call.{Call}
-use Rattle.engine.specs.Fits.{IsWordCall}
+use Rattle.shared_image.specs.Engines.{IsWordCall}
 use Rattle.world.specs.Attempts.{HoldsOnly}
 use Rattle.script_text.specs.Calls.{calls_of}
-use Rattle.vlock.specs.declared.knows.Watch.{Watch}
+use Rattle.shared_image.specs.Watch.{Watch}
 use Rattle.serve.specs.declared.job.Job.{Job}
 use Rattle.serve.specs.Jobs.{IsReadyJob}
 use Rattle.serve.proofs.Collected.{all_more_of}
