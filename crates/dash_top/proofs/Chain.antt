@@ -4,8 +4,8 @@ use Rattle.image_layout.specs.Places.{Shape}
 use Rattle.sound_image.specs.Image.{image_bytes, IsSoundImage}
 use Rattle.image_file.proofs.RoundTrip.{same_words, same_shape}
 use Rattle.session.specs.Session.{IsSession}
-use Rattle.play.specs.Played.{scripts_of}
-use Rattle.play.specs.Runs.{ending_of, CarriesOn, MapsCarryOn}
+use Rattle.serve.specs.Played.{scripts_of}
+use Rattle.serve.specs.Runs.{ending_of, CarriesOn, MapsCarryOn}
 use Rattle.dash_top.specs.Played.{IsPlayed}
 use Rattle.dash_top.specs.Chains.{IsSoundFileOf, PlaysLeaveSound, map_before, map_after, open_calls, PlaysShareMap}
 

@@ -11,9 +11,9 @@ use Rattle.script_text.specs.declared.line.Mode.TheVariants.{Play, Serve}
 use Rattle.script_text.specs.Script.{IsScript}
 use Rattle.reply_text.specs.declared.left.Session.{Session}
 use Rattle.reply_text.specs.Told.{tolds_of}
-use Rattle.play.specs.Runs.{ending_of}
-use Rattle.play.specs.Played.{scripts_of}
-use Rattle.play.proofs.Printed.{printed_by_run}
+use Rattle.serve.specs.Runs.{ending_of}
+use Rattle.serve.specs.Played.{scripts_of}
+use Rattle.serve.proofs.Printed.{printed_by_run}
 use Rattle.dash_top.specs.Modes.{IsRunIn}
 use Rattle.dash_top.specs.Ran.{HasRun}
 

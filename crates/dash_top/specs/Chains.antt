@@ -8,8 +8,8 @@ use Rattle.map_model.specs.Legal.{replay}
 use Rattle.image_layout.specs.Places.{Shape}
 use Rattle.sound_image.specs.Image.{image_bytes, IsSoundImage}
 use Rattle.session.specs.Callers.{history_of, undrawn}
-use Rattle.play.specs.Played.{scripts_of}
-use Rattle.play.specs.Runs.{ending_of, CarriesOn}
+use Rattle.serve.specs.Played.{scripts_of}
+use Rattle.serve.specs.Runs.{ending_of, CarriesOn}
 use Rattle.dash_top.specs.Played.{IsPlayed}
 
 -- what a play reads, what it writes, and the image that it leaves

@@ -8,8 +8,8 @@ use Rattle.session.specs.Session.{IsSession}
 use Rattle.script_text.specs.declared.line.Line.{Line}
 use Rattle.script_text.specs.declared.line.Mode.TheVariants.{Play}
 use Rattle.script_text.specs.Script.{IsScript}
-use Rattle.play.specs.Runs.{cut_of, medium_words, ending_of, tolds_of}
-use Rattle.play.specs.Played.{scripts_of, end_of_run}
+use Rattle.serve.specs.Runs.{cut_of, medium_words, ending_of, tolds_of}
+use Rattle.serve.specs.Played.{scripts_of, end_of_run}
 
 -- the bytes are those that the run of the script's lines leaves, and they are a session, which ends by a close where the
 -- script has no cut

@@ -5,7 +5,7 @@ use Rattle.script_text.specs.declared.line.Line.{Line}
 use Rattle.script_text.specs.declared.line.Mode.{Mode}
 use Rattle.script_text.specs.declared.line.Mode.TheVariants.{Play, Serve}
 use Rattle.reply_text.specs.declared.left.Session.{Session}
-use Rattle.play.specs.Played.{IsPlay}
+use Rattle.serve.specs.Played.{IsPlay}
 use Rattle.serve.specs.Served.{IsServe}
 
 abbrev pub HasRun : Mode → Shape → List ℕ → List Line → Session → Type 0

@@ -6,7 +6,7 @@ use Rattle.session.specs.Session.{IsSession}
 use Rattle.script_text.specs.declared.line.Line.{Line}
 use Rattle.script_text.specs.declared.line.Mode.TheVariants.{Serve}
 use Rattle.script_text.specs.Script.{IsScript}
-use Rattle.play.specs.Played.{scripts_of}
+use Rattle.serve.specs.Played.{scripts_of}
 
 -- the bytes are a session of the script's calls, in whatever order its callers stepped, which ends by a close
 pub record IsServed (start script transcript ending : List ℕ) : Type 0 where

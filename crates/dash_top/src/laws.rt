@@ -9,5 +9,5 @@ pub fn plays_compose()
     ensures sound { PlaysLeaveSound }
     ensures maps { PlaysShareMap }
 {
-    play::sessions_compose();
+    serve::sessions_compose();
 }

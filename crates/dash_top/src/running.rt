@@ -6,10 +6,9 @@ ghost use Rattle.dash_top.specs.Ran.{HasRun};
 
 use image_file::Medium;
 use map_model::NoMemory;
-use play::play;
 use reply_text::Session;
 use script_text::{Mode, Script};
-use serve::serve;
+use serve::{play, serve};
 use std::alloc::Global;
 use std::marker::Sync;
 use std::sync::Wait;
