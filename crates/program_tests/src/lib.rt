@@ -1,7 +1,7 @@
-//! The tests of the leaves and of the program, each of which needs public items alone.
+//! The tests of the leaves, of files and of texts, each of which needs public items alone.
 //!
 //! The gate proves a crate with tests twice, so the tests stand here, above all that they test, and not in the crates
-//! themselves. Those of the machines stand in `machine_tests`.
+//! themselves. Those of the machines stand in `machine_tests`, and runs of the whole program are rows of `rows`.
 #![tactic(auto)]
 
 #[cfg(test)]
@@ -18,8 +18,6 @@ mod notes;
 mod outsides;
 #[cfg(test)]
 mod rows;
-#[cfg(test)]
-mod runs;
 #[cfg(test)]
 mod scripts;
 #[cfg(test)]

@@ -9,7 +9,7 @@ mod step;
 mod store;
 mod text;
 
-pub use line::{Line, Lines, Others, Word};
+pub use line::{Counts, Line, Lines, Others, Part, Word};
 pub use reading::{File, Row, file_of};
-pub use step::{DONE, Step};
+pub use step::{DONE, SINK_FAILED, Step};
 pub use store::{ROOM, WORD_BYTES, change, word_at};

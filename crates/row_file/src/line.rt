@@ -33,6 +33,20 @@ pub enum Others {
     Zero,
 }
 
+/// A part of the outside of which calls may fail.
+#[derive(Clone, Copy)]
+pub enum Part {
+    /// The store.
+    Store,
+    /// The source of the script.
+    Source,
+    /// The sink of what is written.
+    Sink,
+}
+
+/// How often the store was written, how many bytes of the script were taken, and how many calls of the store, of the source and of the sink failed.
+pub type Counts = [u64; 5];
+
 /// What a line says.
 #[derive(Clone, Copy)]
 pub enum Line<'a> {
@@ -52,8 +66,12 @@ pub enum Line<'a> {
     Script(Lines<'a>),
     /// Lines that must be written.
     Written(Lines<'a>),
+    /// The call of this number fails, of all calls of a part, from 1.
+    Fails(Part, u64),
     /// The status that must come.
     Status(u64),
+    /// What must be counted.
+    Counts(Counts),
     /// A word that must be left.
     Left(Word),
     /// What the other words must be.
@@ -77,6 +95,31 @@ fn word_of(text: &str) -> Option<Word> {
         number: number_of(left)?,
         value: number_of(right)?,
     })
+}
+
+/// What stands behind `fails`.
+fn fails_of(text: &str) -> Option<Line<'_>> {
+    let (part, call) = text.split_once(' ')?;
+    let call = number_of(call)?;
+    match part {
+        "store" => Some(Line::Fails(Part::Store, call)),
+        "source" => Some(Line::Fails(Part::Source, call)),
+        "sink" => Some(Line::Fails(Part::Sink, call)),
+        _ => None,
+    }
+}
+
+/// What stands behind `counts`.
+fn counts_of(text: &str) -> Option<Line<'_>> {
+    let mut counts = [0; 5];
+    let mut words = text.split(' ');
+    for count in counts.iter_mut() {
+        *count = number_of(words.next()?)?;
+    }
+    match words.next() {
+        None => Some(Line::Counts(counts)),
+        Some(_) => None,
+    }
 }
 
 /// What stands behind `left`.
@@ -135,7 +178,9 @@ pub fn line_of(line: &str) -> Option<Line<'_>> {
         "word" => Some(Line::Word(word_of(rest)?)),
         "bytes" => Some(Line::Bytes(number_of(rest)?)),
         "run" => Some(Line::Run(rest)),
+        "fails" => fails_of(rest),
         "status" => Some(Line::Status(number_of(rest)?)),
+        "counts" => counts_of(rest),
         "left" => left_of(rest),
         "each" => each_of(rest),
         _ => text_of(0, 0, mark, rest),

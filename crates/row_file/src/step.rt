@@ -1,12 +1,14 @@
 //! A step of a row: commands that are run one after another, and what must come out of each.
 
-use crate::line::{Line, Others, Word};
+use crate::line::{Counts, Line, Others, Part, Word};
 use crate::text::push_lines;
 use anyhow::Result;
 use std::alloc::Global;
 
-/// The status of a run that is done: the one that must come where no line says another, and the only one at which the store may change.
+/// The status of a run that is done: the one that must come where no line says another.
 pub const DONE: u8 = 0;
+/// The status of a run whose sink failed. At it and at that of a run that is done the store may change.
+pub const SINK_FAILED: u8 = 5;
 
 /// Commands to be run, and what must come out of each.
 #[derive(Drop)]
@@ -15,10 +17,18 @@ pub struct Step<'a> {
     pub commands: &'a str,
     /// The script of each run.
     pub script: String,
+    /// The calls of the store that fail in each run, counted from 1.
+    pub store_fails: Vec<u64>,
+    /// The calls of the source that fail.
+    pub source_fails: Vec<u64>,
+    /// The calls of the sink that fail.
+    pub sink_fails: Vec<u64>,
     /// What must be written.
     pub written: String,
     /// The status that must come.
     pub status: u64,
+    /// What must be counted, where that is said.
+    pub counts: Option<Counts>,
     /// The words that must be left.
     pub left: Vec<Word>,
     /// What the other words must be.
@@ -33,12 +43,26 @@ impl<'a> Step<'a> {
         Step {
             commands,
             script: String::new(alloc),
+            store_fails: Vec::new(alloc),
+            source_fails: Vec::new(alloc),
+            sink_fails: Vec::new(alloc),
             written: String::new(alloc),
             status: u64::from(DONE),
+            counts: None,
             left: Vec::new(alloc),
             others: Others::Any,
             bytes: None,
         }
+    }
+
+    // Lets a call of a part fail.
+    fn fail(&mut self, part: Part, call: u64) -> Result<()> {
+        match part {
+            Part::Store => self.store_fails.push(call)?,
+            Part::Source => self.source_fails.push(call)?,
+            Part::Sink => self.sink_fails.push(call)?,
+        }
+        Ok(())
     }
 
     /// Takes a line that says something of its runs.
@@ -50,8 +74,13 @@ impl<'a> Step<'a> {
         match line {
             Line::Script(lines) => push_lines(&mut self.script, lines),
             Line::Written(lines) => push_lines(&mut self.written, lines),
+            Line::Fails(part, call) => self.fail(*part, *call),
             Line::Status(status) => {
                 self.status = *status;
+                Ok(())
+            }
+            Line::Counts(counts) => {
+                self.counts = Some(*counts);
                 Ok(())
             }
             Line::Left(word) => {

@@ -4,7 +4,7 @@ ghost use Rattle.std.specs.Prelude.{◌≡◌, ◌≢◌, IfOk, IsNone, IsTrue, 
 
 use crate::comparison::{line_difference, word_difference};
 use anyhow::Result;
-use row_file::{DONE, Step};
+use row_file::{Counts, DONE, SINK_FAILED, Step};
 use std::alloc::Global;
 
 /// What a run left.
@@ -16,13 +16,15 @@ pub struct Outcome {
     pub written: Vec<u8>,
     /// The store.
     pub image: Vec<u8>,
+    /// What was counted.
+    pub counts: Counts,
 }
 
 /// Whether a run of this command that ended with this status must leave the store as it was.
 fn must_keep(command: &str, status: u8) -> bool
-    ensures { status ≢ 0 → IsTrue result }
+    ensures { status ≢ 0 → status ≢ 5 → IsTrue result }
 {
-    status != DONE || command == "check" || command == "list"
+    (status != DONE && status != SINK_FAILED) || command == "check" || command == "list"
 }
 
 impl Outcome {
@@ -40,7 +42,7 @@ impl Outcome {
     ) -> Result<Option<String>>
         ensures status { IfOk result (λ difference. IsNone difference → self.now.status ≡ step.now.status) }
         ensures written { IfOk result (λ difference. IsNone difference → self.now.written.items ≡ string_bytes step.now.written) }
-        ensures kept { IfOk result (λ difference. IsNone difference → self.now.status ≢ 0 → self.now.image.items ≡ before.now) }
+        ensures kept { IfOk result (λ difference. IsNone difference → self.now.status ≢ 0 → self.now.status ≢ 5 → self.now.image.items ≡ before.now) }
     {
         if u64::from(self.status) != step.status {
             let (came, wanted) = (self.status, step.status);
@@ -54,6 +56,10 @@ impl Outcome {
         }
         if must_keep(command, self.status) && self.image.as_slice() != before {
             return Ok(Some(format!(in alloc; "the store was changed")?));
+        }
+        let counts = self.counts;
+        if step.counts.is_some_and(|wanted| wanted != counts) {
+            return Ok(Some(format!(in alloc; "what is counted is {counts:?}")?));
         }
         let count = self.image.len() as u64;
         if step.bytes.is_some_and(|bytes| bytes != count) {

@@ -10,21 +10,22 @@ use std::marker::Sync;
 use std::sync::Wait;
 use std::thread::Threads;
 
-/// Runs one command on an image.
+/// Runs one command of a step on an image.
 fn outcome_of<R: Threads + Wait + Sync>(
     rt: &R,
     alloc: Global,
     command: &str,
     image: &[u8],
-    script: &str,
+    step: &Step,
 ) -> Result<Outcome> {
     let mut words = Vec::new(alloc);
     for word in command.split_whitespace() {
         words.push(String::from_str(alloc, word)?)?;
     }
-    let mut store = MemStore::new(alloc, image, ROOM, &[])?;
-    let mut source = MemSource::new(script.as_bytes().to_vec(alloc)?, Vec::new(alloc));
-    let mut sink = MemSink::new(alloc, ROOM, Vec::new(alloc))?;
+    let mut store = MemStore::new(alloc, image, ROOM, &step.store_fails)?;
+    let script = step.script.as_bytes().to_vec(alloc)?;
+    let mut source = MemSource::new(script, step.source_fails.as_slice().to_vec(alloc)?);
+    let mut sink = MemSink::new(alloc, ROOM, step.sink_fails.as_slice().to_vec(alloc)?)?;
     let mut gates = Fuses::new();
     let status = dash_run(
         rt,
@@ -35,10 +36,19 @@ fn outcome_of<R: Threads + Wait + Sync>(
         &mut sink,
         &mut gates,
     );
+    let pulled = source.inner.at as u64;
+    let counts = [
+        store.writes,
+        pulled,
+        store.faults,
+        source.faults,
+        sink.faults,
+    ];
     Ok(Outcome {
         status,
         written: sink.bytes,
         image: store.bytes,
+        counts,
     })
 }
 
@@ -58,7 +68,7 @@ impl<'a> Judging<'a> {
         step: Step<'a>,
     ) -> Result<Option<String>> {
         for command in step.commands.split(", ") {
-            let outcome = outcome_of(rt, alloc, command, &self.image, step.script.as_str())?;
+            let outcome = outcome_of(rt, alloc, command, &self.image, &step)?;
             if let Some(difference) = outcome.difference(alloc, command, &self.image, &step)? {
                 return Ok(Some(format!(in alloc; "`{command}`: {difference}")?));
             }
