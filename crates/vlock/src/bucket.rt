@@ -25,11 +25,19 @@ use std::marker::Brand;
 pub enum ReadReply {
     /// The 32 words that loads found, and that the bucket has all at once in words which meet the invariant with this view
     /// there; its lock was free with this version before the loads and behind them.
-    Clean { version: u64, words: [u64; BLOCK as usize] },
+    Clean {
+        version: u64,
+        words: [u64; BLOCK as usize],
+    },
     /// The lock was free both times, with these two values of its word, so the words that were loaded say nothing.
-    Moved { before: u64, after: u64 },
+    Moved {
+        before: u64,
+        after: u64,
+    },
     /// The lock was held, with this value of its word.
-    Held { seen: u64 },
+    Held {
+        seen: u64,
+    },
 }
 
 /// What came of trying a lock.
