@@ -4,3 +4,4 @@ pub mod Anew
 pub mod Attempted
 pub mod Gating
 pub mod Tried
+pub mod FoundOff

@@ -96,10 +96,10 @@ module _ (laws : AttemptLaws) (site : Ground) (here : Site) (call : Call) (groun
 
   module _ (most : ℕ) (e : Engine) (p : Watch) (left : Option (Option ℕ)) (mid : Engine) (q : Watch) (now : Option (Option ℕ)) (cuts : ℕ) where
     tried_as : (stop_at : _) (answer : Answer) (next : Engine) (gone : HasGoneOn site most e p left stop_at mid q now cuts) → (answer ≡ answers.Left → length gone.taking.events ≡ most)
-        → (answer ≡ answers.Off → HasNoneLeft left now ⊎ (op_part.outcome mid.op ≡ Some off))
+        → (answer ≡ answers.Off → (HasNoneLeft left now × (0 < cuts)) ⊎ (op_part.outcome mid.op ≡ Some off)) → (answer ≢ answers.Off → 0 < length gone.taking.events → cuts ≡ 0)
         → ((work : Work) (start : Engine) (first : Watch) → wanted start ≢ Done → IsGoing site here call work start first mid q → Tells site here call work start first answer next q)
-        → HasTried site here call most e p left answer next q now
-    tried_as stop_at answer next gone all off_by tells = record {
+        → HasTried site here call most e p left answer next q now cuts
+    tried_as stop_at answer next gone all off_by uncut tells = record {
       events = gone.taking.events;
       took = gone.taking.took;
       asked = gone.taking.asked;
@@ -109,15 +109,17 @@ module _ (laws : AttemptLaws) (site : Ground) (here : Site) (call : Call) (groun
       later = gone.taking.later;
       callers = gone.taking.callers;
       lowered = gone.taking.lowered;
-      off_by = λ is. subst (λ (x : Engine). HasNoneLeft left now ⊎ (op_part.outcome x.op ≡ Some off)) gone.taking.engine (off_by is);
+      off_by = λ is. subst (λ (x : Engine). (HasNoneLeft left now × (0 < cuts)) ⊎ (op_part.outcome x.op ≡ Some off)) gone.taking.engine (off_by is);
+      uncut = uncut;
+      going = λ work start first g. subst (λ (x : Engine). IsGoing site here call work start first x q) gone.taking.engine (gone.taking.going here call work start first g);
       tells = λ work start first asks g. tells work start first asks (gone.taking.going here call work start first g);
     }
 
-    pub tried_left : HasGoneOn site most e p left stop.Left mid q now cuts → HasTried site here call most e p left answers.Left mid q now
-    tried_left gone = tried_as stop.Left answers.Left mid gone (λ _. gone.stops.1) (λ is. cc) (λ work start first asks g. (g, gone.stops.0))
+    pub tried_left : HasGoneOn site most e p left stop.Left mid q now cuts → HasTried site here call most e p left answers.Left mid q now cuts
+    tried_left gone = tried_as stop.Left answers.Left mid gone (λ _. gone.stops.1) (λ is. cc) (λ _. gone.stops.2) (λ work start first asks g. (g, gone.stops.0))
 
-    pub tried_off : HasGoneOn site most e p left stop.Cut mid q now cuts → HasTried site here call most e p left answers.Off mid q now
-    tried_off gone = tried_as stop.Cut answers.Off mid gone (λ is. cc) (λ _. inl gone.stops.1) (λ work start first asks g. (mid, g))
+    pub tried_off : HasGoneOn site most e p left stop.Cut mid q now cuts → HasTried site here call most e p left answers.Off mid q now cuts
+    tried_off gone = tried_as stop.Cut answers.Off mid gone (λ is. cc) (λ _. inl (gone.stops.1, gone.stops.2)) (λ on. absurd (on refl)) (λ work start first asks g. (mid, g))
 
     -- an end tells that the power is off where the engine found it so
     found_off : IsTrying site here call e p → (end : End) → HasGoneOn site most e p left stop.Over mid q now cuts → end ≡ end_of mid → answer_for (outcome_of_end end) ≡ answers.Off
@@ -129,9 +131,10 @@ module _ (laws : AttemptLaws) (site : Ground) (here : Site) (call : Call) (groun
         same ∙ off_only (outcome_of_end end) off_told d.0 (sym same ∙ d.1)
 
     pub tried_over : IsTrying site here call e p → (end : End) (answer : Answer) (next : Engine) → HasGoneOn site most e p left stop.Over mid q now cuts → end ≡ end_of mid → next ≡ anew here call end
-        → answer ≡ answer_for (outcome_of_end end) → HasTried site here call most e p left answer next q now
+        → answer ≡ answer_for (outcome_of_end end) → HasTried site here call most e p left answer next q now cuts
     tried_over t end answer next gone is anew_is told =
-        tried_as stop.Over answer next gone (λ left_is. absurd (never_left (outcome_of_end end) (sym told ∙ left_is))) (λ off_told. inr (found_off t end gone is (sym told ∙ off_told))) (λ work start first asks g.
+        tried_as stop.Over answer next gone (λ left_is. absurd (never_left (outcome_of_end end) (sym told ∙ left_is))) (λ off_told. inr (found_off t end gone is (sym told ∙ off_told)))
+        (λ _. gone.stops.1) (λ work start first asks g.
         subst (λ (x : Answer). Tells site here call work start first x next q) (sym told)
         (subst (λ (x : Engine). Tells site here call work start first (answer_for (outcome_of_end end)) x q) (sym anew_is)
         (told_by work start first mid q end asks g gone.stops.0 is (outcome_of_end end) refl)))
@@ -160,16 +163,16 @@ module _ (turns : TurnLaws) (laws : AttemptLaws) (site : Ground) (here : Site) (
     asks = (begun_suits laws site here call p.view ground shape version small bare some).asks;
   }
 
-  pub first_tells : (e : Engine) (gate_left : Option (Option ℕ)) (answer : Answer) (next : Engine) (q : Watch) (now : Option (Option ℕ)) → e ≡ begun here call
-      → HasTried site here call 700 e p gate_left answer next q now → Tells site here call calls (begun here call) p answer next q
-  first_tells e gate_left answer next q now is tried =
+  pub first_tells : (e : Engine) (gate_left : Option (Option ℕ)) (answer : Answer) (next : Engine) (q : Watch) (now : Option (Option ℕ)) (cuts : ℕ) → e ≡ begun here call
+      → HasTried site here call 700 e p gate_left answer next q now cuts → Tells site here call calls (begun here call) p answer next q
+  first_tells e gate_left answer next q now cuts is tried =
       let asks : wanted (begun here call) ≢ Done = (begun_suits laws site here call p.view ground shape version small bare some).asks in
       tried.tells calls (begun here call) p asks (call_begins laws site here call ground shape version small p bare some e is)
 
-  pub first_over : (e : Engine) (gate_left : Option (Option ℕ)) (answer : Answer) (next : Engine) (q : Watch) (now : Option (Option ℕ)) → e ≡ begun here call
-      → HasTried site here call 700 e p gate_left answer next q now → answer ≢ answers.Left
-  first_over e gate_left answer next q now is tried left_is =
-      let told = first_tells e gate_left answer next q now is tried in
+  pub first_over : (e : Engine) (gate_left : Option (Option ℕ)) (answer : Answer) (next : Engine) (q : Watch) (now : Option (Option ℕ)) (cuts : ℕ) → e ≡ begun here call
+      → HasTried site here call 700 e p gate_left answer next q now cuts → answer ≢ answers.Left
+  first_over e gate_left answer next q now cuts is tried left_is =
+      let told = first_tells e gate_left answer next q now cuts is tried in
       let g = subst (λ (x : Answer). Tells site here call calls (begun here call) p x next q) left_is told in
       let same = same_count g.0.events tried.events p.took (sym g.0.took ∙ tried.took) in
       let all = tried.all left_is in

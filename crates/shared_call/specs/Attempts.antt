@@ -1,7 +1,7 @@
 -- One attempt of a call: its events, its end, and what decided that.
 use Rattle.std.specs.Prelude.{◌≡◌, ◌≢◌, ℕ, ⊤, ◌+◌, ◌<◌, ◌≤◌, Option, None, Some, List, [], ◌∷◌, ◌++◌, length}
 use Rattle.op_core.specs.declared.want.Want.{Want}
-use Rattle.op_core.specs.declared.want.Want.TheVariants.{Done}
+use Rattle.op_core.specs.declared.want.Want.TheVariants.{Power, Done}
 use Rattle.op_core.specs.declared.why.Why.TheVariants.{Busy}
 use Rattle.map_model.specs.declared.call.Call.{Call}
 use Rattle.map_model.specs.declared.call.Call.TheVariants.{Get}
@@ -72,6 +72,15 @@ pub record IsGoing (site : Ground) (here : Site) (call : Call) (work : Work) (st
   pub suits : SuitsPart op_part site here call e.op p.view q.view
   pub remembers : op_part.Remembers site e.op (doings_of events)
   pub decided : (outcome : Outcome) → op_part.outcome e.op ≡ Some outcome → IsDecided site here call work p.view events outcome
+
+-- THE SEAT HAS FOUND THE POWER OFF since it knew p: among the events that it took since then is a look at the power word, which found another value
+-- than 0
+pub record HasFoundOff (p q : Watch) : Type 0 where
+  pub behind : List (Want × ℕ)
+  pub found : ℕ
+  pub before : List (Want × ℕ)
+  pub took : q.took ≡ behind ++ (Power, found) ∷ (before ++ p.took)
+  pub off : found ≢ 0
 
 -- a reply is at a place that is not before this
 abbrev pub IsPlaced : Option (Reply × ℕ) → ℕ → Type 0

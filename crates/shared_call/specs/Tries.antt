@@ -64,8 +64,9 @@ Tells site here call work start first answer next q =
     IsAnswered site here call work start first answer next q × HasNoMore first.view q.view × (HasNumber here → IsReady site here call next q)
 
 -- A TRY took some of the events that the engine wanted, no more than were allowed, by which the passes of its gate are lowered; and it tells of whatever
--- attempt of the call was under way
-pub record HasTried (site : Ground) (here : Site) (call : Call) (most : ℕ) (e : Engine) (p : Watch) (left : Option (Option ℕ)) (answer : Answer) (next : Engine) (q : Watch) (now : Option (Option ℕ)) : Type 0 where
+-- attempt of the call was under way. By then the gate has cut the power so often
+pub record HasTried (site : Ground) (here : Site) (call : Call) (most : ℕ) (e : Engine) (p : Watch) (left : Option (Option ℕ)) (answer : Answer) (next : Engine) (q : Watch) (now : Option (Option ℕ))
+    (cuts : ℕ) : Type 0 where
   pub events : List (Want × ℕ)
   pub took : q.took ≡ events ++ p.took
   pub asked : AreAsked e events
@@ -75,8 +76,12 @@ pub record HasTried (site : Ground) (here : Site) (call : Call) (most : ℕ) (e 
   pub later : IsLater p.view q.view
   pub callers : q.view.callers ≡ p.view.callers
   pub lowered : IsLowered left (length events) now
-  -- the power is told off where the gate cut it, and so has no pass left where it told of them, or where the engine found it off
-  pub off_by : answer ≡ answers.Off → HasNoneLeft left now ⊎ (op_part.outcome (after_events e events).op ≡ Some off)
+  -- the power is told off where the gate has cut it, and has no pass left where it told of them, or where the engine found it off
+  pub off_by : answer ≡ answers.Off → (HasNoneLeft left now × (0 < cuts)) ⊎ (op_part.outcome (after_events e events).op ≡ Some off)
+  -- a gate that let an event through has not cut, unless the power is told off
+  pub uncut : answer ≢ answers.Off → 0 < length events → cuts ≡ 0
+  -- whatever attempt of the call was under way was so still behind these events
+  pub going : (work : Work) (start : Engine) (first : Watch) → IsGoing site here call work start first e p → IsGoing site here call work start first (after_events e events) q
   pub tells : (work : Work) (start : Engine) (first : Watch) → wanted start ≢ Done → IsGoing site here call work start first e p → Tells site here call work start first answer next q
 
 -- A REPAIR BEGINS of a segment, behind whatever call, with a view that holds and owes nothing and knows the segment to be live

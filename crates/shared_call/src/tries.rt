@@ -98,7 +98,7 @@ pub fn try_on<G: Gate>(
     requires site { (site.now.geometry ≡ image.now.key.geometry) × (site.now.version ≡ version_of (ground_of image.now.key)) }
     requires trying { IsTrying (ground_of image.now.key) site.now call engine.old seat.old.me.0 }
     ensures table { IsSeatOf image.now.table_id image.now.key seat.new }
-    ensures tried { HasTried (ground_of image.now.key) site.now call most engine.old seat.old.me.0 (G.left gate.old) result engine.new seat.new.me.0 (G.left gate.new) }
+    ensures tried { HasTried (ground_of image.now.key) site.now call most engine.old seat.old.me.0 (G.left gate.old) result engine.new seat.new.me.0 (G.left gate.new) (G.cuts gate.new) }
 {
     attempts_have_laws();
     match go_on(image, geometry, seat, gate, engine, most) {
@@ -132,7 +132,7 @@ pub fn try_call<G: Gate>(
     requires site { (site.now.geometry ≡ image.now.key.geometry) × (site.now.version ≡ version_of (ground_of image.now.key)) }
     requires view { HoldsOnly [] seat.old.me.0.view × (0 < seat.old.me.0.view.callers) }
     ensures table { IsSeatOf image.now.table_id image.now.key seat.new }
-    ensures tried { HasTried (ground_of image.now.key) site.now call 700 (begun site.now call) seat.old.me.0 (G.left gate.old) result engine.new seat.new.me.0 (G.left gate.new) }
+    ensures tried { HasTried (ground_of image.now.key) site.now call 700 (begun site.now call) seat.old.me.0 (G.left gate.old) result engine.new seat.new.me.0 (G.left gate.new) (G.cuts gate.new) }
     ensures tells { Tells (ground_of image.now.key) site.now call calls (begun site.now call) seat.old.me.0 result engine.new seat.new.me.0 }
     ensures over { result ≢ Answer.Left }
 {

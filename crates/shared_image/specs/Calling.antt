@@ -35,17 +35,17 @@ abbrev pub says_off : Answer → Bool
 says_off answers.Off = true
 says_off answer = false
 
--- what comes of a call by a caller whose power was off before: no event is taken
-abbrev pub IsOffStill : Watch → Option (Option ℕ) → Answer → Watch → Option (Option ℕ) → Type 0
-IsOffStill p left answer q now = (answer ≡ answers.Off) × (q ≡ p) × (now ≡ left)
+-- what comes of a call by a caller whose power was off before: no event is taken, and the gate has as many passes left and has cut as often as before
+abbrev pub IsOffStill : Watch → Option (Option ℕ) → ℕ → Answer → Watch → Option (Option ℕ) → ℕ → Type 0
+IsOffStill p left before answer q now cuts = (answer ≡ answers.Off) × (q ≡ p) × (now ≡ left) × (cuts ≡ before)
 
--- THE FIRST TRY OF A CALL, where the power was off before, or not
-abbrev pub HasCalled : Ground → Site → Call → Bool → Watch → Option (Option ℕ) → Answer → Engine → Watch → Option (Option ℕ) → Type 0
-HasCalled site here call true p left answer next q now = IsOffStill p left answer q now
-HasCalled site here call false p left answer next q now =
-    HasTried site here call 700 (begun here call) p left answer next q now × Tells site here call calls (begun here call) p answer next q × (answer ≢ answers.Left)
+-- THE FIRST TRY OF A CALL, where the power was off before, or not; the gate had cut so often before, and has cut so often now
+abbrev pub HasCalled : Ground → Site → Call → Bool → Watch → Option (Option ℕ) → ℕ → Answer → Engine → Watch → Option (Option ℕ) → ℕ → Type 0
+HasCalled site here call true p left before answer next q now cuts = IsOffStill p left before answer q now cuts
+HasCalled site here call false p left before answer next q now cuts =
+    HasTried site here call 700 (begun here call) p left answer next q now cuts × Tells site here call calls (begun here call) p answer next q × (answer ≢ answers.Left)
 
 -- A TRY BEHIND IT
-abbrev pub HasGoneOnTrying : Ground → Site → Call → ℕ → Bool → Engine → Watch → Option (Option ℕ) → Answer → Engine → Watch → Option (Option ℕ) → Type 0
-HasGoneOnTrying site here call most true e p left answer next q now = IsOffStill p left answer q now
-HasGoneOnTrying site here call most false e p left answer next q now = HasTried site here call most e p left answer next q now
+abbrev pub HasGoneOnTrying : Ground → Site → Call → ℕ → Bool → Engine → Watch → Option (Option ℕ) → ℕ → Answer → Engine → Watch → Option (Option ℕ) → ℕ → Type 0
+HasGoneOnTrying site here call most true e p left before answer next q now cuts = IsOffStill p left before answer q now cuts
+HasGoneOnTrying site here call most false e p left before answer next q now cuts = HasTried site here call most e p left answer next q now cuts

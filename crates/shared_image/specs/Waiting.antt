@@ -1,5 +1,5 @@
 -- A call that is tried until it has a reply.
-use Rattle.std.specs.Prelude.{◌≡◌, ◌≢◌, ℕ, ⊤, ◌<◌, ◌≤◌, Bool, true, false, Option, None, Some, List, ◌++◌, length, []}
+use Rattle.std.specs.Prelude.{◌≡◌, ◌≢◌, ℕ, ⊤, ◌<◌, ◌≤◌, ◌⊎◌, Bool, true, false, Option, None, Some, List, ◌++◌, length, []}
 use Rattle.op_core.specs.declared.want.Want.{Want}
 use Rattle.op_core.specs.declared.want.Want.TheVariants.{Done}
 use Rattle.map_model.specs.declared.call.Call.{Call}
@@ -12,7 +12,8 @@ use Rattle.vlock.specs.declared.knows.Watch.{Watch}
 use Rattle.shared_call.specs.declared.tries.Answer.{Answer}
 use Rattle.shared_call.specs.declared.tries.Answer.TheVariants as answers
 use Rattle.shared_call.specs.Attempts.{IsGoing}
-use Rattle.shared_call.specs.Gated.{IsLowered}
+pub use Rattle.shared_call.specs.Attempts.{HasFoundOff}
+use Rattle.shared_call.specs.Gated.{IsLowered, HasNoneLeft}
 
 -- the seat took some events, by which the passes of its gate are lowered; it took in no other, and stands for as many callers
 pub record HasTaken (p : Watch) (left : Option (Option ℕ)) (q : Watch) (now : Option (Option ℕ)) : Type 0 where
@@ -39,7 +40,12 @@ abbrev pub has_none : Option (Reply × ℕ) → Bool
 has_none None = true
 has_none (Some r) = false
 
--- an attempt of the call is under way, which began with the entries of p, and p had seen as much
+-- WHY A CALL GAVE UP: the power of its caller was off before, and it took no event; or the gate has cut the power, and has no pass left where it told of them;
+-- or among the events that it took is a look at the power word, which found another value than 0
+abbrev pub GaveUpFor : Bool → Watch → Option (Option ℕ) → Watch → Option (Option ℕ) → ℕ → Type 0
+GaveUpFor off p left q now cuts = ((off ≡ true) × (q ≡ p)) ⊎ ((HasNoneLeft left now × (0 < cuts)) ⊎ HasFoundOff p q)
+
+-- an attempt of the call is under way, which began with the entries of p, and p had seen as much; its events are among those that were taken since p
 pub record IsTryingSince (site : Ground) (here : Site) (call : Call) (p : Watch) (e : Engine) (q : Watch) : Type 0 where
   pub work : Work
   pub start : Engine
@@ -47,6 +53,8 @@ pub record IsTryingSince (site : Ground) (here : Site) (call : Call) (p : Watch)
   pub going : IsGoing site here call work start first e q
   pub asks : wanted start ≢ Done
   pub same : HasNoMore p.view first.view
+  pub events : List (Want × ℕ)
+  pub since : first.took ≡ events ++ p.took
 
 -- where a call stands that was told this
 abbrev pub StandsAt : Ground → Site → Call → Watch → Answer → Engine → Watch → Type 0

@@ -81,7 +81,7 @@ impl<'a, G: Gate> Caller<'a, G> {
         requires rests { self.old.off ≡ false → Rests self.old.pass }
         ensures caller { IsCallerOf self.new.image.now self.new.pass self.new.site self.new.call }
         ensures same { (self.new.image ≡ self.old.image) × (self.new.site ≡ self.old.site) × (self.new.call ≡ call) }
-        ensures called { HasCalled (ground_in self.old.image.now) self.old.site call self.old.off self.old.pass.me.0 (G.left self.old.gate) result self.new.engine self.new.pass.me.0 (G.left self.new.gate) }
+        ensures called { HasCalled (ground_in self.old.image.now) self.old.site call self.old.off self.old.pass.me.0 (G.left self.old.gate) (G.cuts self.old.gate) result self.new.engine self.new.pass.me.0 (G.left self.new.gate) (G.cuts self.new.gate) }
         ensures off { self.new.off ≡ says_off result }
     {
         self.call = call;
@@ -102,7 +102,7 @@ impl<'a, G: Gate> Caller<'a, G> {
         requires rests { self.old.off ≡ false → Rests self.old.pass }
         ensures caller { IsCallerOf self.new.image.now self.new.pass self.new.site self.new.call }
         ensures same { (self.new.image ≡ self.old.image) × (self.new.site ≡ self.old.site) × (self.new.call ≡ Get key) }
-        ensures called { HasCalled (ground_in self.old.image.now) self.old.site (Get key) self.old.off self.old.pass.me.0 (G.left self.old.gate) result self.new.engine self.new.pass.me.0 (G.left self.new.gate) }
+        ensures called { HasCalled (ground_in self.old.image.now) self.old.site (Get key) self.old.off self.old.pass.me.0 (G.left self.old.gate) (G.cuts self.old.gate) result self.new.engine self.new.pass.me.0 (G.left self.new.gate) (G.cuts self.new.gate) }
         ensures off { self.new.off ≡ says_off result }
     {
         self.try_call(Call::Get(key))
@@ -114,7 +114,7 @@ impl<'a, G: Gate> Caller<'a, G> {
         requires rests { self.old.off ≡ false → Rests self.old.pass }
         ensures caller { IsCallerOf self.new.image.now self.new.pass self.new.site self.new.call }
         ensures same { (self.new.image ≡ self.old.image) × (self.new.site ≡ self.old.site) × (self.new.call ≡ Insert key value) }
-        ensures called { HasCalled (ground_in self.old.image.now) self.old.site (Insert key value) self.old.off self.old.pass.me.0 (G.left self.old.gate) result self.new.engine self.new.pass.me.0 (G.left self.new.gate) }
+        ensures called { HasCalled (ground_in self.old.image.now) self.old.site (Insert key value) self.old.off self.old.pass.me.0 (G.left self.old.gate) (G.cuts self.old.gate) result self.new.engine self.new.pass.me.0 (G.left self.new.gate) (G.cuts self.new.gate) }
         ensures off { self.new.off ≡ says_off result }
     {
         self.try_call(Call::Insert(key, value))
@@ -126,7 +126,7 @@ impl<'a, G: Gate> Caller<'a, G> {
         requires rests { self.old.off ≡ false → Rests self.old.pass }
         ensures caller { IsCallerOf self.new.image.now self.new.pass self.new.site self.new.call }
         ensures same { (self.new.image ≡ self.old.image) × (self.new.site ≡ self.old.site) × (self.new.call ≡ Update key value) }
-        ensures called { HasCalled (ground_in self.old.image.now) self.old.site (Update key value) self.old.off self.old.pass.me.0 (G.left self.old.gate) result self.new.engine self.new.pass.me.0 (G.left self.new.gate) }
+        ensures called { HasCalled (ground_in self.old.image.now) self.old.site (Update key value) self.old.off self.old.pass.me.0 (G.left self.old.gate) (G.cuts self.old.gate) result self.new.engine self.new.pass.me.0 (G.left self.new.gate) (G.cuts self.new.gate) }
         ensures off { self.new.off ≡ says_off result }
     {
         self.try_call(Call::Update(key, value))
@@ -138,7 +138,7 @@ impl<'a, G: Gate> Caller<'a, G> {
         requires rests { self.old.off ≡ false → Rests self.old.pass }
         ensures caller { IsCallerOf self.new.image.now self.new.pass self.new.site self.new.call }
         ensures same { (self.new.image ≡ self.old.image) × (self.new.site ≡ self.old.site) × (self.new.call ≡ Remove key) }
-        ensures called { HasCalled (ground_in self.old.image.now) self.old.site (Remove key) self.old.off self.old.pass.me.0 (G.left self.old.gate) result self.new.engine self.new.pass.me.0 (G.left self.new.gate) }
+        ensures called { HasCalled (ground_in self.old.image.now) self.old.site (Remove key) self.old.off self.old.pass.me.0 (G.left self.old.gate) (G.cuts self.old.gate) result self.new.engine self.new.pass.me.0 (G.left self.new.gate) (G.cuts self.new.gate) }
         ensures off { self.new.off ≡ says_off result }
     {
         self.try_call(Call::Remove(key))
@@ -151,7 +151,7 @@ impl<'a, G: Gate> Caller<'a, G> {
         requires trying { self.old.off ≡ false → IsTrying (ground_in self.old.image.now) self.old.site self.old.call self.old.engine self.old.pass.me.0 }
         ensures caller { IsCallerOf self.new.image.now self.new.pass self.new.site self.new.call }
         ensures same { (self.new.image ≡ self.old.image) × (self.new.site ≡ self.old.site) × (self.new.call ≡ self.old.call) }
-        ensures tried { HasGoneOnTrying (ground_in self.old.image.now) self.old.site self.old.call most self.old.off self.old.engine self.old.pass.me.0 (G.left self.old.gate) result self.new.engine self.new.pass.me.0 (G.left self.new.gate) }
+        ensures tried { HasGoneOnTrying (ground_in self.old.image.now) self.old.site self.old.call most self.old.off self.old.engine self.old.pass.me.0 (G.left self.old.gate) (G.cuts self.old.gate) result self.new.engine self.new.pass.me.0 (G.left self.new.gate) (G.cuts self.new.gate) }
         ensures off { self.new.off ≡ says_off result }
     {
         next_try(
@@ -174,7 +174,7 @@ impl<'a, G: Gate> Caller<'a, G> {
         requires known { self.old.off ≡ false → Has (Lives segment) self.old.pass.me.0.view.facts }
         ensures caller { IsCallerOf self.new.image.now self.new.pass self.new.site self.new.call }
         ensures same { (self.new.image ≡ self.old.image) × (self.new.site ≡ self.old.site) × (self.new.call ≡ self.old.call) }
-        ensures tried { HasGoneOnTrying (ground_in self.old.image.now) self.old.site self.old.call most self.old.off (repairing self.old.site segment) self.old.pass.me.0 (G.left self.old.gate) result self.new.engine self.new.pass.me.0 (G.left self.new.gate) }
+        ensures tried { HasGoneOnTrying (ground_in self.old.image.now) self.old.site self.old.call most self.old.off (repairing self.old.site segment) self.old.pass.me.0 (G.left self.old.gate) (G.cuts self.old.gate) result self.new.engine self.new.pass.me.0 (G.left self.new.gate) (G.cuts self.new.gate) }
         ensures off { self.new.off ≡ says_off result }
     {
         self.engine = repair_of(&self.site, segment);

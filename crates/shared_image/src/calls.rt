@@ -18,6 +18,7 @@ use world::Site;
 fn note_answer<G: Gate>(gate: &mut G, answer: Answer) -> bool
     ensures off { result ≡ says_off answer }
     ensures left { G.left gate.new ≡ G.left gate.old }
+    ensures cuts { G.cuts gate.new ≡ G.cuts gate.old }
 {
     match answer {
         Answer::Replied(..) => {
@@ -46,7 +47,7 @@ pub(crate) fn first_try<G: Gate>(
     requires site { IsSiteOf image.now site.now }
     requires rests { off.old ≡ false → Rests pass.old }
     ensures pass { IsPassOf image.now pass.new }
-    ensures called { HasCalled (ground_in image.now) site.now call off.old pass.old.me.0 (G.left gate.old) result engine.new pass.new.me.0 (G.left gate.new) }
+    ensures called { HasCalled (ground_in image.now) site.now call off.old pass.old.me.0 (G.left gate.old) (G.cuts gate.old) result engine.new pass.new.me.0 (G.left gate.new) (G.cuts gate.new) }
     ensures off { off.new ≡ says_off result }
 {
     if *off {
@@ -82,7 +83,7 @@ pub(crate) fn next_try<G: Gate>(
     requires site { IsSiteOf image.now site.now }
     requires trying { off.old ≡ false → IsTrying (ground_in image.now) site.now call engine.old pass.old.me.0 }
     ensures pass { IsPassOf image.now pass.new }
-    ensures tried { HasGoneOnTrying (ground_in image.now) site.now call most off.old engine.old pass.old.me.0 (G.left gate.old) result engine.new pass.new.me.0 (G.left gate.new) }
+    ensures tried { HasGoneOnTrying (ground_in image.now) site.now call most off.old engine.old pass.old.me.0 (G.left gate.old) (G.cuts gate.old) result engine.new pass.new.me.0 (G.left gate.new) (G.cuts gate.new) }
     ensures off { off.new ≡ says_off result }
 {
     if *off {
@@ -129,7 +130,7 @@ pub(crate) fn try_repair_in<G: Gate>(
     requires rests { off.old ≡ false → Rests pass.old }
     requires known { off.old ≡ false → Has (Lives segment) pass.old.me.0.view.facts }
     ensures pass { IsPassOf image.now pass.new }
-    ensures tried { HasGoneOnTrying (ground_in image.now) site.now call most off.old (repairing site.now segment) pass.old.me.0 (G.left gate.old) result engine.new pass.new.me.0 (G.left gate.new) }
+    ensures tried { HasGoneOnTrying (ground_in image.now) site.now call most off.old (repairing site.now segment) pass.old.me.0 (G.left gate.old) (G.cuts gate.old) result engine.new pass.new.me.0 (G.left gate.new) (G.cuts gate.new) }
     ensures off { off.new ≡ says_off result }
 {
     shared_call::attempts_begin_and_end();

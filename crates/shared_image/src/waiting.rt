@@ -1,11 +1,11 @@
 //! Calls that are tried until they have a reply.
 
-ghost use Rattle.std.specs.Prelude.{◌≡◌, false};
+ghost use Rattle.std.specs.Prelude.{◌≡◌, false, None};
 ghost use Rattle.map_model.specs.declared.call.Call.TheVariants.{Get, Insert, Update, Remove};
 ghost use Rattle.shared_call.specs.Engines.{IsWordCall};
 ghost use Rattle.shared_image.specs.Powered.{ground_in, IsOn, IsPassOf};
 ghost use Rattle.shared_image.specs.Calling.{IsSiteOf, IsCallerOf, Rests};
-ghost use Rattle.shared_image.specs.Waiting.{HasTaken, CameToReply, has_none};
+ghost use Rattle.shared_image.specs.Waiting.{HasTaken, CameToReply, GaveUpFor, has_none};
 
 use crate::caller::Caller;
 use crate::calls::{first_try, next_try};
@@ -39,6 +39,7 @@ pub(crate) fn call_in<R: Wait, G: Gate>(
     ensures pass { IsPassOf image.now pass.new }
     ensures came { CameToReply call pass.old.me.0 result pass.new.me.0 }
     ensures taken { HasTaken pass.old.me.0 (G.left gate.old) pass.new.me.0 (G.left gate.new) }
+    ensures why { result ≡ None → GaveUpFor off.old pass.old.me.0 (G.left gate.old) pass.new.me.0 (G.left gate.new) (G.cuts gate.new) }
     ensures off { off.new ≡ has_none result }
 {
     let backoff = Backoff::new();
@@ -67,6 +68,7 @@ impl<'a, G: Gate> Caller<'a, G> {
         ensures same { (self.new.image ≡ self.old.image) × (self.new.site ≡ self.old.site) }
         ensures came { CameToReply call self.old.pass.me.0 result self.new.pass.me.0 }
         ensures taken { HasTaken self.old.pass.me.0 (G.left self.old.gate) self.new.pass.me.0 (G.left self.new.gate) }
+        ensures why { result ≡ None → GaveUpFor self.old.off self.old.pass.me.0 (G.left self.old.gate) self.new.pass.me.0 (G.left self.new.gate) (G.cuts self.new.gate) }
         ensures off { self.new.off ≡ has_none result }
     {
         self.call = call;
@@ -90,6 +92,7 @@ impl<'a, G: Gate> Caller<'a, G> {
         ensures same { (self.new.image ≡ self.old.image) × (self.new.site ≡ self.old.site) }
         ensures came { CameToReply (Get key) self.old.pass.me.0 result self.new.pass.me.0 }
         ensures taken { HasTaken self.old.pass.me.0 (G.left self.old.gate) self.new.pass.me.0 (G.left self.new.gate) }
+        ensures why { result ≡ None → GaveUpFor self.old.off self.old.pass.me.0 (G.left self.old.gate) self.new.pass.me.0 (G.left self.new.gate) (G.cuts self.new.gate) }
         ensures off { self.new.off ≡ has_none result }
     {
         self.make(rt, Call::Get(key))
@@ -103,6 +106,7 @@ impl<'a, G: Gate> Caller<'a, G> {
         ensures same { (self.new.image ≡ self.old.image) × (self.new.site ≡ self.old.site) }
         ensures came { CameToReply (Insert key value) self.old.pass.me.0 result self.new.pass.me.0 }
         ensures taken { HasTaken self.old.pass.me.0 (G.left self.old.gate) self.new.pass.me.0 (G.left self.new.gate) }
+        ensures why { result ≡ None → GaveUpFor self.old.off self.old.pass.me.0 (G.left self.old.gate) self.new.pass.me.0 (G.left self.new.gate) (G.cuts self.new.gate) }
         ensures off { self.new.off ≡ has_none result }
     {
         self.make(rt, Call::Insert(key, value))
@@ -116,6 +120,7 @@ impl<'a, G: Gate> Caller<'a, G> {
         ensures same { (self.new.image ≡ self.old.image) × (self.new.site ≡ self.old.site) }
         ensures came { CameToReply (Update key value) self.old.pass.me.0 result self.new.pass.me.0 }
         ensures taken { HasTaken self.old.pass.me.0 (G.left self.old.gate) self.new.pass.me.0 (G.left self.new.gate) }
+        ensures why { result ≡ None → GaveUpFor self.old.off self.old.pass.me.0 (G.left self.old.gate) self.new.pass.me.0 (G.left self.new.gate) (G.cuts self.new.gate) }
         ensures off { self.new.off ≡ has_none result }
     {
         self.make(rt, Call::Update(key, value))
@@ -129,6 +134,7 @@ impl<'a, G: Gate> Caller<'a, G> {
         ensures same { (self.new.image ≡ self.old.image) × (self.new.site ≡ self.old.site) }
         ensures came { CameToReply (Remove key) self.old.pass.me.0 result self.new.pass.me.0 }
         ensures taken { HasTaken self.old.pass.me.0 (G.left self.old.gate) self.new.pass.me.0 (G.left self.new.gate) }
+        ensures why { result ≡ None → GaveUpFor self.old.off self.old.pass.me.0 (G.left self.old.gate) self.new.pass.me.0 (G.left self.new.gate) (G.cuts self.new.gate) }
         ensures off { self.new.off ≡ has_none result }
     {
         self.make(rt, Call::Remove(key))

@@ -13,14 +13,14 @@ try_on-requires-clause-trying g c =
 pub returns-clause-tried : goal.returns-clause-tried
 returns-clause-tried g c =
     subst (λ (e : Engine). HasTried (ground_of c.args.image.now.key) c.args.site.now c.args.call 700 e c.args.seat.now.me.0 (g.G.Gate.left c.args.gate.now) c.try_on.result c.try_on.new.engine
-    c.try_on.new.seat.me.0 (g.G.Gate.left c.try_on.new.gate)) c.restart.ensures c.try_on.ensures.tried
+    c.try_on.new.seat.me.0 (g.G.Gate.left c.try_on.new.gate) (g.G.Gate.cuts c.try_on.new.gate)) c.restart.ensures c.try_on.ensures.tried
 
 pub returns-clause-tells : goal.returns-clause-tells
 returns-clause-tells g c =
     first_tells c.turns_have_laws.ensures c.attempts_have_laws.ensures (ground_of c.args.image.now.key) c.args.site.now c.args.call c.requires.table.1.ground c.requires.site.0 c.requires.site.1
-    c.requires.call c.args.seat.now.me.0 c.requires.view.0 c.requires.view.1 _ _ _ _ _ _ c.restart.ensures c.try_on.ensures.tried
+    c.requires.call c.args.seat.now.me.0 c.requires.view.0 c.requires.view.1 _ _ _ _ _ _ _ c.restart.ensures c.try_on.ensures.tried
 
 pub returns-clause-over : goal.returns-clause-over
 returns-clause-over g c =
     first_over c.turns_have_laws.ensures c.attempts_have_laws.ensures (ground_of c.args.image.now.key) c.args.site.now c.args.call c.requires.table.1.ground c.requires.site.0 c.requires.site.1
-    c.requires.call c.args.seat.now.me.0 c.requires.view.0 c.requires.view.1 _ _ _ _ _ _ c.restart.ensures c.try_on.ensures.tried
+    c.requires.call c.args.seat.now.me.0 c.requires.view.0 c.requires.view.1 _ _ _ _ _ _ _ c.restart.ensures c.try_on.ensures.tried

@@ -14,4 +14,4 @@ next_try-requires-clause-trying g c = λ on.
 pub returns-clause-tried : goal.returns-clause-tried
 returns-clause-tried g c =
     subst (λ (e : Engine). HasGoneOnTrying (ground_in c.args.image.now) c.args.site.now c.args.call c.args.most c.args.off.now e c.args.pass.now.me.0 (g.G.Gate.left c.args.gate.now)
-    c.next_try.result c.next_try.new.engine c.next_try.new.pass.me.0 (g.G.Gate.left c.next_try.new.gate)) c.requires.engine c.next_try.ensures.tried
+    (g.G.Gate.cuts c.args.gate.now) c.next_try.result c.next_try.new.engine c.next_try.new.pass.me.0 (g.G.Gate.left c.next_try.new.gate) (g.G.Gate.cuts c.next_try.new.gate)) c.requires.engine c.next_try.ensures.tried

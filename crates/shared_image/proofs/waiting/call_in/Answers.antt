@@ -6,7 +6,7 @@ use Rattle.shared_image.proofs.waiting.call_in.Goals as goal
 pub loop-init : goal.loop-init
 loop-init g c = record {
   pass_of = c.first_try-answer.ensures.pass;
-  waiting = called (ground_in c.args.image.now) c.args.site.now c.args.call c.requires.site.number c.args.pass.now.me.0 _ _ c.args.off.now _ _ _ c.first_try-answer.ensures.called;
+  waiting = called (ground_in c.args.image.now) c.args.site.now c.args.call c.requires.site.number c.args.pass.now.me.0 _ _ _ _ c.args.off.now _ _ _ c.first_try-answer.ensures.called;
   off_is = c.first_try-answer.ensures.off;
 }
 
@@ -28,7 +28,7 @@ loop-preserved g c =
     let on : c.loop.off ≡ false = c.loop.invariant.off_is ∙ not_off c.loop.answer c.in_default.not-Off in
     record {
       pass_of = c.next_try-answer.ensures.pass;
-      waiting = waited_on (ground_in c.args.image.now) c.args.site.now c.args.call c.requires.site.number c.args.pass.now.me.0 _ _ _ 1000 _ _ _ _ _ t c.loop.invariant.waiting.taken
-          (gone_on (ground_in c.args.image.now) c.args.site.now c.args.call 1000 c.loop.off _ _ _ _ _ _ _ on c.next_try-answer.ensures.tried);
+      waiting = waited_on (ground_in c.args.image.now) c.args.site.now c.args.call c.requires.site.number c.args.pass.now.me.0 _ _ _ _ _ 1000 _ _ _ _ _ t c.loop.invariant.waiting.taken
+          (gone_on (ground_in c.args.image.now) c.args.site.now c.args.call 1000 c.loop.off _ _ _ _ _ _ _ _ _ on c.next_try-answer.ensures.tried);
       off_is = c.next_try-answer.ensures.off;
     }
