@@ -4,7 +4,6 @@
 //! replies. What is left is a session of the script's calls (`specs/Served.antt`).
 #![tactic(auto)]
 
-mod gate;
 mod job;
 mod making;
 mod serving;

@@ -1,16 +1,17 @@
 //! A thread makes the calls of its caller, one after another.
 
-ghost use Rattle.std.specs.Prelude.{◌≡◌, ℕ, ◌≤◌, ◌<◌, All, false, [], length, vec_capacity, IsTrue, slice_index_or};
+ghost use Rattle.std.specs.Prelude.{◌≡◌, ℕ, ◌≤◌, ◌<◌, All, None, false, [], length, vec_capacity, IsTrue, slice_index_or};
 ghost use Rattle.map_model.specs.Map.{is_done};
 ghost use Rattle.shared_image.specs.Engines.{IsWordCall};
 ghost use Rattle.shared_image.specs.Powered.{IsOn};
 ghost use Rattle.shared_image.specs.Calling.{IsCallerOf, Rests};
+ghost use Rattle.shared_image.specs.Waiting.{HasFoundOff};
 ghost use Rattle.serve.specs.declared.job.Job.{Job};
 ghost use Rattle.serve.specs.Jobs.{HasMade, IsReadyJob, ServesJob};
 
-use crate::gate::AlwaysOn;
 use crate::job::Job;
 use map_model::{Call, Entry, Reply};
+use outside::Fuse;
 use shared_image::{Caller, Pass, SharedImage};
 use std::marker::Sync;
 use std::sync::Wait;
@@ -29,19 +30,22 @@ fn entry_of(serial: u64, call: Call, reply: Reply, place: u64) -> Entry
     }
 }
 
-/// Makes calls in their order, and gives the pass back; whether each has its reply, which is not so where the power is off.
+/// Makes calls in their order, by a caller whose gate never cuts the power, and gives the pass back, and whether each has its reply: where one
+/// has none, the caller has found the power off.
 fn make_all<'a, R: Wait>(
     rt: &R,
-    mut caller: Caller<'a, AlwaysOn>,
+    mut caller: Caller<'a, Fuse>,
     calls: &[Call],
     told: &mut Vec<Entry>,
 ) -> (Pass, bool)
     requires caller { IsCallerOf caller.image.now caller.pass caller.site caller.call }
     requires rests { (caller.off ≡ false) × Rests caller.pass }
+    requires gate { caller.gate.left ≡ None }
     requires words { All IsWordCall calls.now }
     requires none { (caller.pass.me.0.view.own ≡ []) × (told.old.items ≡ []) }
     requires room { length calls.now ≤ vec_capacity told.old }
     ensures made { IsTrue result.1 → HasMade caller.entry.image.now calls.now caller.entry.pass.me.0 told.new.items result.0 }
+    ensures stopped { result.1 ≡ false → HasFoundOff caller.entry.pass.me.0 result.0.me.0 }
 {
     for i in 0..calls.len() {
         let call = calls[i];
@@ -62,7 +66,11 @@ fn serve_one<R: Wait>(rt: &R, image: &SharedImage, job: &mut Job)
     ensures { ServesJob image.now job.old job.new }
 {
     if let Some(pass) = job.pass.take() {
-        let caller = Caller::new(image, pass, AlwaysOn, job.number);
+        let gate = Fuse {
+            left: None,
+            cut: false,
+        };
+        let caller = Caller::new(image, pass, gate, job.number);
         let (pass, all) = make_all(rt, caller, job.calls.as_slice(), &mut job.told);
         job.pass = Some(pass);
         job.all = all;
