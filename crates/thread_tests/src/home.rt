@@ -2,6 +2,7 @@
 
 ghost use Rattle.std.specs.Prelude.{◌≡◌, ℕ, ◌+◌, ◌-◌, ◌<◌, ◌^◌, IfOk, IfSome};
 ghost use Rattle.shared_image.specs.Powered.{IsOn, IsKeeperOf, IsPassOf, callers_left};
+ghost use Rattle.shared_image.specs.Calling.{Rests};
 ghost use Rattle.thread_tests.specs.Ready.{IsReady, HoldsFirst};
 
 use image_file::{Words, from_words};
@@ -53,6 +54,7 @@ pub(crate) fn cut_off(image: &SharedImage, keeper: &mut Keeper) -> Pass
     ensures callers { callers_left keeper.new ≡ callers_left keeper.old - 1 }
     ensures pass { IsPassOf image.now result }
     ensures ready { IsReady result.me.0.view }
+    ensures rests { Rests result }
 {
     image.split_pass(keeper)
 }
