@@ -1,5 +1,5 @@
--- What is known when one seat stands for all callers.
-use Rattle.std.proofs.Common.{◌≡◌, ◌≢◌, inl, inr, ℕ, zero, suc, ◌+◌, ◌%◌, ◌<◌, ◌≤◌, List, [], ◌∷◌, ◌++◌, length, get_or, refl, sym, ap, ◌∙◌, subst, arith}
+-- What is known when one seat stands for all callers, also where these stood anywhere.
+use Rattle.std.proofs.Common.{◌≡◌, ◌≢◌, inl, inr, ℕ, zero, suc, ◌+◌, ◌%◌, ◌<◌, ◌≤◌, List, [], ◌∷◌, ◌++◌, length, get_or, Option, refl, sym, ap, ◌∙◌, subst, arith}
 use Rattle.std.specs.Prelude.{filter}
 use Rattle.std.proofs.lemmas.Bool.{cases_eq}
 use mathlib.Core.Logic.{dite}
@@ -9,6 +9,7 @@ use lib.ListN.{get_elem?}
 use Rattle.atomic_table.specs.Table.{State}
 use Rattle.map_model.specs.declared.call.Call.{Call}
 use Rattle.map_model.specs.Weave.{draws, drew_at}
+use Rattle.trace.specs.Events.{Words}
 use Rattle.world.specs.Hits.{find}
 use Rattle.segment_head.specs.HeadWord.{normal}
 use Rattle.image_layout.specs.Places.{bucket_at, buckets}
@@ -17,6 +18,7 @@ use Rattle.bucket_words.specs.Core.{core_of}
 use Rattle.world.specs.Ground.{Ground, IsCurrentIn}
 use Rattle.world.specs.Views.{Move, Owed, View, Has, At}
 use Rattle.world.specs.History.{map_now}
+use Rattle.world.specs.Media.{IsPossible, Stands}
 use Rattle.world.specs.Parts.{total, History}
 use Rattle.world.proofs.basics.Lists.{has_joined}
 use Rattle.world.specs.areas.Areas.{Area, Whole}
@@ -28,7 +30,7 @@ use Rattle.world.proofs.stepping.Rests.{rests_are_quiet, current_segments_rest}
 use Rattle.vlock.specs.declared.knows.Watch.{Watch}
 use Rattle.world.specs.Attempts.{OwesNothing}
 use Rattle.vlock.specs.Ruling.{word, all_views, IsIdle, Kept}
-use Rattle.vlock.specs.Ends.{IsEnd}
+use Rattle.vlock.specs.Ends.{IsEnd, IsPowerCut}
 use Rattle.vlock.proofs.Lists.{behind}
 
 -- ---- sums over all views
@@ -124,6 +126,44 @@ module _ (site : Ground) (s : State ℕ Watch) (id : ℕ) (k : Watch) (h : Kept 
     within = λ j v a. (let n = among s.views id k at j v a in h.holds.history.within n.0 v n.1);
     drawn = sym (sums (λ v. draws v.own) (λ v e. ap draws e)) ∙ h.holds.history.drawn;
     each_once = λ n below. sym (sums (λ v. length (filter (drew_at n) v.own)) (λ v e. ap (λ es. length (filter (drew_at n) es)) e)) ∙ h.holds.history.each_once n below;
+  }
+
+  -- ---- wherever the callers stood
+  -- what is possible by its views is so by all
+  possible : (medium : Words) → IsPossible site (word s.words) (k.view ∷ k.past) medium → IsPossible site (word s.words) (all_views s.views) medium
+  possible medium may i within = elim (may i within) [
+    | inl same ↦ inl same
+    | inr l ↦ (let n = among s.views id k at l.0 l.1 l.3 in inr (n.0, l.1, l.2, n.1, l.4, l.5))
+  ]
+
+  -- it alone has changes planned
+  its_plan : (u : View) → Has u (all_views s.views) → (call : Call) → Has call u.planned → Has call k.view.planned
+  its_plan u has = each_has (λ (v : View). (call : Call) → Has call v.planned → Has call k.view.planned) s.views
+      (λ i p a call q. dite (ℕ_discrete i id)
+      (λ (e : i ≡ id). subst (λ (z : Watch). Has call z.view.planned) (some-injective p k (sym a ∙ (ap (λ (n : ℕ). get_elem? s.views n) e ∙ at))) q)
+      (λ (ne : i ≢ id). absurd (subst (λ (calls : List Call). Has call calls) (others i p ne a).nothing.planned q)))
+      (λ i p v a in_past call q. absurd (subst (λ (calls : List Call). Has call calls) (h.past i p v a in_past).planned q)) u has
+
+  stands : (key : ℕ) (a : Option ℕ) → Stands site (all_views s.views) h.holds.log key a → Stands site (k.view ∷ k.past) h.holds.log key a
+  stands key a st = elim st [
+    | inl same ↦ inl same
+    | inr p ↦ inr (0, k.view, p.2, refl, its_plan p.1 (has_at (all_views s.views) p.0 p.1 p.3) p.2 p.4, p.5, p.6)
+  ]
+
+  pub power_cut : IsPowerCut site (word s.words) (k.view ∷ k.past)
+  power_cut = record {
+    log = h.holds.log;
+    history = history;
+    media = λ medium may. record {
+      structure = h.holds.structure.sound medium (possible medium may);
+      table = h.holds.media.table medium (possible medium may);
+      stands = λ key. stands key (find site.shape medium key) (h.holds.media.stands medium (possible medium may) key);
+    };
+    newest = λ i within. inl refl;
+    legal = λ start same. (entries_legal site (word s.words) (k.view ∷ k.past) h.holds.log history start same).0;
+    replay_is = λ start same. (entries_legal site (word s.words) (k.view ∷ k.past) h.holds.log history start same).1;
+    planned = λ j v call a has. (let n = among s.views id k at j v a in h.holds.plans.fits n.0 v call n.1 has);
+    taken_in = λ j v a. h.past id k v at (has_at k.past j v a);
   }
 
   module _ (nothing : OwesNothing k.view) where

@@ -1,9 +1,10 @@
--- How an image is opened, and what is known of it when all callers have ended.
-use Rattle.std.specs.Prelude.{◌≡◌, ◌⊎◌, ℕ, ◌^◌, ◌<◌, ◌≤◌, List, [], length, map}
+-- How an image is opened, and what is known of it when all callers have ended, or where its power was cut.
+use Rattle.std.specs.Prelude.{◌≡◌, ◌⊎◌, ℕ, suc, ◌^◌, ◌<◌, ◌≤◌, List, [], length, map}
 use Rattle.std.specs.FinMap.{get}
+use Rattle.map_model.specs.declared.call.Call.{Call}
 use Rattle.map_model.specs.declared.entry.Entry.{Entry}
-use Rattle.map_model.specs.declared.entry.Reply.TheVariants.{Full, Spent}
-use Rattle.map_model.specs.Map.{Map}
+use Rattle.map_model.specs.declared.entry.Reply.TheVariants.{Done, Full, Spent}
+use Rattle.map_model.specs.Map.{Map, key_of}
 use Rattle.map_model.specs.Weave.{weave}
 use Rattle.map_model.specs.Legal.{replay, IsLegal}
 use Rattle.trace.specs.Events.{Words}
@@ -14,8 +15,10 @@ use Rattle.world.specs.Claims.{HasSoundFrame}
 use Rattle.world.specs.Hits.{find}
 use Rattle.world.specs.Ground.{Ground, IsGround, IsStructured, IsCurrentIn, HasSpentLock}
 use Rattle.world.specs.Views.{View, Has, At}
-use Rattle.world.specs.History.{Log, map_now}
+use Rattle.world.specs.History.{Log, map_now, reply_by}
+use Rattle.world.specs.Media.{IsPossible}
 use Rattle.world.specs.Parts.{History}
+use Rattle.world.specs.StepLaws.{IsGoodMedium}
 use Rattle.world.specs.areas.Beginning.{IsRepaired}
 use Rattle.world.specs.areas.Kinds.{Guard, HasGuard, guard_word}
 use Rattle.world.specs.areas.Worlds.{IsWell}
@@ -59,6 +62,22 @@ pub record IsEnd (site : Ground) (words : Words) (views : List View) : Type 0 wh
   -- where it was replied that no slot is free, none is that was free at the start
   pub spent : (j : ℕ) (v : View) (e : Entry) → At views j v → Has e v.own → e.reply ≡ Spent → (2 ^ 63 ≤ length log) ⊎ HasSpentLock site.shape words
   pub full : (j : ℕ) (v : View) (e : Entry) → At views j v → Has e v.own → e.reply ≡ Full → HasNoFreeSlot site words
+
+-- THE POWER WAS CUT, and callers stood anywhere: of these views, whose first is that of who took the others in, there is one history, and whatever the
+-- cut may leave of these words is good over it
+pub record IsPowerCut (site : Ground) (words : Words) (views : List View) : Type 0 where
+  pub log : Log
+  pub history : History site words views log
+  pub media : (medium : Words) → IsPossible site words views medium → IsGoodMedium site views log medium
+  -- and the words themselves may be left
+  pub newest : IsPossible site words views words
+  -- their replies are one legal history of a plain map, whose replay has what the history gives
+  pub legal : (start : Map) → ((k : ℕ) → get start k ≡ site.start k) → IsLegal start (map (λ v. v.own) views)
+  pub replay_is : (start : Map) → ((k : ℕ) → get start k ≡ site.start k) → (k : ℕ) → get (replay start (weave (map (λ v. v.own) views))) k ≡ map_now site.start log k
+  -- a change that is stored and not drawn is still to be answered as done
+  pub planned : (j : ℕ) (v : View) (call : Call) → At views j v → Has call v.planned → Done ≡ reply_by (map_now site.start log (key_of call)) call
+  -- and the views that were taken in owe nothing: what may be left beside the words themselves is so by the first view alone
+  pub taken_in : (j : ℕ) (v : View) → At views (suc j) v → OwesNothing v
 
 -- an opening of what was left: the words of the image, with 0 in those behind it, for callers that are few enough
 pub record IsOfWhatWasLeft (site : Ground) (words : Words) (key : Opening) : Type 0 where

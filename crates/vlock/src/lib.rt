@@ -2,7 +2,7 @@
 //! invariant of the world holds.
 //!
 //! `table` has the rule of the shared words, `knows` what a seat knows, `steps` the events, `seats` how seats are cut in
-//! two and joined, `find` how the segment of a hash is found, `bucket` how a bucket is read and locked, and `ends` how an image is opened and closed.
+//! two and joined, `find` how the segment of a hash is found, `bucket` how a bucket is read and locked, and `ends` how an image is opened and how it ends.
 #![tactic(auto)]
 
 mod bucket;
@@ -14,7 +14,7 @@ mod steps;
 mod table;
 
 pub use bucket::{LockReply, ReadReply, read_bucket, try_lock, unlock};
-pub use ends::{OwnedImage, close, ends_open_again, open};
+pub use ends::{OwnedImage, close, cut, ends_open_again, open};
 pub use find::{FindReply, find_segment};
 pub use knows::Watch;
 pub use seats::{CutsNote, CutsPass, TakesIn, split_note, split_pass, take_in};
