@@ -37,7 +37,7 @@ made shape ws (suc n) =
     let c = close_after shape ws [] n in
     ap (λ (f : Words). after (event_of shape (wanted c.op) (c.words (word_of shape (wanted c.op))) 0) f) (made shape ws n)
 
-length_taken : (n : ℕ) (xs : List ℕ) → n ≤ length xs → length (take n xs) ≡ n
+pub length_taken : (n : ℕ) (xs : List ℕ) → n ≤ length xs → length (take n xs) ≡ n
 length_taken zero [] h = refl
 length_taken zero (x ∷ xs) h = refl
 length_taken (suc n) [] h = absurd (omega (arith, h))

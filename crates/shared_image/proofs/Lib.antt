@@ -5,5 +5,6 @@ pub mod ClosesOn
 pub mod Opens
 pub mod TakenIn
 pub mod Finished
+pub mod CutShort
 pub mod Waited
 pub use Rattle.restart_op.proofs.restarts.Beginning

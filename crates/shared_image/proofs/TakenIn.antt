@@ -1,5 +1,5 @@
 -- What the keeper knows that has taken in all passes.
-use Rattle.std.proofs.Common.{◌≡◌, ℕ, suc, ◌+◌, ◌<◌, List, [], ◌∷◌, ◌++◌, refl, sym, ap, ◌∙◌, subst, arith, append_assoc}
+use Rattle.std.proofs.Common.{◌≡◌, ℕ, suc, ◌+◌, ◌<◌, List, [], ◌∷◌, ◌++◌, refl, sym, ap, ◌∙◌, arith, append_assoc}
 use Rattle.std.specs.Prelude.{map, All}
 use Rattle.atomic_table.specs.declared.shared.Seat.{Seat}
 use Rattle.map_model.specs.declared.entry.Entry.{Entry}
@@ -74,10 +74,3 @@ with_more p (y ∷ xs) x = with_more (both p y.me.0) xs x
 
 pub stands_with : (p : Watch) (xs : List (Seat ℕ Watch)) → 0 < p.view.callers → 0 < (with_all p xs).view.callers
 stands_with p xs some = let c = callers_with p xs in omega (arith, c, some)
-
-in_midst : (P : Seat ℕ Watch → Type 0) (xs : List (Seat ℕ Watch)) (y : Seat ℕ Watch) (ys : List (Seat ℕ Watch)) → All P (xs ++ y ∷ ys) → P y
-in_midst P [] y ys all = all 0 y (omega arith)
-in_midst P (x ∷ xs) y ys all = in_midst P xs y ys (λ k d low. all (suc k) d (omega (arith, low)))
-
-pub done_in_midst : (image : SharedImage) (all xs : List (Seat ℕ Watch)) (y : Seat ℕ Watch) (ys : List (Seat ℕ Watch)) → All (IsDone image) all → xs ++ y ∷ ys ≡ all → IsDone image y
-done_in_midst image all xs y ys done is = in_midst (IsDone image) xs y ys (subst (λ (zs : List (Seat ℕ Watch)). All (IsDone image) zs) (sym is) done)

@@ -1,6 +1,7 @@
 pub mod Memory
 pub mod Powered
 pub mod Closed
+pub mod Cutting
 pub mod Calling
 pub mod Waiting
 pub use Rattle.shared_call.specs.Engines

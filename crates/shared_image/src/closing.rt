@@ -10,6 +10,7 @@ ghost use Rattle.shared_image.specs.Closed.{IsClosedFrom, IsDone, callers_of, re
 
 use crate::image::{Keeper, Pass, SharedImage};
 use crate::memory::do_event;
+use crate::taking::take_all;
 use image_layout::Geometry;
 use op_core::{Machine, Want};
 use restart_op::CloseOp;
@@ -53,10 +54,7 @@ pub fn close(image: SharedImage, keeper: Keeper, passes: Vec<Pass>) -> Vec<u64>
         started: _,
         room,
     } = image;
-    let Keeper { mut seat } = keeper;
-    for pass in passes {
-        vlock::take_in(&table.shared, &mut seat, pass);
-    }
+    let seat = take_all(&table.shared, keeper, passes);
     let mut words = vlock::close(table, seat, room);
     each_fits(words.as_slice());
     run_close(&mut words, geometry);
