@@ -176,6 +176,7 @@ module _ (site : Ground) (before newest : List ℕ) (p : Watch) (passes : List (
     legal = λ start same. subst (λ (replies : List (List Entry)). IsLegal start replies) own (cut.legal start same);
     sound = sound;
     left = λ medium may start same. subst (λ (replies : List (List Entry)). IsLeft site.shape (slice_index medium) (replay start (weave replies)) (planned_in passes)) own (is_left medium may start same);
+    front = λ medium may. (good medium may).structure.fixed;
     newest_may = newest_left;
   }
 

@@ -1,8 +1,8 @@
 -- What a power cut may leave of a shared image, wherever its callers stood.
-use Rattle.std.specs.Prelude.{◌≡◌, ℕ, ◌^◌, ◌<◌, List, [], ◌∷◌, ◌++◌, length, map, slice_index}
+use Rattle.std.specs.Prelude.{◌≡◌, ◌≢◌, ℕ, ◌^◌, ◌<◌, List, [], ◌∷◌, ◌++◌, length, map, slice_index}
 use Rattle.std.specs.FinMap.{get}
 use Rattle.atomic_table.specs.declared.shared.Seat.{Seat}
-use Rattle.image_layout.specs.Places.{words_of}
+use Rattle.image_layout.specs.Places.{block, root_word, words_of}
 use Rattle.map_model.specs.declared.call.Call.{Call}
 use Rattle.map_model.specs.Map.{Map}
 use Rattle.map_model.specs.Weave.{weave}
@@ -38,5 +38,7 @@ pub record LeavesGoodMedia (site : Ground) (passes : List (Seat ℕ Watch)) (new
   pub sound : (medium : List ℕ) → MayBeLeft site passes newest medium → IsSoundImage site.shape medium
   pub left : (medium : List ℕ) → MayBeLeft site passes newest medium → (start : Map) → ((k : ℕ) → get start k ≡ site.start k)
       → IsLeft site.shape (slice_index medium) (replay start (weave (replies_of passes))) (planned_in passes)
+  -- each has the front of the words at power-on, but for the depth of the root: so the marker of a clean image is not set
+  pub front : (medium : List ℕ) → MayBeLeft site passes newest medium → (i : ℕ) → i < block → i ≢ root_word → slice_index medium i ≡ site.front i
   -- the newest words may be left
   pub newest_may : MayBeLeft site passes newest newest

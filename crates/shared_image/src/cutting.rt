@@ -12,7 +12,7 @@ use crate::taking::take_all;
 use word_bits::each_fits;
 
 /// Ends an image where its power was cut: the keeper takes all passes in, wherever their callers stood, in the midst of calls, splits and
-/// repairs too. It gives the newest words of the image, which are one of the media that the cut may leave.
+/// repairs too. It gives words of the image which are one of the media that the cut may leave, and beside which each of these is good.
 pub fn cut(image: SharedImage, keeper: Keeper, passes: Vec<Pass>) -> Vec<u64>
     requires on { IsOn image }
     requires keeper { IsKeeperOf image keeper }
