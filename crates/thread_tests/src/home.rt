@@ -1,7 +1,7 @@
 //! A small image with the pair 5, 7, and what passes do at the home bucket of key 5.
 
 ghost use Rattle.std.specs.Prelude.{◌≡◌, ℕ, ◌+◌, ◌-◌, ◌<◌, ◌^◌, IfOk, IfSome};
-ghost use Rattle.shared_image.specs.Powered.{IsOn, IsKeeperOf, IsPassOf, callers_left};
+ghost use Rattle.shared_image.specs.Powered.{IsOn, IsKeeperOf, IsPassOf, ground_in, callers_left};
 ghost use Rattle.shared_image.specs.Calling.{Rests};
 ghost use Rattle.thread_tests.specs.Ready.{IsReady, HoldsFirst};
 
@@ -34,6 +34,7 @@ pub(crate) fn shared(alloc: Global, callers: u64) -> Result<(SharedImage, Keeper
     requires { callers + 1 < 2 ^ 32 }
     ensures on { IfOk result (λ made. IsOn made.0 × IsKeeperOf made.0 made.1) }
     ensures callers { IfOk result (λ made. callers_left made.1 ≡ callers + 1) }
+    ensures all { IfOk result (λ made. (ground_in made.0).callers ≡ callers + 1) }
 {
     let mut words = vec![in alloc; 0u64; ONE_SEGMENT]?;
     for (at, value) in PAIR {
@@ -55,6 +56,7 @@ pub(crate) fn cut_off(image: &SharedImage, keeper: &mut Keeper) -> Pass
     ensures pass { IsPassOf image.now result }
     ensures ready { IsReady result.me.0.view }
     ensures rests { Rests result }
+    ensures one { result.me.0.view.callers ≡ 1 }
 {
     image.split_pass(keeper)
 }
