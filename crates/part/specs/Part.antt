@@ -19,7 +19,7 @@ use Rattle.world.specs.Invariant.{Holds}
 use Rattle.world.specs.StepKinds.{StepKind, of_call, wanted_of, view_by, MayTake}
 use Rattle.world.specs.StepLaws.{IsPublishingStep}
 use Rattle.part.specs.Doings.{Doings}
-use Rattle.part.specs.Outcomes.{Outcome, replied, stale, off, reply_of}
+use Rattle.part.specs.Outcomes.{Outcome, replied, stale, need_split, off, finished, reply_of}
 use Rattle.part.specs.Asks.{IsWithin, PutsWord}
 
 pub record Part (M : Type 0) : Type 1 where
@@ -156,3 +156,16 @@ module _ {M : Type 0} (p : Part M) where
     pub relies : KnowsStale
     pub hands : HandsOnAtEnd
     pub power : KeepsPower
+
+  -- ---- beside these laws: how a part may end
+  -- it never ends as one that has done its work
+  abbrev pub NeverFinished : Type 0
+  NeverFinished = (op : M) → p.outcome op ≡ Some finished → ⊥
+
+  -- nor with a segment that is to be split
+  abbrev pub NeverSplits : Type 0
+  NeverSplits = (op : M) (segment : ℕ) → p.outcome op ≡ Some (need_split segment) → ⊥
+
+  -- where it wants nothing more, its outcome is the one that is told of it
+  abbrev pub EndsAsTold : (M → Option Outcome) → Type 0
+  EndsAsTold told = (op : M) → p.wanted op ≡ Done → p.outcome op ≡ told op
