@@ -35,7 +35,7 @@ use Rattle.world.specs.StepLaws.{IsPublishingStep}
 use Rattle.world.proofs.calls.deeds.Calls.{has_no_whole}
 use Rattle.world.proofs.mild.Bridging.{callers_know}
 use Rattle.part.specs.Outcomes.{Outcome, reply_of}
-use Rattle.part.specs.Part.{LeavesKnown, IsPart}
+use Rattle.part.specs.Part.{LeavesKnown, IsPart, EndsAsTold}
 use Rattle.part.specs.Asks.{IsWithin, PutsWord}
 use Rattle.phase.specs.declared.take.Take.{Take}
 use Rattle.phase.specs.declared.take.Take.TheVariants.{Look, Try}
@@ -61,7 +61,7 @@ use Rattle.enclose_op.specs.EnclosePart.{enclose_part, BeginsAsPart, BeginsUndec
 use Rattle.enclose_op.proofs.Places.{bucket_is, head_is}
 use Rattle.enclose_op.proofs.Held.{no_whole}
 use Rattle.enclose_op.specs.GiveLaws.{left_of}
-use Rattle.enclose_op.specs.Ends.{outcome_told, EndsAsSaid}
+use Rattle.enclose_op.specs.Ends.{outcome_told}
 use Rattle.enclose_op.proofs.Backing.{give_falls, give_few, give_most}
 use Rattle.enclose_op.proofs.Giving.{give_some, give_answer, give_answered, give_flushes, give_puts, give_makes, give_power, give_own, give_seen, give_plan, give_whole, guard_low, lock_low, give_in}
 use Rattle.enclose_op.proofs.Stepping.{wants, may, stands}
@@ -425,5 +425,5 @@ ends_at e (Give give end) done = absurd (give_some e give done)
 ends_at e (Ended end) done = refl
 ends_at e Whole done = refl
 
-pub ends_as_said : EndsAsSaid
-ends_as_said op done = ends_at op.enclosed op.step done
+pub ends_as_told : EndsAsTold enclose_part (λ op. outcome_told (end_at op.step))
+ends_as_told op done = ends_at op.enclosed op.step done

@@ -1,9 +1,10 @@
 //! The laws of an enclosing. The functions do nothing: each stands for the law that its contract says.
 
-ghost use Rattle.part.specs.Part.{IsPart};
+ghost use Rattle.part.specs.Part.{IsPart, EndsAsTold};
 ghost use Rattle.part.specs.Splits.{EndsBySplitCause};
 ghost use Rattle.enclose_op.specs.GiveLaws.{GiveStands};
-ghost use Rattle.enclose_op.specs.Ends.{EndsAsSaid};
+ghost use Rattle.enclose_op.specs.Steps.{end_at};
+ghost use Rattle.enclose_op.specs.Ends.{outcome_told};
 ghost use Rattle.enclose_op.specs.EnclosePart.{enclose_part, segment_of, BeginsAsPart, BeginsUndecided, BeginsRemembering, HandsOnWhole, HandsOnRemembered, FindsRoom, KeepsRoom, SaysOfHeld};
 
 /// The enclosing of a segment is a part of a call, beside any other callers: it takes the guard and the 66 locks of a segment that its
@@ -43,5 +44,5 @@ pub fn all_is_given_back()
 
 /// Where an enclosing wants nothing more, the end that it tells is the outcome that was decided; of a segment that is handed on nothing is.
 pub fn ends_tell()
-    ensures { EndsAsSaid }
+    ensures { EndsAsTold enclose_part (λ op. outcome_told (end_at op.step)) }
 {}

@@ -1,13 +1,11 @@
 -- A displacement as a part of a call: where no record can move it keeps its locks, and another part goes on.
-use Rattle.std.specs.Prelude.{◌≡◌, ℕ, ◌-◌, ◌^◌, ⊤, true, false, Some, None, slice_index}
-use Rattle.op_core.specs.declared.want.Want.TheVariants.{Done}
+use Rattle.std.specs.Prelude.{◌≡◌, ◌-◌, ◌^◌, ⊤, true, false, None, slice_index}
 use Rattle.map_model.specs.declared.call.Call.{Call}
 use Rattle.world.specs.declared.site.Site.{Site}
 use Rattle.world.specs.Ground.{Ground}
 use Rattle.world.specs.Views.{View, Has}
 use Rattle.world.specs.StepKinds.{of_call}
 use Rattle.part.specs.Doings.{Doings}
-use Rattle.part.specs.Outcomes.{need_split, finished}
 use Rattle.part.specs.Part.{Part}
 use Rattle.part.specs.Room.{NothingMovesOn}
 use Rattle.phase.specs.declared.role.Role.TheVariants.{Next}
@@ -27,9 +25,9 @@ use Rattle.move_op.specs.declared.step.MoveStep.TheVariants.{Lock, Fill, CountSp
 use Rattle.move_op.specs.declared.op.MoveOp.{MoveOp}
 use Rattle.move_op.specs.Shifts.{target_of}
 use Rattle.move_op.specs.Order.{IsInOrder}
-use Rattle.move_op.specs.Steps.{begun, wanted, taken, lock_of, end_at, is_without_move}
+use Rattle.move_op.specs.Steps.{begun, wanted, taken, lock_of, is_without_move}
 use Rattle.move_op.specs.Left.{most_events, left_at, most_waiting, waiting_at, HasMadeAt}
-use Rattle.move_op.specs.Fits.{kind_at, MayMakeRoom, MoveStands, outcome_of, outcome_at}
+use Rattle.move_op.specs.Fits.{kind_at, MayMakeRoom, MoveStands, outcome_at}
 
 -- ---- what it remembers of what its attempt did
 module _ (site : Ground) (kept : Kept) (did : Doings) where
@@ -97,15 +95,3 @@ pub record MoveHandsOnAll : Type 0 where
 abbrev pub MovesInOrder : Type 0
 MovesInOrder = (site : Ground) (here : Site) (call : Call) (op : MoveOp) (v : View) → MoveStands site here call op v → (shift : Shift) (leg : Leg) (make : MakeStep) → op.step ≡ Make shift leg make
     → IsInOrder op.kept shift
-
--- it never ends but with a reply, or to be made again
-abbrev pub MoveNeverFinished : Type 0
-MoveNeverFinished = (op : MoveOp) → outcome_at op.step ≡ Some finished → ⊥
-
--- nor with a segment that is to be split
-abbrev pub MoveNeverSplits : Type 0
-MoveNeverSplits = (op : MoveOp) (segment : ℕ) → outcome_at op.step ≡ Some (need_split segment) → ⊥
-
--- at its end it tells its outcome
-abbrev pub MoveEndsAsSaid : Type 0
-MoveEndsAsSaid = (op : MoveOp) → wanted op ≡ Done → outcome_at op.step ≡ outcome_of (end_at op.step)

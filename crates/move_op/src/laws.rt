@@ -1,8 +1,10 @@
 //! The laws of a displacement. The functions do nothing: each stands for the law that its contract says.
 
-ghost use Rattle.part.specs.Part.{IsPart};
+ghost use Rattle.part.specs.Part.{IsPart, NeverFinished, NeverSplits, EndsAsTold};
 ghost use Rattle.part.specs.Causes.{EndsByCause};
-ghost use Rattle.move_op.specs.MovePart.{move_part, MoveBeginsAsPart, MoveBeginsRemembering, MoveBeginsUndecided, MoveHandsOnAll, MovesInOrder, MoveNeverFinished, MoveNeverSplits, MoveEndsAsSaid};
+ghost use Rattle.move_op.specs.MovePart.{move_part, MoveBeginsAsPart, MoveBeginsRemembering, MoveBeginsUndecided, MoveHandsOnAll, MovesInOrder};
+ghost use Rattle.move_op.specs.Steps.{end_at};
+ghost use Rattle.move_op.specs.Fits.{outcome_of};
 ghost use Rattle.move_op.specs.Replies.{MoveRepliesAsSeen};
 
 /// A displacement is a part of a call, by the laws of `part`: each event is of its kind, which its
@@ -18,8 +20,8 @@ pub fn moves_are_parts()
     ensures undecided { MoveBeginsUndecided }
     ensures remembers { MoveBeginsRemembering }
     ensures hands_on { MoveHandsOnAll }
-    ensures finished { MoveNeverFinished }
-    ensures splits { MoveNeverSplits }
+    ensures finished { NeverFinished move_part }
+    ensures splits { NeverSplits move_part }
 {}
 
 /// Where a record is stored, the one that moves is the lowest that may, by the words that are kept: forward where one may move on to the
@@ -36,5 +38,5 @@ pub fn replies_are_as_seen()
 
 /// Where a displacement wants nothing more, the end that it tells is the outcome that was decided.
 pub fn ends_tell()
-    ensures { MoveEndsAsSaid }
+    ensures { EndsAsTold move_part (λ op. outcome_of (end_at op.step)) }
 {}

@@ -11,7 +11,7 @@ use Rattle.world.specs.Views.{View, Has}
 use Rattle.world.specs.Attempts.{HoldsOnly}
 use Rattle.world.specs.StepKinds.{of_call}
 use Rattle.part.specs.Doings.{Doings, nothing_done}
-use Rattle.part.specs.Outcomes.{Outcome, replied, again, stale, need_split, off, finished}
+use Rattle.part.specs.Outcomes.{Outcome, replied, again, stale, off}
 use Rattle.part.specs.Part.{Part}
 use Rattle.part.specs.Causes.{MustVisit}
 use Rattle.phase.specs.declared.load.Load.{Load}
@@ -132,11 +132,3 @@ BeginsRemembering = (site : Ground) (here : Site) (key : ℕ) → Remembers site
 -- and at its end it tells its outcome
 abbrev pub EndsAsSaid : Type 0
 EndsAsSaid = (op : ReadOp) → wanted op ≡ Done → (end : ReadEnd) × (op.step ≡ Ended end)
-
--- it never ends but with a reply, or to be made again, stale or off
-abbrev pub NeverFinished : Type 0
-NeverFinished = (op : ReadOp) → outcome_in op.step ≡ Some finished → ⊥
-
--- nor with a segment that is to be split
-abbrev pub NeverSplits : Type 0
-NeverSplits = (op : ReadOp) (segment : ℕ) → outcome_in op.step ≡ Some (need_split segment) → ⊥

@@ -4,9 +4,9 @@ ghost use Rattle.std.specs.Prelude.{◌≤◌};
 ghost use Rattle.world.specs.Ground.{Ground as Image};
 ghost use Rattle.world.specs.Views.{View};
 ghost use Rattle.read_op.specs.declared.op.ReadOp.{ReadOp};
-ghost use Rattle.part.specs.Part.{IsPart};
+ghost use Rattle.part.specs.Part.{IsPart, NeverFinished, NeverSplits};
 ghost use Rattle.part.specs.Causes.{EndsByCause};
-ghost use Rattle.read_op.specs.GetPart.{get_part, BeginsAsPart, BeginsUndecided, BeginsRemembering, EndsAsSaid, NeverFinished, NeverSplits};
+ghost use Rattle.read_op.specs.GetPart.{get_part, BeginsAsPart, BeginsUndecided, BeginsRemembering, EndsAsSaid};
 ghost use Rattle.read_op.specs.Fits.{BeginsSuited, WantsByKind, MayStep, KeepsSuits};
 ghost use Rattle.read_op.specs.Budget.{most_events, left, Falls, EndsInTime, AsksWithin};
 ghost use Rattle.read_op.specs.Causes.{ReadsAlone, AnswersBySame, BusyIsAnothers, NeverBusy, NeverStale};
@@ -42,8 +42,8 @@ pub fn gets_are_parts()
     ensures undecided { BeginsUndecided }
     ensures remembers { BeginsRemembering }
     ensures ends { EndsAsSaid }
-    ensures finished { NeverFinished }
-    ensures splits { NeverSplits }
+    ensures finished { NeverFinished get_part }
+    ensures splits { NeverSplits get_part }
 {
     ends_in_time();
     asks_within();

@@ -4,23 +4,24 @@ use Rattle.std.proofs.lemmas.Option.{none-some, same_Some}
 use Rattle.op_core.specs.declared.want.Ans.{Ans}
 use Rattle.op_core.specs.declared.want.Ans.TheVariants.{Passed}
 use Rattle.part.specs.Outcomes.{Outcome, need_split, finished}
+use Rattle.part.specs.Part.{NeverFinished, EndsAsTold}
 use Rattle.phase.specs.declared.role.Role.{Role}
 use Rattle.phase.specs.declared.held.Held.{Held}
 use Rattle.phase.specs.declared.kept.Kept.{Kept}
 use Rattle.phase.specs.Helds.{give_next, given}
 use Rattle.release_op.specs.declared.op.ReleaseStep.{ReleaseStep}
 use Rattle.release_op.specs.declared.op.ReleaseStep.TheVariants.{Begin, Give, Ended}
-use Rattle.release_op.specs.Steps.{given_by, giving, held_in, next_in, end_at}
-use Rattle.release_op.specs.ReleasePart.{outcome_at}
-use Rattle.release_op.specs.Ends.{outcome_of, EndsAsSaid, TellsNoOther, NeverFinished}
+use Rattle.release_op.specs.Steps.{given_by, giving, held_in, next_in, end_at, end_of}
+use Rattle.release_op.specs.ReleasePart.{outcome_at, release_part}
+use Rattle.release_op.specs.Ends.{outcome_of, TellsNoOther}
 
 ends_at : (kept : Kept) (s : ReleaseStep) → outcome_at kept s ≡ outcome_of (end_at kept s)
 ends_at kept Begin = refl
 ends_at kept (Give held) = refl
 ends_at kept Ended = refl
 
-pub ends_as_said : EndsAsSaid
-ends_as_said op done = ends_at op.kept op.step
+pub ends_as_told : EndsAsTold release_part (λ op. outcome_of (end_of op))
+ends_as_told op done = ends_at op.kept op.step
 
 -- ---- no other
 pub no_other_at : (kept : Kept) (s : ReleaseStep) (outcome : Outcome) → outcome_at kept s ≡ Some outcome → outcome ≡ need_split kept.segment
@@ -31,7 +32,7 @@ no_other_at kept Ended outcome some = sym (same_Some (need_split kept.segment) o
 pub tells_no_other : TellsNoOther
 tells_no_other op outcome some = no_other_at op.kept op.step outcome some
 
-pub never_finished : NeverFinished
+pub never_finished : NeverFinished release_part
 never_finished op some = absurd (let same = no_other_at op.kept op.step finished some in cc)
 
 -- ---- what is decided stays

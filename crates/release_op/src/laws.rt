@@ -1,9 +1,10 @@
 //! The laws of a release. The functions do nothing: each stands for the law that its contract says.
 
-ghost use Rattle.part.specs.Part.{IsPart};
+ghost use Rattle.part.specs.Part.{IsPart, NeverFinished, EndsAsTold};
 ghost use Rattle.part.specs.Causes.{EndsByCause};
 ghost use Rattle.release_op.specs.ReleasePart.{release_part, BeginsAsPart, BeginsRemembering, BeginsUndecided};
-ghost use Rattle.release_op.specs.Ends.{EndsAsSaid, NeverFinished, TellsNoOther};
+ghost use Rattle.release_op.specs.Steps.{end_of};
+ghost use Rattle.release_op.specs.Ends.{outcome_of, TellsNoOther};
 ghost use Rattle.release_op.specs.Split.{NeedsSplitNow, LeavesThere};
 
 /// An insert that found no slot, nothing to move, and both stash buckets full, gives its locks back as a part of a call, one after
@@ -16,7 +17,7 @@ pub fn releases_are_parts()
     ensures begins { BeginsAsPart }
     ensures remembers { BeginsRemembering }
     ensures undecided { BeginsUndecided }
-    ensures finished { NeverFinished }
+    ensures finished { NeverFinished release_part }
 {}
 
 /// Where an event of a release decides that a segment is to be split, there is no room in it for the key by the newest words, beside any
@@ -30,5 +31,5 @@ pub fn releases_find_no_room()
 
 /// Where a release wants nothing more, the end that it tells is the outcome that was decided.
 pub fn ends_tell()
-    ensures { EndsAsSaid }
+    ensures { EndsAsTold release_part (λ op. outcome_of (end_of op)) }
 {}

@@ -1,6 +1,7 @@
 -- At its end it tells its outcome.
 use Rattle.std.proofs.Common.{◌≡◌, refl}
 use Rattle.op_core.specs.declared.want.Want.TheVariants.{Done}
+use Rattle.part.specs.Part.{EndsAsTold}
 use Rattle.phase.specs.declared.take.Take.TheVariants as take
 use Rattle.phase.specs.declared.make.Make.TheVariants.{Key, Value, Fingers, FlushFingers, FlushRecord, FenceRecord, Publish, FlushPublished, FencePublished}
 use Rattle.phase.specs.declared.kept.Kept.{Kept}
@@ -12,7 +13,7 @@ use Rattle.stash_op.specs.declared.step.StashStep.TheVariants.{Lock, Fill, Note,
 use Rattle.stash_op.specs.declared.step.StashStep.TheVariants as step
 use Rattle.stash_op.specs.Steps.{wanted_in, end_at}
 use Rattle.stash_op.specs.Fits.{outcome_of, outcome_at}
-use Rattle.stash_op.specs.Ends.{EndsAsSaid}
+use Rattle.stash_op.specs.StashPart.{stash_part}
 
 ends_at : (kept : Kept) (seen : Seen) (at : StashStep) → wanted_in kept seen at ≡ Done → outcome_at at ≡ outcome_of (end_at at)
 ends_at kept seen (Ended end) done = refl
@@ -35,5 +36,5 @@ ends_at kept seen (Note note.Fingers) done = absurd (let no = done in cc)
 ends_at kept seen Draw done = absurd (let no = done in cc)
 ends_at kept seen CountSpent done = absurd (let no = done in cc)
 
-pub ends_as_said : EndsAsSaid
-ends_as_said op done = ends_at op.kept op.stage.seen op.stage.step done
+pub ends_as_told : EndsAsTold stash_part (λ op. outcome_of (end_at op.stage.step))
+ends_as_told op done = ends_at op.kept op.stage.seen op.stage.step done

@@ -3,5 +3,4 @@ pub mod Steps
 pub mod Left
 pub mod Fits
 pub mod StashPart
-pub mod Ends
 pub mod Replies

@@ -1,5 +1,5 @@
 -- A record that comes to the stash, as a part of a call: where both stash buckets are full its locks are kept, and another part goes on.
-use Rattle.std.specs.Prelude.{◌≡◌, ℕ, ◌-◌, ◌^◌, ◌<◌, ⊤, true, false, None, Some}
+use Rattle.std.specs.Prelude.{◌≡◌, ◌-◌, ◌^◌, ◌<◌, ⊤, true, false, None}
 use Rattle.map_model.specs.declared.call.Call.{Call}
 use Rattle.map_model.specs.Changes.{call_of}
 use Rattle.world.specs.declared.site.Site.{Site}
@@ -7,7 +7,6 @@ use Rattle.world.specs.Ground.{Ground}
 use Rattle.world.specs.Views.{View, Has}
 use Rattle.world.specs.StepKinds.{of_call}
 use Rattle.part.specs.Doings.{Doings}
-use Rattle.part.specs.Outcomes.{need_split, finished}
 use Rattle.part.specs.Part.{Part}
 use Rattle.phase.specs.declared.role.Role.{Role}
 use Rattle.phase.specs.declared.role.Role.TheVariants as place
@@ -118,11 +117,3 @@ pub record RemembersFull (site : Ground) (kept : Kept) (did : Doings) : Type 0 w
 
 abbrev pub HandsOnRemembering : Type 0
 HandsOnRemembering = (site : Ground) (op : StashOp) (did : Doings) → needs_split op.stage.step ≡ true → stash_part.Remembers site op did → RemembersFull site (kept_of op) did
-
--- it never ends but with a reply, or to be made again
-abbrev pub NeverFinished : Type 0
-NeverFinished = (op : StashOp) → outcome_at op.stage.step ≡ Some finished → ⊥
-
--- nor with a segment that is to be split: where the stash is full it hands on, undecided
-abbrev pub NeverSplits : Type 0
-NeverSplits = (op : StashOp) (segment : ℕ) → outcome_at op.stage.step ≡ Some (need_split segment) → ⊥

@@ -1,9 +1,10 @@
 //! The laws of a record that comes to the stash. The functions do nothing: each stands for the law that its contract says.
 
-ghost use Rattle.part.specs.Part.{IsPart};
+ghost use Rattle.part.specs.Part.{IsPart, NeverFinished, NeverSplits, EndsAsTold};
 ghost use Rattle.part.specs.Causes.{EndsByCause};
-ghost use Rattle.stash_op.specs.StashPart.{stash_part, BeginsAsPart, BeginsRemembering, BeginsUndecided, HandsOnAll, HandsOnRemembering, NeverFinished, NeverSplits};
-ghost use Rattle.stash_op.specs.Ends.{EndsAsSaid};
+ghost use Rattle.stash_op.specs.StashPart.{stash_part, BeginsAsPart, BeginsRemembering, BeginsUndecided, HandsOnAll, HandsOnRemembering};
+ghost use Rattle.stash_op.specs.Steps.{end_at};
+ghost use Rattle.stash_op.specs.Fits.{outcome_of};
 ghost use Rattle.stash_op.specs.Replies.{RepliesAsSeen};
 
 /// A record that comes to the stash is a part of a call, by the laws of `part`: each event is of its kind, which its caller's view
@@ -19,8 +20,8 @@ pub fn stashes_are_parts()
     ensures undecided { BeginsUndecided }
     ensures hands_on { HandsOnAll }
     ensures hands_memory { HandsOnRemembering }
-    ensures finished { NeverFinished }
-    ensures splits { NeverSplits }
+    ensures finished { NeverFinished stash_part }
+    ensures splits { NeverSplits stash_part }
 {}
 
 /// Each reply is told as it was seen: that a lock is spent with the commit counter's value as its place, and that the insert is done
@@ -31,5 +32,5 @@ pub fn replies_are_as_seen()
 
 /// Where it wants nothing more, the end that it tells is the outcome that was decided.
 pub fn ends_tell()
-    ensures { EndsAsSaid }
+    ensures { EndsAsTold stash_part (λ op. outcome_of (end_at op.stage.step)) }
 {}

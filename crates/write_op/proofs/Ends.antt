@@ -1,6 +1,7 @@
 -- At its end a change tells its outcome.
 use Rattle.std.proofs.Common.{◌≡◌, refl}
 use Rattle.op_core.specs.declared.want.Want.TheVariants.{Done}
+use Rattle.part.specs.Part.{EndsAsTold}
 use Rattle.phase.specs.declared.walk.Walk.TheVariants as walk
 use Rattle.phase.specs.declared.take.Take.TheVariants as take
 use Rattle.phase.specs.declared.make.Make.TheVariants.{Key, Value, Fingers, FlushFingers, FlushRecord, FenceRecord, Publish, FlushPublished, FencePublished}
@@ -13,7 +14,7 @@ use Rattle.write_op.specs.declared.step.WriteStep.TheVariants.{Way, Lock, Check,
 use Rattle.write_op.specs.declared.step.WriteStep.TheVariants as step
 use Rattle.write_op.specs.Steps.{wanted_in, end_at}
 use Rattle.write_op.specs.Fits.{outcome_of, outcome_at}
-use Rattle.write_op.specs.Ends.{EndsAsSaid}
+use Rattle.write_op.specs.ChangePart.{change_part}
 
 ends_at : (task : Task) (seen : Seen) (at : WriteStep) → wanted_in task seen at ≡ Done → outcome_at at ≡ outcome_of (end_at at)
 ends_at task seen (Ended end) done = refl
@@ -42,5 +43,5 @@ ends_at task seen (Unnote note.Mark place) done = absurd (let no = done in cc)
 ends_at task seen (Unnote note.Fingers place) done = absurd (let no = done in cc)
 ends_at task seen CountSpent done = absurd (let no = done in cc)
 
-pub ends_as_said : EndsAsSaid
-ends_as_said op done = ends_at op.task op.stage.seen op.stage.step done
+pub ends_as_told : EndsAsTold change_part (λ op. outcome_of (end_at op.stage.step))
+ends_as_told op done = ends_at op.task op.stage.seen op.stage.step done

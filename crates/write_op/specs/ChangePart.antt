@@ -1,5 +1,5 @@
 -- A change as a part of a call: where an insert finds no slot it keeps its locks, and another part goes on.
-use Rattle.std.specs.Prelude.{◌≡◌, ℕ, ◌-◌, ◌^◌, ◌<◌, ⊤, true, false, Some, [], None}
+use Rattle.std.specs.Prelude.{◌≡◌, ℕ, ◌-◌, ◌^◌, ◌<◌, ⊤, true, false, [], None}
 use Rattle.map_model.specs.declared.call.Call.{Call}
 use Rattle.map_model.specs.declared.change.Change.{Change}
 use Rattle.map_model.specs.Changes.{call_of}
@@ -9,7 +9,6 @@ use Rattle.world.specs.Views.{View, Has}
 use Rattle.world.specs.Attempts.{HoldsOnly}
 use Rattle.world.specs.StepKinds.{of_call}
 use Rattle.part.specs.Doings.{Doings, nothing_done}
-use Rattle.part.specs.Outcomes.{need_split, finished}
 use Rattle.part.specs.Part.{Part}
 use Rattle.phase.specs.declared.role.Role.{Role}
 use Rattle.phase.specs.declared.role.Role.TheVariants.{Home, Probing, First, Second, Next, Previous}
@@ -146,11 +145,3 @@ HandsOnAll = (site : Ground) (here : Site) (call : Call) (op : WriteOp) (v : Vie
 abbrev pub HandsOnRemembering : Type 0
 HandsOnRemembering = (site : Ground) (op : WriteOp) (did : Doings) → Remembers site op did → is_without_slot op.stage.step ≡ true
     → RemembersRoom site (kept_of op) did.loads × ChangedLocks (kept_of op) did.changed
-
--- it never ends but with a reply, or to be made again, stale or off
-abbrev pub NeverFinished : Type 0
-NeverFinished = (op : WriteOp) → outcome_at op.stage.step ≡ Some finished → ⊥
-
--- nor with a segment that is to be split
-abbrev pub NeverSplits : Type 0
-NeverSplits = (op : WriteOp) (segment : ℕ) → outcome_at op.stage.step ≡ Some (need_split segment) → ⊥

@@ -3,6 +3,5 @@ pub mod Steps
 pub mod Fits
 pub mod Left
 pub mod ChangePart
-pub mod Ends
 pub mod Causes
 pub mod AnyMemory

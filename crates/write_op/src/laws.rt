@@ -1,11 +1,12 @@
 //! The laws of a change. The functions do nothing: each stands for the law that its contract says.
 
-ghost use Rattle.part.specs.Part.{IsPart};
+ghost use Rattle.part.specs.Part.{IsPart, NeverFinished, NeverSplits, EndsAsTold};
 ghost use Rattle.part.specs.Causes.{EndsByCause};
-ghost use Rattle.write_op.specs.ChangePart.{change_part, BeginsAsPart, BeginsBare, BeginsRemembering, BeginsUndecided, HandsOnAll, HandsOnRemembering, NeverFinished, NeverSplits};
+ghost use Rattle.write_op.specs.ChangePart.{change_part, BeginsAsPart, BeginsBare, BeginsRemembering, BeginsUndecided, HandsOnAll, HandsOnRemembering};
 ghost use Rattle.write_op.specs.AnyMemory.{EventsHaveKinds, KeepsLoads, TriesFree, AsksInside, AgainByOthers};
 ghost use Rattle.write_op.specs.Causes.{PublishesThere, MadeOnlySo, InsertsWhereFewer, RepliesAsSeen, NeverBusy, NeverStale};
-ghost use Rattle.write_op.specs.Ends.{EndsAsSaid};
+ghost use Rattle.write_op.specs.Steps.{end_at};
+ghost use Rattle.write_op.specs.Fits.{outcome_of};
 
 /// A change is a part of a call, by the laws of `part`: each event is of its kind, which its caller's view may take beside any
 /// other callers, and the view after it suits the next step; it ends in time, asks for words of the image, puts words there, leaves
@@ -21,8 +22,8 @@ pub fn changes_are_parts()
     ensures remembers { BeginsRemembering }
     ensures hands_on { HandsOnAll }
     ensures handed { HandsOnRemembering }
-    ensures finished { NeverFinished }
-    ensures splits { NeverSplits }
+    ensures finished { NeverFinished change_part }
+    ensures splits { NeverSplits change_part }
 {}
 
 /// An event is of a kind that makes a change exactly at the one store of the record that makes it, and nothing but that store makes the
@@ -57,5 +58,5 @@ pub fn ends_have_causes()
 
 /// Where a change wants nothing more, the end that it tells is the outcome that was decided.
 pub fn ends_tell()
-    ensures { EndsAsSaid }
+    ensures { EndsAsTold change_part (λ op. outcome_of (end_at op.stage.step)) }
 {}

@@ -7,20 +7,19 @@ use Rattle.world.specs.declared.site.Site.{Site}
 use Rattle.world.specs.Ground.{Ground}
 use Rattle.world.specs.Views.{View}
 use Rattle.part.specs.Outcomes.{need_split, off, finished}
-use Rattle.read_op.specs.GetPart.{outcome_of as get_outcome, outcome_in as get_outcome_in, EndsAsSaid as GetSays, NeverFinished as GetFinished, NeverSplits as GetSplits}
-use Rattle.write_op.specs.ChangePart.{NeverFinished as ChangeFinished, NeverSplits as ChangeSplits}
-use Rattle.write_op.specs.Ends.{EndsAsSaid as ChangeSays}
-use Rattle.move_op.specs.MovePart.{MoveNeverFinished as MoveFinished, MoveNeverSplits as MoveSplits, MoveEndsAsSaid as MoveSays}
-use Rattle.stash_op.specs.StashPart.{NeverFinished as StashFinished, NeverSplits as StashSplits}
-use Rattle.stash_op.specs.Ends.{EndsAsSaid as StashSays}
+use Rattle.part.specs.Part.{NeverFinished, NeverSplits, EndsAsTold}
+use Rattle.read_op.specs.GetPart.{outcome_of as get_outcome, outcome_in as get_outcome_in, get_part, EndsAsSaid as GetSays}
+use Rattle.write_op.specs.ChangePart.{change_part}
+use Rattle.move_op.specs.MovePart.{move_part}
+use Rattle.stash_op.specs.StashPart.{stash_part}
 use Rattle.release_op.specs.declared.op.ReleaseOp.{ReleaseOp}
-use Rattle.release_op.specs.Ends.{EndsAsSaid as ReleaseSays, NeverFinished as ReleaseFinished}
+use Rattle.release_op.specs.ReleasePart.{release_part}
 use Rattle.enclose_op.specs.declared.op.NotEnclosed.{NotEnclosed}
 use Rattle.enclose_op.specs.declared.op.NotEnclosed.TheVariants.{Replied, Again, Room}
 use Rattle.enclose_op.specs.declared.op.EncloseStep.{EncloseStep}
 use Rattle.enclose_op.specs.declared.op.EncloseStep.TheVariants as enclose
 use Rattle.enclose_op.specs.Fits.{outcome_of as enclose_outcome, outcome_at as enclose_outcome_at}
-use Rattle.enclose_op.specs.Ends.{EndsAsSaid as EncloseSays}
+use Rattle.enclose_op.specs.EnclosePart.{enclose_part}
 use Rattle.enclose_op.proofs.Giving.{give_some}
 use Rattle.split_op.specs.declared.op.SplitOp.{SplitOp}
 use Rattle.split_op.specs.declared.step.SplitEnd.{SplitEnd}
@@ -60,11 +59,11 @@ use Rattle.engine.specs.Causes.{EndsAreDecided}
 -- what is used of the machines
 pub record EndLaws : Type 0 where
   pub get : GetSays
-  pub change : ChangeSays
-  pub move : MoveSays
-  pub stash : StashSays
-  pub release : ReleaseSays
-  pub enclose : EncloseSays
+  pub change : EndsAsTold change_part (λ op. outcome_of_end (end_of_op (Write op)))
+  pub move : EndsAsTold move_part (λ op. outcome_of_end (end_of_op (Move op)))
+  pub stash : EndsAsTold stash_part (λ op. outcome_of_end (end_of_op (Stash op)))
+  pub release : EndsAsTold release_part (λ op. outcome_of_end (end_of_op (Release op)))
+  pub enclose : EndsAsTold enclose_part (λ op. outcome_of_end (end_of_op (Enclose op)))
   pub publish : EndsOff
   pub rest : EndsAsSplit
   pub repair : RepairSays
@@ -108,7 +107,8 @@ ends_are_decided laws site here call e v s done = op_says laws site here call e.
 
 -- ---- which machine tells which
 -- no machine of the call itself ends as one that has done its work
-pub never_finished : GetFinished → ChangeFinished → MoveFinished → StashFinished → ReleaseFinished → (op : Op) → work_of op ≡ calls → op_part.outcome op ≡ Some finished → ⊥
+pub never_finished : NeverFinished get_part → NeverFinished change_part → NeverFinished move_part → NeverFinished stash_part → NeverFinished release_part
+    → (op : Op) → work_of op ≡ calls → op_part.outcome op ≡ Some finished → ⊥
 never_finished get change move stash release (Read op) own some = get op some
 never_finished get change move stash release (Write op) own some = change op some
 never_finished get change move stash release (Move op) own some = move op some
@@ -179,7 +179,7 @@ module _ (segment : ℕ) where
   mend_splits mend.Ended some = cc
   mend_splits s some = none-some (need_split segment) some
 
-pub releases_tell_alone : GetSplits → ChangeSplits → MoveSplits → StashSplits → ReleasesTellAlone
+pub releases_tell_alone : NeverSplits get_part → NeverSplits change_part → NeverSplits move_part → NeverSplits stash_part → ReleasesTellAlone
 releases_tell_alone get change move stash segment (Read op) some = absurd (get op segment some)
 releases_tell_alone get change move stash segment (Write op) some = absurd (change op segment some)
 releases_tell_alone get change move stash segment (Move op) some = absurd (move op segment some)

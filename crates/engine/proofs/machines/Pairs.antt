@@ -12,15 +12,15 @@ use Rattle.world.specs.StepKinds.{StepKind}
 use Rattle.world.specs.StepLaws.{OtherStepsKeepPairs}
 use Rattle.world.specs.World.{fresh_view}
 use Rattle.part.specs.Outcomes.{reply_of}
-use Rattle.part.specs.Part.{IsPart}
+use Rattle.part.specs.Part.{IsPart, EndsAsTold}
 use Rattle.part.proofs.Turning.{publishing_or_not}
-use Rattle.write_op.specs.Ends.{EndsAsSaid as ChangeSays}
-use Rattle.move_op.specs.MovePart.{MoveEndsAsSaid as MoveSays}
-use Rattle.stash_op.specs.Ends.{EndsAsSaid as StashSays}
+use Rattle.write_op.specs.ChangePart.{change_part}
+use Rattle.move_op.specs.MovePart.{move_part}
+use Rattle.stash_op.specs.StashPart.{stash_part}
 use Rattle.engine.specs.declared.engine.Engine.{Engine}
 use Rattle.engine.specs.declared.engine.Op.{Op}
 use Rattle.engine.specs.declared.engine.Op.TheVariants.{Read, Write, Move, Stash, Release, Enclose, Split, Publish, Rest, Repair, Redirect, Mend}
-use Rattle.engine.specs.Engine.{kind_of, end_of_op, reply_of_end}
+use Rattle.engine.specs.Engine.{kind_of, end_of_op, outcome_of_end, reply_of_end}
 use Rattle.engine.specs.OpPart.{op_part}
 use Rattle.engine.specs.Fits.{finds}
 use Rattle.engine.specs.Core.{Caller, Core, current, turn_of_call, turn_of_caller, turn}
@@ -39,7 +39,8 @@ leaves_or_makes part others site here call e words views j before v number h at 
     ]
 
 -- a change, a move and a stash alone make a change, and where they made it they tell so
-pub ends_as_done : IsPart op_part → ChangeSays → MoveSays → StashSays → EndsAsDone
+pub ends_as_done : IsPart op_part → EndsAsTold change_part (λ op. outcome_of_end (end_of_op (Write op))) → EndsAsTold move_part (λ op. outcome_of_end (end_of_op (Move op)))
+    → EndsAsTold stash_part (λ op. outcome_of_end (end_of_op (Stash op))) → EndsAsDone
 ends_as_done part change move stash e made done = by e.op made done
   where
     by : (op : Op) → op_part.HasMade op → op_part.wanted op ≡ Done → (place : ℕ) × (reply_of_end (end_of_op op) ≡ Some (reply.Done, place))

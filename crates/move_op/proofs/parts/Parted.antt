@@ -20,7 +20,7 @@ use Rattle.world.proofs.calls.deeds.Calls.{calls_may}
 use Rattle.image_layout.specs.Volatile.{counter_word}
 use Rattle.part.specs.Asks.{IsWithin}
 use Rattle.part.specs.Outcomes.{need_split, finished, reply_of}
-use Rattle.part.specs.Part.{KeepsSuits, PlansItsCall, LeavesKnown, IsPart}
+use Rattle.part.specs.Part.{KeepsSuits, PlansItsCall, LeavesKnown, IsPart, NeverFinished, NeverSplits}
 use Rattle.phase.specs.declared.role.Role.{Role}
 use Rattle.phase.specs.declared.kept.Kept.{Kept}
 use Rattle.phase.specs.AreWords.{AreWords}
@@ -40,7 +40,7 @@ use Rattle.move_op.specs.declared.step.MoveStep.TheVariants as step
 use Rattle.move_op.specs.Shifts.{target_of, record_of}
 use Rattle.move_op.specs.Steps.{lock_of, lock_at, wanted, taken, wanted_in, next_in, is_without_move}
 use Rattle.move_op.specs.Fits.{leg_kind, kind_at, SuitsStep, MayMakeRoom, MoveStands, outcome_of, outcome_at}
-use Rattle.move_op.specs.MovePart.{move_part, MoveBeginsAsPart, MoveBeginsUndecided, MoveNeverFinished, MoveNeverSplits}
+use Rattle.move_op.specs.MovePart.{move_part, MoveBeginsAsPart, MoveBeginsUndecided}
 use Rattle.move_op.proofs.Falling.{move_falls, most_at}
 use Rattle.move_op.proofs.Permitting.{may_in}
 use Rattle.move_op.proofs.keeping.Storing.{storing}
@@ -182,7 +182,7 @@ never_in (Give held end) some = not_finished end some
 never_in (Ended end) some = finishes end some
 never_in s some = none-some finished some
 
-pub never_finished : MoveNeverFinished
+pub never_finished : NeverFinished move_part
 never_finished op some = never_in op.step some
 
 splits : (end : MoveEnd) (segment : ℕ) → outcome_of end ≡ Some (need_split segment) → ⊥
@@ -196,7 +196,7 @@ unsplit_in (Give held end) segment some = not_split end segment some
 unsplit_in (Ended end) segment some = splits end segment some
 unsplit_in s segment some = none-some (need_split segment) some
 
-pub never_splits : MoveNeverSplits
+pub never_splits : NeverSplits move_part
 never_splits op segment some = unsplit_in op.step segment some
 
 -- where it hands on

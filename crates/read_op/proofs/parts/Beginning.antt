@@ -4,12 +4,13 @@ use Rattle.std.proofs.Common.{◌≡◌, ℕ, Some, refl}
 use Rattle.std.proofs.lemmas.Option.{none-some, same_Some}
 use Rattle.sound_image.proofs.Hashes.{key_hash-fits}
 use Rattle.part.specs.Outcomes.{need_split, finished}
+use Rattle.part.specs.Part.{NeverFinished, NeverSplits}
 use Rattle.read_op.specs.declared.step.ReadEnd.{ReadEnd}
 use Rattle.read_op.specs.declared.step.ReadEnd.TheVariants as ends
 use Rattle.read_op.specs.declared.step.ReadStep.{ReadStep}
 use Rattle.read_op.specs.declared.step.ReadStep.TheVariants.{Ended}
 use Rattle.read_op.specs.Fits.{BeginsSuited}
-use Rattle.read_op.specs.GetPart.{outcome_of, outcome_in, BeginsAsPart, BeginsUndecided, BeginsRemembering, NeverFinished, NeverSplits}
+use Rattle.read_op.specs.GetPart.{outcome_of, outcome_in, get_part, BeginsAsPart, BeginsUndecided, BeginsRemembering}
 
 pub begins_as_part : BeginsSuited → BeginsAsPart
 begins_as_part begins site here key v same version small nothing =
@@ -34,7 +35,7 @@ never_in : (s : ReadStep) → outcome_in s ≡ Some finished → ⊥
 never_in (Ended end) some = finishes end (same_Some (outcome_of end) finished some)
 never_in s some = none-some finished some
 
-pub never_finished : NeverFinished
+pub never_finished : NeverFinished get_part
 never_finished op some = never_in op.step some
 
 -- nor that a segment is to be split
@@ -49,5 +50,5 @@ unsplit_in : (s : ReadStep) (segment : ℕ) → outcome_in s ≡ Some (need_spli
 unsplit_in (Ended end) segment some = splits end segment (same_Some (outcome_of end) (need_split segment) some)
 unsplit_in s segment some = none-some (need_split segment) some
 
-pub never_splits : NeverSplits
+pub never_splits : NeverSplits get_part
 never_splits op segment some = unsplit_in op.step segment some

@@ -19,7 +19,7 @@ use Rattle.world.proofs.stepping.Answers.{is_word}
 use Rattle.world.proofs.calls.deeds.Calls.{calls_may}
 use Rattle.part.specs.Asks.{IsWithin}
 use Rattle.part.specs.Outcomes.{need_split, finished, reply_of}
-use Rattle.part.specs.Part.{KeepsSuits, PlansItsCall, LeavesKnown, IsPart}
+use Rattle.part.specs.Part.{KeepsSuits, PlansItsCall, LeavesKnown, IsPart, NeverFinished, NeverSplits}
 use Rattle.phase.specs.declared.make.Make.{Make}
 use Rattle.phase.specs.declared.make.Make.TheVariants as make
 use Rattle.phase.specs.declared.kept.Kept.{Kept}
@@ -42,7 +42,7 @@ use Rattle.stash_op.specs.declared.op.StashOp.{StashOp}
 use Rattle.stash_op.specs.Search.{place_of, note_place, noted, has_finger}
 use Rattle.stash_op.specs.Steps.{lock_of, note_wanted, wanted, wanted_in, next_in, end_at, nothing}
 use Rattle.stash_op.specs.Fits.{publish_kind, mark_kind, note_kind, kind_at, planned_at, SuitsStep, IsIn, StashStands, outcome_of, outcome_at}
-use Rattle.stash_op.specs.StashPart.{stash_part, BeginsAsPart, BeginsUndecided, HandsOnAll, NeverFinished, NeverSplits}
+use Rattle.stash_op.specs.StashPart.{stash_part, BeginsAsPart, BeginsUndecided, HandsOnAll}
 use Rattle.stash_op.proofs.Over.{full}
 use Rattle.stash_op.proofs.Falling.{stash_falls, most_at}
 use Rattle.stash_op.proofs.keeping.Areas.{no_areas}
@@ -242,7 +242,7 @@ never_in (Give held end) some = not_finished end some
 never_in (Ended end) some = finishes end some
 never_in s some = none-some finished some
 
-pub never_finished : NeverFinished
+pub never_finished : NeverFinished stash_part
 never_finished op some = never_in op.stage.step some
 
 splits : (end : StashEnd) (segment : ℕ) → outcome_of end ≡ Some (need_split segment) → ⊥
@@ -256,5 +256,5 @@ unsplit_in (Give held end) segment some = not_split end segment some
 unsplit_in (Ended end) segment some = splits end segment some
 unsplit_in s segment some = none-some (need_split segment) some
 
-pub never_splits : NeverSplits
+pub never_splits : NeverSplits stash_part
 never_splits op segment some = unsplit_in op.stage.step segment some

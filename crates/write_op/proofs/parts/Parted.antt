@@ -22,7 +22,7 @@ use Rattle.world.proofs.stepping.Answers.{is_word}
 use Rattle.world.proofs.calls.deeds.Calls.{calls_may}
 use Rattle.part.specs.Asks.{IsWithin}
 use Rattle.part.specs.Outcomes.{need_split, finished, reply_of}
-use Rattle.part.specs.Part.{KeepsSuits, PlansItsCall, LeavesKnown, IsPart}
+use Rattle.part.specs.Part.{KeepsSuits, PlansItsCall, LeavesKnown, IsPart, NeverFinished, NeverSplits}
 use Rattle.phase.specs.declared.role.Role.{Role}
 use Rattle.phase.specs.declared.role.Role.TheVariants as place
 use Rattle.phase.specs.declared.walk.Walk.{Walk}
@@ -51,7 +51,7 @@ use Rattle.write_op.specs.declared.op.WriteOp.{WriteOp}
 use Rattle.write_op.specs.Search.{found, leaves_note, unnoted, has_finger}
 use Rattle.write_op.specs.Steps.{lock_of, wanted, wanted_in, next_in, kept_of}
 use Rattle.write_op.specs.Fits.{publish_by, inserting_kind, changing_kind, deciding_kind, mark_kind, note_kind, kind_at, kind_of, planned_at, SuitsEnd, SuitsStep, ChangeStands, outcome_of, outcome_at}
-use Rattle.write_op.specs.ChangePart.{RemembersIn, change_part, BeginsAsPart, BeginsBare, BeginsUndecided, BeginsRemembering, HandsOnAll, HandsOnRemembering, NeverFinished, NeverSplits}
+use Rattle.write_op.specs.ChangePart.{RemembersIn, change_part, BeginsAsPart, BeginsBare, BeginsUndecided, BeginsRemembering, HandsOnAll, HandsOnRemembering}
 use Rattle.phase.proofs.Wanting.{HasFlush, is_fence, Cuts, cuts_call, take_on, give_on}
 use Rattle.phase.proofs.Wording.{none_words}
 use Rattle.phase.proofs.Handing.{ending_known, none_has, one_has, not_finished, not_split}
@@ -309,7 +309,7 @@ never_in (Give held end) some = not_finished end some
 never_in (Ended end) some = finishes end some
 never_in s some = none-some finished some
 
-pub never_finished : NeverFinished
+pub never_finished : NeverFinished change_part
 never_finished op some = never_in op.stage.step some
 
 splits : (end : WriteEnd) (segment : ℕ) → outcome_of end ≡ Some (need_split segment) → ⊥
@@ -325,5 +325,5 @@ unsplit_in (Give held end) segment some = not_split end segment some
 unsplit_in (Ended end) segment some = splits end segment some
 unsplit_in s segment some = none-some (need_split segment) some
 
-pub never_splits : NeverSplits
+pub never_splits : NeverSplits change_part
 never_splits op segment some = unsplit_in op.stage.step segment some

@@ -1,6 +1,6 @@
 -- By the steps.
-use Rattle.release_op.proofs.Ends.{ends_as_said}
+use Rattle.release_op.proofs.Ends.{ends_as_told}
 use Rattle.release_op.proofs.laws.ends_tell.Goals as goal
 
 pub returns : goal.returns
-returns c = ends_as_said
+returns c = ends_as_told
