@@ -1,6 +1,7 @@
 -- What a push takes behind the bytes before `at` is a longer front.
 use Rattle.std.proofs.Common.{arith, ◌+◌, ◌-◌, ◌≡◌, ◌++◌, ℕ, List, length, take, drop, sym, ap, ◌∙◌}
 use Rattle.std.proofs.lemmas.Grind.{common_steps}
+use Rattle.std.proofs.lemmas.List.{take_all}
 use Rattle.std.proofs.Math.Seq.{take-add}
 use Rattle.std.proofs.KnownBytes.{Appends-trans}
 use Rattle.outside.proofs.whole.put_all.Goals as goal
@@ -18,3 +19,6 @@ pushes-preserved g c = record {
   given = rw (← take-next c.args.bytes.now c.pushes.at c.in_ok-taken.taken) (Appends-trans _ _ _ _ _ c.pushes.invariant.given c.in_ok-taken.ensures.bytes);
   later = omega (arith, c.in_ok-taken.ensures.cause.later);
 }
+
+pub returns-clause-ok : goal.returns-clause-ok
+returns-clause-ok g c = rw (take_all c.pushes.at c.args.bytes.now (omega arith)) at c.pushes.invariant.given
