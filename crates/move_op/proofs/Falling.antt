@@ -6,7 +6,6 @@ use Rattle.op_core.specs.Answers.{IsAnswer}
 use Rattle.op_core.specs.declared.why.Why.TheVariants.{Busy, Moved}
 use Rattle.image_layout.specs.Volatile.{counter_word}
 use Rattle.map_model.specs.declared.entry.Reply.TheVariants as reply
-use Rattle.phase.specs.declared.role.Role.{Role}
 use Rattle.phase.specs.declared.take.Take.{Take}
 use Rattle.phase.specs.declared.take.Take.TheVariants.{Look, Try}
 use Rattle.phase.specs.declared.take.Taken.{Taken}
@@ -31,6 +30,7 @@ use Rattle.phase.proofs.Loading.{load_falls}
 use Rattle.phase.proofs.locks.Taking.{take_falls}
 use Rattle.phase.proofs.locks.Making.{make_falls}
 use Rattle.phase.proofs.locks.Giving.{give_falls}
+use Rattle.phase.proofs.locks.Choosing.{by_step}
 use Rattle.phase.proofs.Handing.{give_few}
 use Rattle.phase.proofs.Wanting.{load_answered, make_answered, give_answered, make_bound}
 use Rattle.phase.specs.declared.ending.Ending.{Ending}
@@ -45,19 +45,15 @@ use Rattle.move_op.specs.declared.step.MoveStep.TheVariants.{Lock, Fill, CountSp
 use Rattle.move_op.specs.declared.step.MoveStep.TheVariants as step
 use Rattle.move_op.specs.declared.op.MoveOp.{MoveOp}
 use Rattle.move_op.specs.Shifts.{target_of, shift_in, record_of}
-use Rattle.move_op.specs.Steps.{given_by, giving, give, locked_to, chosen, filled_with, filled_to, made_to, lock_of, lock_at, wanted_in, next_in, wanted, taken}
+use Rattle.move_op.specs.Steps.{end_of, giving, give, locked_to, chosen, filled_with, filled_to, made_to, lock_of, lock_at, wanted_in, next_in, wanted, taken}
 use Rattle.move_op.specs.Left.{left_at, left_behind, left_behind_lock, left_behind_leg, most_events}
 
 abbrev left_of : MoveOp → ℕ
 left_of op = left_at op.step
 
 -- ---- locks back
-by_next : (next : Option (Role × ℕ)) (held : Held) (end : Ending) → left_at (given_by next held end) ≤ give_left held
-by_next (Some next) held end = omega arith
-by_next None held end = omega arith
-
 giving_most : (held : Held) (end : Ending) → left_at (giving held end) ≤ give_left held
-giving_most held end = by_next (give_next held) held end
+giving_most held end = by_step (λ (s : MoveStep). left_at s ≤ give_left held) held (Give held end) (Ended (end_of end)) (omega arith) (omega arith)
 
 give_most : (kept : Kept) (end : Ending) → left_of (give kept end) ≤ 6
 give_most kept end = let most = giving_most kept.held end in let few = give_few kept.held in omega (arith, most, few)

@@ -22,7 +22,7 @@ use Rattle.phase.specs.Places.{lock_word}
 use Rattle.phase.specs.Takes.{take_wanted, take_taken}
 use Rattle.phase.specs.Loads.{load_begun, load_taken}
 use Rattle.phase.specs.Makes.{make_wanted, make_taken}
-use Rattle.phase.specs.Helds.{with_held, give_next, give_wanted, given}
+use Rattle.phase.specs.Helds.{with_held, give_next, give_wanted, given, give_step}
 use Rattle.phase.specs.Buckets.{with_words}
 use Rattle.move_op.specs.declared.step.MoveEnd.{MoveEnd}
 use Rattle.move_op.specs.declared.step.MoveEnd.TheVariants as ends
@@ -50,12 +50,8 @@ end_of (ending.Replied answer place) = ends.Replied answer place
 end_of (ending.Again why) = ends.Again why
 
 -- the locks that are held are given back, one after another, and then it ends so
-abbrev pub given_by : Option (Role × ℕ) → Held → Ending → MoveStep
-given_by (Some next) held end = Give held end
-given_by None held end = Ended (end_of end)
-
 abbrev pub giving : Held → Ending → MoveStep
-giving held end = given_by (give_next held) held end
+giving held end = give_step held (Give held end) (Ended (end_of end))
 
 abbrev pub give : Kept → Ending → MoveOp
 give kept end = go kept (giving kept.held end)

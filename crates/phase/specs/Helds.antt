@@ -68,3 +68,11 @@ given_of None held = held
 -- the locks that are held then
 abbrev pub given : Held → Held
 given held = given_of (give_next held) held
+
+-- of two steps the one in which the next of them is given back, and the other one where none is held
+abbrev pub give_step_of : {Step : Type 0} → Option (Role × ℕ) → Step → Step → Step
+give_step_of (Some next) give ended = give
+give_step_of None give ended = ended
+
+abbrev pub give_step : {Step : Type 0} → Held → Step → Step → Step
+give_step held give ended = give_step_of (give_next held) give ended

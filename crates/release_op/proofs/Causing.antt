@@ -36,9 +36,10 @@ use Rattle.phase.specs.Third.{NothingToMove}
 use Rattle.phase.proofs.asking.Causing.{found_named}
 use Rattle.phase.proofs.Handing.{key_called, give_answer}
 use Rattle.phase.proofs.locks.Giving.{bucket_near, lock_at}
+use Rattle.phase.proofs.locks.Choosing.{by_step}
 use Rattle.release_op.specs.declared.op.ReleaseStep.{ReleaseStep}
 use Rattle.release_op.specs.declared.op.ReleaseStep.TheVariants.{Begin, Give, Ended}
-use Rattle.release_op.specs.Steps.{given_by, giving, held_in, wanted_in, next_in, wanted}
+use Rattle.release_op.specs.Steps.{giving, held_in, wanted_in, next_in, wanted}
 use Rattle.release_op.specs.ReleasePart.{outcome_at, ReleaseStands, RemembersAt, release_part, BeginsRemembering}
 use Rattle.release_op.proofs.NoRoom.{word_here}
 use Rattle.release_op.proofs.Ends.{no_other_at, never_finished, stays_at}
@@ -142,12 +143,8 @@ not_again kept t why some = absurd (let same = no_other_at kept t (again why) so
 
 -- nothing has to be remembered behind the first lock
 module _ (site : Ground) (kept : Kept) (loads : List (ℕ × ℕ)) where
-  next_remembers : (held : Held) (next : Option (Role × ℕ)) → RemembersAt site kept loads (given_by next held)
-  next_remembers held (Some next) = tt
-  next_remembers held None = tt
-
   giving_remembers : (held : Held) → RemembersAt site kept loads (giving held)
-  giving_remembers held = next_remembers held (give_next held)
+  giving_remembers held = by_step (RemembersAt site kept loads) held (Give held) Ended tt tt
 
   remembers_at : (s : ReleaseStep) (n : ℕ) → RemembersAt site kept loads (next_in kept s (answer_to (wanted_in kept s) n))
   remembers_at s n = subst (λ (a : Ans). RemembersAt site kept loads (next_in kept s a)) (sym (give_answer kept.site kept.hash kept.segment (give_next (held_in kept s)) n)) (giving_remembers (given (held_in kept s)))

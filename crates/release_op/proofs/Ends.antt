@@ -1,17 +1,17 @@
 -- A release tells no other outcome than that its segment is to be split, and tells it at its end.
-use Rattle.std.proofs.Common.{◌≡◌, ℕ, Option, None, Some, refl, sym, ap, ◌∙◌}
+use Rattle.std.proofs.Common.{◌≡◌, Some, refl, sym, ap, ◌∙◌}
 use Rattle.std.proofs.lemmas.Option.{none-some, same_Some}
 use Rattle.op_core.specs.declared.want.Ans.{Ans}
 use Rattle.op_core.specs.declared.want.Ans.TheVariants.{Passed}
 use Rattle.part.specs.Outcomes.{Outcome, need_split, finished}
 use Rattle.part.specs.Part.{NeverFinished, EndsAsTold}
-use Rattle.phase.specs.declared.role.Role.{Role}
 use Rattle.phase.specs.declared.held.Held.{Held}
 use Rattle.phase.specs.declared.kept.Kept.{Kept}
-use Rattle.phase.specs.Helds.{give_next, given}
+use Rattle.phase.specs.Helds.{given}
+use Rattle.phase.proofs.locks.Choosing.{by_step}
 use Rattle.release_op.specs.declared.op.ReleaseStep.{ReleaseStep}
 use Rattle.release_op.specs.declared.op.ReleaseStep.TheVariants.{Begin, Give, Ended}
-use Rattle.release_op.specs.Steps.{given_by, giving, held_in, next_in, end_at, end_of}
+use Rattle.release_op.specs.Steps.{giving, held_in, next_in, end_at, end_of}
 use Rattle.release_op.specs.ReleasePart.{outcome_at, release_part}
 use Rattle.release_op.specs.Ends.{outcome_of, TellsNoOther}
 
@@ -36,12 +36,8 @@ pub never_finished : NeverFinished release_part
 never_finished op some = absurd (let same = no_other_at op.kept op.step finished some in cc)
 
 -- ---- what is decided stays
-next_outcome : (kept : Kept) (held : Held) (next : Option (Role × ℕ)) → outcome_at kept (given_by next held) ≡ Some (need_split kept.segment)
-next_outcome kept held (Some next) = refl
-next_outcome kept held None = refl
-
 pub giving_outcome : (kept : Kept) (held : Held) → outcome_at kept (giving held) ≡ Some (need_split kept.segment)
-giving_outcome kept held = next_outcome kept held (give_next held)
+giving_outcome kept held = by_step (λ (s : ReleaseStep). outcome_at kept s ≡ Some (need_split kept.segment)) held (Give held) Ended refl refl
 
 pub stays_at : (kept : Kept) (s : ReleaseStep) (a : Ans) (outcome : Outcome) → outcome_at kept s ≡ Some outcome → outcome_at kept (next_in kept s a) ≡ Some outcome
 stays_at kept s Passed outcome some = giving_outcome kept (given (held_in kept s)) ∙ ap Some (sym (no_other_at kept s outcome some))

@@ -29,11 +29,12 @@ use Rattle.phase.specs.Places.{lock_word}
 use Rattle.phase.specs.Stands.{IsThere}
 use Rattle.phase.specs.Giving.{IsLocated, give_left, give_kind_of}
 use Rattle.phase.proofs.locks.Giving.{is_lock, held_none, give_stands, give_falls}
+use Rattle.phase.proofs.locks.Choosing.{by_held, by_step}
 use Rattle.phase.proofs.Handing.{none_more, give_answer, give_own, give_seen, give_few}
 use Rattle.phase.proofs.Wanting.{give_answered, number_of, give_small, HasFlush, give_no_flush, plain_give, cuts_call, give_on}
 use Rattle.release_op.specs.declared.op.ReleaseStep.{ReleaseStep}
 use Rattle.release_op.specs.declared.op.ReleaseStep.TheVariants.{Begin, Give, Ended}
-use Rattle.release_op.specs.Steps.{given_by, giving, held_in, wanted_in, next_in, wanted}
+use Rattle.release_op.specs.Steps.{giving, held_in, wanted_in, next_in, wanted}
 use Rattle.release_op.specs.ReleasePart.{left_at, kind_at, outcome_at, IsGivingBack, SuitsStep, ReleaseStands, release_part, BeginsAsPart, BeginsUndecided}
 
 -- ---- in each step locks are given back, and no reply is entered
@@ -62,15 +63,11 @@ give_facts shape here hash segment (Some next) n v = refl
 give_facts shape here hash segment None n v = refl
 
 module _ (site : Ground) (kept : Kept) where
-  by_next : (held : Held) (u : View) → IsGivingBack kept site held u → (next : Option (Role × ℕ)) → give_next held ≡ next → SuitsStep kept site (given_by next held) u
-  by_next held u g (Some next) e = g
-  by_next held u g None e = record {
-    bare = give_stands.ends kept.site kept.hash kept.segment held u g.locks g.quiet (ap (give_wanted_of kept.site kept.hash kept.segment) e);
-    there = g.there;
-  }
-
   giving_suits : (held : Held) (u : View) → IsGivingBack kept site held u → SuitsStep kept site (giving held) u
-  giving_suits held u g = by_next held u g (give_next held) refl
+  giving_suits held u g = by_held (λ (s : ReleaseStep). SuitsStep kept site s u) held (Give held) Ended g (λ none. record {
+    bare = give_stands.ends kept.site kept.hash kept.segment held u g.locks g.quiet (ap (give_wanted_of kept.site kept.hash kept.segment) none);
+    there = g.there;
+  })
 
 -- ---- one step
 module _ (site : Ground) (here : Site) (call : Call) (kept : Kept) (s : ReleaseStep) (v : View) (stood : ReleaseStands site here call (record { kept = kept; step = s }) v) where
@@ -127,14 +124,13 @@ module _ (site : Ground) (here : Site) (call : Call) (kept : Kept) (s : ReleaseS
   bare_at done = give_stands.ends kept.site kept.hash kept.segment held v g.locks g.quiet done
 
 -- ---- in any state
-next_left : (kept : Kept) (held : Held) (next : Option (Role × ℕ)) → left_at kept (given_by next held) ≤ give_left held
-next_left kept held (Some next) = omega arith
-next_left kept held None = omega arith
+giving_most : (kept : Kept) (held : Held) → left_at kept (giving held) ≤ give_left held
+giving_most kept held = by_step (λ (s : ReleaseStep). left_at kept s ≤ give_left held) held (Give held) Ended (omega arith) (omega arith)
 
 falls_at : (kept : Kept) (s : ReleaseStep) (a : Ans) → IsAnswer (wanted_in kept s) a → left_at kept (next_in kept s a) < left_at kept s
 falls_at kept s a i =
     let held : Held = held_in kept s in
-    let low = next_left kept (given held) (give_next (given held)) in
+    let low = giving_most kept (given held) in
     let fewer = give_falls kept.site kept.hash kept.segment held (λ e. absurd (subst (λ w. IsAnswer w a) e i)) in
     subst (λ (x : Ans). left_at kept (next_in kept s x) < give_left held) (sym (give_answered kept.site kept.hash kept.segment (give_next held) a i)) (omega (arith, low, fewer))
 

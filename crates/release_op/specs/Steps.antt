@@ -1,12 +1,10 @@
 -- What a release wants, what an answer makes of it, and how it ends.
-use Rattle.std.specs.Prelude.{ℕ, Option, None, Some}
 use Rattle.op_core.specs.declared.want.Want.{Want}
 use Rattle.op_core.specs.declared.want.Ans.{Ans}
 use Rattle.op_core.specs.declared.want.Ans.TheVariants.{Passed}
-use Rattle.phase.specs.declared.role.Role.{Role}
 use Rattle.phase.specs.declared.held.Held.{Held}
 use Rattle.phase.specs.declared.kept.Kept.{Kept}
-use Rattle.phase.specs.Helds.{none_held, give_next, give_wanted, given}
+use Rattle.phase.specs.Helds.{none_held, give_wanted, given, give_step}
 use Rattle.release_op.specs.declared.op.ReleaseEnd.{ReleaseEnd}
 use Rattle.release_op.specs.declared.op.ReleaseEnd.TheVariants.{NeedSplit, Off}
 use Rattle.release_op.specs.declared.op.ReleaseStep.{ReleaseStep}
@@ -14,12 +12,8 @@ use Rattle.release_op.specs.declared.op.ReleaseStep.TheVariants.{Begin, Give, En
 use Rattle.release_op.specs.declared.op.ReleaseOp.{ReleaseOp}
 
 -- these locks are given back, one after another, and then it ends
-abbrev pub given_by : Option (Role × ℕ) → Held → ReleaseStep
-given_by (Some next) held = Give held
-given_by None held = Ended
-
 abbrev pub giving : Held → ReleaseStep
-giving held = given_by (give_next held) held
+giving held = give_step held (Give held) Ended
 
 -- a release that has done nothing yet
 abbrev pub begun : Kept → ReleaseOp

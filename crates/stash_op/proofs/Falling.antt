@@ -7,7 +7,6 @@ use Rattle.op_core.specs.declared.why.Why.TheVariants.{Busy, Moved}
 use Rattle.image_layout.specs.Volatile.{counter_word}
 use Rattle.map_model.specs.declared.entry.Reply.{Reply}
 use Rattle.map_model.specs.declared.entry.Reply.TheVariants as reply
-use Rattle.phase.specs.declared.role.Role.{Role}
 use Rattle.phase.specs.declared.take.Take.{Take}
 use Rattle.phase.specs.declared.take.Take.TheVariants.{Look, Try}
 use Rattle.phase.specs.declared.take.Taken.{Taken}
@@ -41,26 +40,22 @@ use Rattle.phase.specs.declared.ending.Ending.TheVariants as ending
 use Rattle.stash_op.specs.declared.step.NoteWords.{NoteWords}
 use Rattle.phase.specs.declared.note.NoteWord.{NoteWord}
 use Rattle.phase.specs.declared.note.NoteWord.TheVariants.{Mark, Fingers}
-use Rattle.phase.proofs.locks.Choosing.{by_both}
+use Rattle.phase.proofs.locks.Choosing.{by_both, by_step}
 use Rattle.stash_op.specs.declared.step.StashStep.{StashStep}
 use Rattle.stash_op.specs.declared.step.StashStep.TheVariants.{Lock, Fill, Note, Draw, CountSpent, Give, Ended}
 use Rattle.stash_op.specs.declared.step.StashStep.TheVariants as step
 use Rattle.stash_op.specs.declared.step.Stage.{Stage}
 use Rattle.stash_op.specs.declared.op.StashOp.{StashOp}
 use Rattle.stash_op.specs.Search.{place_of, note_place, free_slot, noted, has_finger}
-use Rattle.stash_op.specs.Steps.{go, given_by, giving, give, answered, in_second, at_second, in_first, searched, put_in, filled_with, filled_to, locked_to, made_to, noted_to, lock_of, note_wanted, wanted_in, next_in, wanted, taken}
+use Rattle.stash_op.specs.Steps.{go, end_of, giving, give, answered, in_second, at_second, in_first, searched, put_in, filled_with, filled_to, locked_to, made_to, noted_to, lock_of, note_wanted, wanted_in, next_in, wanted, taken}
 use Rattle.stash_op.specs.Left.{left_at, left_behind, left_behind_lock, left_of_note, most_events}
 
 abbrev left_of : Stage → ℕ
 left_of s = left_at s.step
 
 -- ---- locks back
-by_next : (next : Option (Role × ℕ)) (held : Held) (end : Ending) → left_at (given_by next held end) ≤ give_left held
-by_next (Some next) held end = omega arith
-by_next None held end = omega arith
-
 giving_most : (held : Held) (end : Ending) → left_at (giving held end) ≤ give_left held
-giving_most held end = by_next (give_next held) held end
+giving_most held end = by_step (λ (s : StashStep). left_at s ≤ give_left held) held (Give held end) (Ended (end_of end)) (omega arith) (omega arith)
 
 give_most : (seen : Seen) (end : Ending) → left_of (give seen end) ≤ 6
 give_most seen end = let most = giving_most seen.held end in let few = give_few seen.held in omega (arith, most, few)

@@ -23,7 +23,7 @@ use Rattle.phase.specs.Places.{lock_word}
 use Rattle.phase.specs.Takes.{take_wanted, take_taken}
 use Rattle.phase.specs.Loads.{load_begun, load_taken}
 use Rattle.phase.specs.Makes.{make_wanted, make_taken}
-use Rattle.phase.specs.Helds.{with_held, give_next, give_wanted, given}
+use Rattle.phase.specs.Helds.{with_held, give_next, give_wanted, given, give_step}
 use Rattle.phase.specs.Buckets.{with_words}
 use Rattle.stash_op.specs.declared.step.StashBucket.{StashBucket}
 use Rattle.stash_op.specs.declared.step.StashBucket.TheVariants.{First, Second}
@@ -53,12 +53,8 @@ end_of (ending.Replied answer place) = ends.Replied answer place
 end_of (ending.Again why) = ends.Again why
 
 -- the locks that are held are given back, one after another, and then it ends so
-abbrev pub given_by : Option (Role × ℕ) → Held → Ending → StashStep
-given_by (Some next) held end = Give held end
-given_by None held end = Ended (end_of end)
-
 abbrev pub giving : Held → Ending → StashStep
-giving held end = given_by (give_next held) held end
+giving held end = give_step held (Give held end) (Ended (end_of end))
 
 abbrev pub give : Seen → Ending → Stage
 give seen end = go seen (giving seen.held end)

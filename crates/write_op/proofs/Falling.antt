@@ -57,26 +57,22 @@ use Rattle.phase.specs.declared.ending.Ending.TheVariants as ending
 use Rattle.write_op.specs.declared.search.NoteWords.{NoteWords}
 use Rattle.phase.specs.declared.note.NoteWord.{NoteWord}
 use Rattle.phase.specs.declared.note.NoteWord.TheVariants.{Mark, Fingers}
-use Rattle.phase.proofs.locks.Choosing.{by_both}
+use Rattle.phase.proofs.locks.Choosing.{by_both, by_step}
 use Rattle.write_op.specs.declared.step.WriteStep.{WriteStep}
 use Rattle.write_op.specs.declared.step.WriteStep.TheVariants.{Way, Lock, Check, Fill, Count, Draw, Unnote, CountSpent, Give, Ended}
 use Rattle.write_op.specs.declared.step.WriteStep.TheVariants as step
 use Rattle.write_op.specs.declared.step.Stage.{Stage}
 use Rattle.write_op.specs.declared.op.WriteOp.{WriteOp}
 use Rattle.write_op.specs.Search.{found, room_in, leaves_note, unnoted, has_finger}
-use Rattle.write_op.specs.Steps.{go, given_by, giving, give, answered, walked_to, locked, locked_to, lock_of, backed_to, visit_second, visit_first, with_visits, filled, filled_with, filled_to, inserting, changing, decided, counted, made_to, drawn_to, unnoted_to, note_wanted, wanted_in, next_in, wanted, taken}
+use Rattle.write_op.specs.Steps.{go, end_of, giving, give, answered, walked_to, locked, locked_to, lock_of, backed_to, visit_second, visit_first, with_visits, filled, filled_with, filled_to, inserting, changing, decided, counted, made_to, drawn_to, unnoted_to, note_wanted, wanted_in, next_in, wanted, taken}
 use Rattle.write_op.specs.Left.{left_at, left_behind, left_behind_lock, left_of_note, most_events}
 
 abbrev left_of : Stage → ℕ
 left_of s = left_at s.step
 
 -- ---- locks back
-by_next : (next : Option (Role × ℕ)) (held : Held) (end : Ending) → left_at (given_by next held end) ≤ give_left held
-by_next (Some next) held end = omega arith
-by_next None held end = omega arith
-
 giving_most : (held : Held) (end : Ending) → left_at (giving held end) ≤ give_left held
-giving_most held end = by_next (give_next held) held end
+giving_most held end = by_step (λ (s : WriteStep). left_at s ≤ give_left held) held (Give held end) (Ended (end_of end)) (omega arith) (omega arith)
 
 give_most : (seen : Seen) (end : Ending) → left_of (give seen end) ≤ 6
 give_most seen end = let most = giving_most seen.held end in let few = give_few seen.held in omega (arith, most, few)

@@ -39,7 +39,7 @@ use Rattle.phase.specs.Takes.{take_wanted, take_taken}
 use Rattle.phase.specs.Backs.{back_word, back_taken}
 use Rattle.phase.specs.Loads.{load_begun, load_taken}
 use Rattle.phase.specs.Makes.{make_wanted, make_taken}
-use Rattle.phase.specs.Helds.{none_held, with_held, give_next, give_wanted, given}
+use Rattle.phase.specs.Helds.{none_held, with_held, give_next, give_wanted, given, give_step}
 use Rattle.phase.specs.Buckets.{no_words, with_words}
 use Rattle.write_op.specs.declared.search.NoteWords.{NoteWords}
 use Rattle.write_op.specs.declared.step.Task.{Task}
@@ -69,12 +69,8 @@ end_of (ending.Replied answer place) = ends.Replied answer place
 end_of (ending.Again why) = ends.Again why
 
 -- the locks that are held are given back, one after another, and then it ends so
-abbrev pub given_by : Option (Role × ℕ) → Held → Ending → WriteStep
-given_by (Some next) held end = Give held end
-given_by None held end = Ended (end_of end)
-
 abbrev pub giving : Held → Ending → WriteStep
-giving held end = given_by (give_next held) held end
+giving held end = give_step held (Give held end) (Ended (end_of end))
 
 abbrev pub give : Seen → Ending → Stage
 give seen end = go seen (giving seen.held end)

@@ -27,7 +27,7 @@ use Rattle.phase.specs.Places.{is_third}
 use Rattle.phase.specs.Takes.{take_wanted, take_looked, take_lost}
 use Rattle.phase.specs.Loads.{load_taken}
 use Rattle.phase.specs.Makes.{make_taken}
-use Rattle.phase.specs.Helds.{with_held, free_of, give_next, given}
+use Rattle.phase.specs.Helds.{with_held, free_of, given}
 use Rattle.phase.specs.Buckets.{with_words, words_in}
 use Rattle.phase.specs.Stands.{HasLoaded}
 use Rattle.phase.specs.Taking.{RemembersTaken}
@@ -40,6 +40,7 @@ use Rattle.phase.proofs.asking.Causing.{has_more, found_more}
 use Rattle.phase.proofs.Loading.{load_begins, load_stands}
 use Rattle.phase.proofs.locks.Taking.{take_remembers}
 use Rattle.phase.proofs.locks.Giving.{held_this, held_other}
+use Rattle.phase.proofs.locks.Choosing.{by_step}
 use Rattle.phase.specs.declared.ending.Ending.{Ending}
 use Rattle.phase.specs.declared.ending.Ending.TheVariants as ending
 use Rattle.move_op.specs.declared.step.Direction.{Direction}
@@ -52,7 +53,7 @@ use Rattle.move_op.specs.declared.step.MoveStep.TheVariants.{Lock, Fill, CountSp
 use Rattle.move_op.specs.declared.step.MoveStep.TheVariants as step
 use Rattle.move_op.specs.declared.op.MoveOp.{MoveOp}
 use Rattle.move_op.specs.Shifts.{target_of, shift_in, record_of}
-use Rattle.move_op.specs.Steps.{given_by, giving, locked_to, chosen, filled_to, made_to, lock_of, wanted_in, next_in}
+use Rattle.move_op.specs.Steps.{end_of, giving, locked_to, chosen, filled_to, made_to, lock_of, wanted_in, next_in}
 use Rattle.move_op.specs.MovePart.{HasTried, RemembersAt}
 use Rattle.move_op.proofs.shifting.Staying.{none_forward, none_backward}
 use Rattle.move_op.proofs.keeping.Going.{other_number}
@@ -121,13 +122,12 @@ module _ (site : Ground) where
   }
 
   -- ---- locks back
-  by_next : (kept : Kept) (d : Doings) (next : Option (Role × ℕ)) (held : Held) (end : Ending) → RemembersAt site kept d (given_by next held end)
-  by_next kept d (Some next) held end = tt
-  by_next kept d None held (ending.Replied answer place) = tt
-  by_next kept d None held (ending.Again why) = tt
+  end_recalls : (kept : Kept) (d : Doings) (end : Ending) → RemembersAt site kept d (Ended (end_of end))
+  end_recalls kept d (ending.Replied answer place) = tt
+  end_recalls kept d (ending.Again why) = tt
 
   giving_recalls : (kept : Kept) (d : Doings) (held : Held) (end : Ending) → RemembersAt site kept d (giving held end)
-  giving_recalls kept d held end = by_next kept d (give_next held) held end
+  giving_recalls kept d held end = by_step (RemembersAt site kept d) held (Give held end) (Ended (end_of end)) tt (end_recalls kept d end)
 
   -- ---- a lock
   module _ (kept : Kept) (direction : Direction) (d : Doings) (room : RemembersRoom site kept d.loads) (tried : HasTried site kept d direction) where

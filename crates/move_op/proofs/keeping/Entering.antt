@@ -4,7 +4,6 @@ use Rattle.op_core.specs.declared.why.Why.{Why}
 use Rattle.op_core.specs.declared.why.Why.TheVariants.{Busy, Moved}
 use Rattle.map_model.specs.declared.entry.Reply.{Reply}
 use Rattle.part.specs.Outcomes.{reply_of}
-use Rattle.phase.specs.declared.role.Role.{Role}
 use Rattle.phase.specs.declared.take.Taken.{Taken}
 use Rattle.phase.specs.declared.take.Taken.TheVariants as taking
 use Rattle.phase.specs.declared.load.Loaded.{Loaded}
@@ -12,16 +11,17 @@ use Rattle.phase.specs.declared.load.Loaded.TheVariants as loaded
 use Rattle.phase.specs.declared.held.Held.{Held}
 use Rattle.phase.specs.declared.kept.Kept.{Kept}
 use Rattle.phase.specs.Buckets.{with_words}
-use Rattle.phase.specs.Helds.{give_next}
 use Rattle.phase.specs.declared.ending.Ending.{Ending}
 use Rattle.phase.specs.declared.ending.Ending.TheVariants as ending
 use Rattle.phase.specs.Endings.{outcome_then}
+use Rattle.phase.proofs.locks.Choosing.{by_step}
 use Rattle.move_op.specs.declared.step.Direction.{Direction}
 use Rattle.move_op.specs.declared.step.Direction.TheVariants.{Forward, Backward}
 use Rattle.move_op.specs.declared.step.Shift.{Shift}
 use Rattle.move_op.specs.declared.step.MoveStep.{MoveStep}
+use Rattle.move_op.specs.declared.step.MoveStep.TheVariants.{Give, Ended}
 use Rattle.move_op.specs.Shifts.{target_of, shift_in}
-use Rattle.move_op.specs.Steps.{given_by, giving, locked_to, chosen, filled_to}
+use Rattle.move_op.specs.Steps.{end_of, giving, locked_to, chosen, filled_to}
 use Rattle.move_op.specs.Fits.{outcome_at}
 
 -- the reply that is decided
@@ -29,13 +29,12 @@ abbrev pub reply_at : MoveStep → Option (Reply × ℕ)
 reply_at s = reply_of (outcome_at s)
 
 -- ---- locks back
-by_next : (next : Option (Role × ℕ)) (held : Held) (end : Ending) → outcome_at (given_by next held end) ≡ Some (outcome_then end)
-by_next (Some next) held end = refl
-by_next None held (ending.Replied answer place) = refl
-by_next None held (ending.Again why) = refl
+end_outcome : (end : Ending) → outcome_at (Ended (end_of end)) ≡ Some (outcome_then end)
+end_outcome (ending.Replied answer place) = refl
+end_outcome (ending.Again why) = refl
 
 pub giving_outcome : (held : Held) (end : Ending) → outcome_at (giving held end) ≡ Some (outcome_then end)
-giving_outcome held end = by_next (give_next held) held end
+giving_outcome held end = by_step (λ (s : MoveStep). outcome_at s ≡ Some (outcome_then end)) held (Give held end) (Ended (end_of end)) refl (end_outcome end)
 
 giving_again : (held : Held) (why : Why) → reply_at (giving held (ending.Again why)) ≡ None
 giving_again held why = ap reply_of (giving_outcome held (ending.Again why))

@@ -1,5 +1,5 @@
 -- At the lock of a third bucket, and while its words are loaded: what each event makes of it leaves a view that suits.
-use Rattle.std.proofs.Common.{◌≡◌, ℕ, ◌+◌, ◌<◌, ◌≤◌, false, Option, None, Some, List, ◌∷◌, inl, inr, refl, sym, ap, ◌∙◌, subst, arith, slice_index}
+use Rattle.std.proofs.Common.{◌≡◌, ℕ, ◌+◌, ◌<◌, ◌≤◌, false, Option, None, Some, List, [], ◌∷◌, inl, inr, refl, sym, ap, ◌∙◌, subst, arith, slice_index}
 use Rattle.op_core.specs.declared.why.Why.TheVariants.{Busy, Moved}
 use Rattle.trace.specs.Events.{Words}
 use Rattle.image_layout.specs.Places.{bucket_at}
@@ -9,6 +9,7 @@ use Rattle.bucket_words.specs.Owners.{owner_of}
 use Rattle.bucket_words.specs.Standing.{IsTable}
 use Rattle.world.specs.Ground.{Ground}
 use Rattle.world.specs.Views.{View, Has, HasLock, IsGuarded}
+use Rattle.world.specs.Attempts.{HoldsOnly}
 use Rattle.phase.specs.declared.role.Role.{Role}
 use Rattle.phase.specs.declared.role.Role.TheVariants.{Home, Probing, First, Second}
 use Rattle.phase.specs.declared.take.Taken.{Taken}
@@ -19,7 +20,7 @@ use Rattle.phase.specs.declared.held.Held.{Held}
 use Rattle.phase.specs.declared.kept.Kept.{Kept}
 use Rattle.phase.specs.Places.{bucket_of, is_third}
 use Rattle.phase.specs.Asked.{index}
-use Rattle.phase.specs.Helds.{with_held, free_of, give_next, give_wanted_of}
+use Rattle.phase.specs.Helds.{with_held, free_of, give_wanted_of}
 use Rattle.phase.specs.Buckets.{with_words, words_in}
 use Rattle.phase.specs.Stands.{HasLoaded}
 use Rattle.phase.specs.Taking.{MayBeTaken, IsButSpent, HasTaken}
@@ -33,16 +34,19 @@ use Rattle.phase.proofs.Loading.{load_begins}
 use Rattle.phase.proofs.locks.Giving.{held_this, held_other, held_has, held_same, held_learn, held_stands, give_stands}
 use Rattle.phase.proofs.locks.Finding.{loads_are_known, known_was_loaded}
 use Rattle.phase.proofs.locks.Making.{make_knows}
+use Rattle.phase.proofs.locks.Choosing.{by_held}
 use Rattle.phase.specs.declared.ending.Ending.{Ending}
 use Rattle.phase.specs.declared.ending.Ending.TheVariants as ending
 use Rattle.move_op.specs.declared.step.Direction.{Direction}
 use Rattle.move_op.specs.declared.step.Direction.TheVariants.{Forward, Backward}
 use Rattle.move_op.specs.declared.step.Shift.{Shift}
+use Rattle.move_op.specs.declared.step.MoveStep.{MoveStep}
+use Rattle.move_op.specs.declared.step.MoveStep.TheVariants.{Give, Ended}
 use Rattle.move_op.specs.declared.op.MoveOp.{MoveOp}
 use Rattle.move_op.specs.Shifts.{source_of, target_of, shift_in}
-use Rattle.move_op.specs.Steps.{given_by, giving, give, locked_to, chosen, filled_to, lock_of}
+use Rattle.move_op.specs.Steps.{end_of, giving, give, locked_to, chosen, filled_to, lock_of}
 use Rattle.move_op.specs.Order.{HasTurn}
-use Rattle.move_op.specs.Fits.{BeforeThird, BehindThird, KeepsBut, HoldsAll, IsGiving, SuitsStep}
+use Rattle.move_op.specs.Fits.{BeforeThird, BehindThird, KeepsBut, HoldsAll, IsGiving, SuitsEnd, SuitsStep}
 use Rattle.move_op.proofs.shifting.Beside.{at, at_is, kept_at}
 use Rattle.move_op.proofs.shifting.Nowhere.{not_third, same_nowhere}
 use Rattle.move_op.proofs.shifting.Deciding.{chosen_shifts, shift_toward}
@@ -54,13 +58,14 @@ Suits site op u = SuitsStep site op.kept op.step u
 
 -- ---- locks back
 module _ (site : Ground) (kept : Kept) where
-  by_next : (held : Held) (end : Ending) (u : View) → IsGiving site kept held u → (next : Option (Role × ℕ)) → give_next held ≡ next → SuitsStep site kept (given_by next held end) u
-  by_next held end u g (Some next) e = g
-  by_next held (ending.Replied answer place) u g None e = give_stands.ends kept.site kept.hash kept.segment held u g.locks g.quiet (ap (give_wanted_of kept.site kept.hash kept.segment) e)
-  by_next held (ending.Again why) u g None e = give_stands.ends kept.site kept.hash kept.segment held u g.locks g.quiet (ap (give_wanted_of kept.site kept.hash kept.segment) e)
+  end_suits : (end : Ending) (u : View) → HoldsOnly [] u → SuitsEnd site kept (end_of end) u
+  end_suits (ending.Replied answer place) u o = o
+  end_suits (ending.Again why) u o = o
 
   pub giving_suits : (held : Held) (end : Ending) (u : View) → IsGiving site kept held u → SuitsStep site kept (giving held end) u
-  giving_suits held end u g = by_next held end u g (give_next held) refl
+  giving_suits held end u g =
+      by_held (λ (s : MoveStep). SuitsStep site kept s u) held (Give held end) (Ended (end_of end)) g
+      (λ none. end_suits end u (give_stands.ends kept.site kept.hash kept.segment held u g.locks g.quiet (ap (give_wanted_of kept.site kept.hash kept.segment) none)))
 
   pub give_suits : (end : Ending) (u : View) → IsGiving site kept kept.held u → Suits site (give kept end) u
   give_suits end u g = giving_suits kept.held end u g

@@ -1,5 +1,5 @@
 -- The laws of a part that speak of a displacement alone: its one store, its end, and the lines that wait.
-use Rattle.std.proofs.Common.{◌≡◌, ℕ, ◌+◌, ◌≤◌, Bool, true, false, Option, None, Some, [], refl, ap, subst, arith}
+use Rattle.std.proofs.Common.{◌≡◌, ℕ, ◌+◌, ◌≤◌, Bool, true, false, Some, [], refl, ap, subst, arith}
 use Rattle.std.specs.Prelude.{nat_lt, if◌then◌else◌}
 use Rattle.op_core.specs.declared.want.Want.TheVariants as want
 use Rattle.op_core.specs.declared.want.Ans.{Ans}
@@ -15,7 +15,6 @@ use Rattle.world.specs.Wants.{answer_to}
 use Rattle.world.specs.Pairs.{IsPublishingKind}
 use Rattle.world.specs.Attempts.{HoldsOnly, EntersReply}
 use Rattle.part.specs.Outcomes.{IsDone, replied, reply_of}
-use Rattle.phase.specs.declared.role.Role.{Role}
 use Rattle.phase.specs.declared.make.Make.{Make}
 use Rattle.phase.specs.declared.make.Make.TheVariants as make
 use Rattle.phase.specs.declared.make.Made.TheVariants as made
@@ -25,6 +24,7 @@ use Rattle.phase.specs.Helds.{give_next, given}
 use Rattle.phase.specs.Making.{waiting_of}
 use Rattle.phase.proofs.Wanting.{no, HasFlush, HasFence, take_no_flush, give_no_flush, few_waiting, Cuts, take_on, give_on, plain_take, plain_give}
 use Rattle.phase.proofs.locks.Giving.{give_stands}
+use Rattle.phase.proofs.locks.Choosing.{by_step}
 use Rattle.phase.proofs.Handing.{done_is, none_has, one_has, done_then}
 use Rattle.move_op.specs.declared.step.MoveEnd.{MoveEnd}
 use Rattle.move_op.specs.declared.step.MoveEnd.TheVariants as ends
@@ -37,7 +37,7 @@ use Rattle.move_op.specs.declared.step.MoveStep.{MoveStep}
 use Rattle.move_op.specs.declared.step.MoveStep.TheVariants.{Lock, Fill, CountSpent, Draw, Give, Ended}
 use Rattle.move_op.specs.declared.step.MoveStep.TheVariants as step
 use Rattle.move_op.specs.Shifts.{target_of, record_of}
-use Rattle.move_op.specs.Steps.{given_by, giving, made_to, lock_of, wanted_in, next_in, is_without_move}
+use Rattle.move_op.specs.Steps.{end_of, giving, made_to, lock_of, wanted_in, next_in, is_without_move}
 use Rattle.move_op.specs.Left.{waiting_at, most_waiting, IsPublished, HasMadeAt}
 use Rattle.move_op.specs.Fits.{kind_at, planned_at, SuitsStep, outcome_of, outcome_at}
 use Rattle.move_op.proofs.Over.{over_done}
@@ -70,12 +70,8 @@ module _ (kept : Kept) where
   makes_in (Ended end) n p = absurd p
 
   -- ---- and it stays made
-  given_made : (next : Option (Role × ℕ)) (held : Held) (answer : Reply) (place : ℕ) → IsDone answer → HasMadeAt (given_by next held (ending.Replied answer place))
-  given_made (Some next) held answer place d = d
-  given_made None held answer place d = d
-
   giving_made : (held : Held) (answer : Reply) (place : ℕ) → IsDone answer → HasMadeAt (giving held (ending.Replied answer place))
-  giving_made held answer place d = given_made (give_next held) held answer place d
+  giving_made held answer place d = by_step HasMadeAt held (Give held (ending.Replied answer place)) (Ended (end_of (ending.Replied answer place))) d d
 
   make_stays : (shift : Shift) (leg : Leg) (m : Make) (a : Ans) → IsPublished leg m → HasMadeAt (next_in kept (step.Make shift leg m) a).step
   make_stays shift Insert make.FlushPublished Passed d = tt

@@ -13,12 +13,13 @@ use Rattle.phase.specs.declared.make.Made.TheVariants as made
 use Rattle.phase.specs.declared.held.Held.{Held}
 use Rattle.phase.specs.declared.kept.Kept.{Kept}
 use Rattle.phase.specs.AreWords.{AreWords}
-use Rattle.phase.specs.Helds.{give_next, given}
+use Rattle.phase.specs.Helds.{given}
 use Rattle.phase.specs.Takes.{take_taken}
 use Rattle.phase.specs.Loads.{load_taken}
 use Rattle.phase.specs.Makes.{make_taken}
 use Rattle.phase.specs.Buckets.{with_words, words_in}
 use Rattle.phase.proofs.Wording.{none_words, AreLoaded, load_words, put_words}
+use Rattle.phase.proofs.locks.Choosing.{by_step}
 use Rattle.phase.specs.declared.ending.Ending.{Ending}
 use Rattle.move_op.specs.declared.step.Direction.{Direction}
 use Rattle.move_op.specs.declared.step.Direction.TheVariants.{Forward, Backward}
@@ -30,15 +31,14 @@ use Rattle.move_op.specs.declared.step.MoveStep.TheVariants.{Lock, Fill, CountSp
 use Rattle.move_op.specs.declared.step.MoveStep.TheVariants as step
 use Rattle.move_op.specs.declared.op.MoveOp.{MoveOp}
 use Rattle.move_op.specs.Shifts.{target_of, shift_in, record_of}
-use Rattle.move_op.specs.Steps.{given_by, give, locked_to, chosen, filled_to, made_to, lock_of, next_in}
+use Rattle.move_op.specs.Steps.{end_of, giving, give, locked_to, chosen, filled_to, made_to, lock_of, next_in}
 use Rattle.move_op.specs.Fits.{HasWordsAt}
 
 abbrev Words : MoveOp → Type 0
 Words op = ((p : Role) → AreWords (words_in op.kept.buckets p)) × HasWordsAt op.step
 
-by_next : (next : Option (Role × ℕ)) (held : Held) (end : Ending) → HasWordsAt (given_by next held end)
-by_next (Some next) held end = tt
-by_next None held end = tt
+giving_words : (held : Held) (end : Ending) → HasWordsAt (giving held end)
+giving_words held end = by_step HasWordsAt held (Give held end) (Ended (end_of end)) tt tt
 
 chosen_words : (d : Direction) (o : Option Shift) → HasWordsAt (chosen d o)
 chosen_words d (Some shift) = tt
@@ -53,7 +53,7 @@ made_words shift Insert made.Settled = tt
 
 module _ (kept : Kept) (all : (p : Role) → AreWords (words_in kept.buckets p)) where
   give_words : (end : Ending) → Words (give kept end)
-  give_words end = (all, by_next (give_next kept.held) kept.held end)
+  give_words end = (all, giving_words kept.held end)
 
   taken_words : (d : Direction) (lock : ℕ) (x : Taken) → Words (locked_to kept d lock x)
   taken_words d lock (taking.On take) = (all, tt)
@@ -73,7 +73,7 @@ module _ (kept : Kept) (all : (p : Role) → AreWords (words_in kept.buckets p))
   words_after CountSpent (Value n) small has = give_words _
   words_after (step.Make shift leg m) Passed small has = (all, made_words shift leg (make_taken (record_of shift leg).slot m))
   words_after (Draw shift) (Drawn n) small has = give_words _
-  words_after (Give held end) Passed small has = (all, by_next (give_next (given held)) (given held) end)
+  words_after (Give held end) Passed small has = (all, giving_words (given held) end)
   words_after s a small has = (all, has)
 
 -- ---- the insert, and where it runs

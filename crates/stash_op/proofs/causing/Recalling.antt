@@ -26,7 +26,7 @@ use Rattle.phase.specs.Places.{is_third, lock_word}
 use Rattle.phase.specs.Takes.{take_wanted}
 use Rattle.phase.specs.Loads.{load_taken}
 use Rattle.phase.specs.Makes.{make_taken}
-use Rattle.phase.specs.Helds.{with_held, without_held, free_of, give_next, given}
+use Rattle.phase.specs.Helds.{with_held, without_held, free_of, given}
 use Rattle.phase.specs.Buckets.{words_in}
 use Rattle.phase.specs.Stands.{HasLoaded as HasLoadedWords}
 use Rattle.phase.specs.Taking.{RemembersTaken}
@@ -47,14 +47,14 @@ use Rattle.phase.specs.declared.ending.Ending.{Ending}
 use Rattle.phase.specs.declared.ending.Ending.TheVariants as ending
 use Rattle.phase.specs.declared.note.NoteWord.{NoteWord}
 use Rattle.phase.specs.declared.note.NoteWord.TheVariants.{Mark, Fingers}
-use Rattle.phase.proofs.locks.Choosing.{by_both}
+use Rattle.phase.proofs.locks.Choosing.{by_both, by_step}
 use Rattle.stash_op.specs.declared.step.StashEnd.TheVariants as ends
 use Rattle.stash_op.specs.declared.step.StashStep.{StashStep}
 use Rattle.stash_op.specs.declared.step.StashStep.TheVariants.{Lock, Fill, Note, Draw, CountSpent, Give, Ended}
 use Rattle.stash_op.specs.declared.step.StashStep.TheVariants as step
 use Rattle.stash_op.specs.declared.step.Stage.{Stage}
 use Rattle.stash_op.specs.Search.{place_of, free_slot, noted, has_finger}
-use Rattle.stash_op.specs.Steps.{go, given_by, giving, in_second, at_second, in_first, at_first, searched, put_in, filled_to, with_lock, locked_to, made_to, noted_to, lock_of, wanted_in, next_in, nothing, kept_in}
+use Rattle.stash_op.specs.Steps.{go, end_of, giving, in_second, at_second, in_first, at_first, searched, put_in, filled_to, with_lock, locked_to, made_to, noted_to, lock_of, wanted_in, next_in, nothing, kept_in}
 use Rattle.stash_op.proofs.Over.{full}
 use Rattle.stash_op.specs.StashPart.{RemembersKept, HasPassed, RemembersIn, BeginsRemembering, HandsOnRemembering}
 
@@ -95,13 +95,12 @@ module _ (site : Ground) (kept : Kept) where
     passed_more Second p = (loaded_more (kept_in kept seen) d.loads more e.loads is place.First p.0, p.1)
 
   -- ---- locks back
-  by_next : (seen : Seen) (d : Doings) (next : Option (Role × ℕ)) (held : Held) (end : Ending) → RemembersIn site kept seen d (given_by next held end)
-  by_next seen d (Some next) held end = tt
-  by_next seen d None held (ending.Replied answer place) = tt
-  by_next seen d None held (ending.Again why) = tt
+  end_recalls : (seen : Seen) (d : Doings) (end : Ending) → RemembersIn site kept seen d (Ended (end_of end))
+  end_recalls seen d (ending.Replied answer place) = tt
+  end_recalls seen d (ending.Again why) = tt
 
   giving_recalls : (seen : Seen) (d : Doings) (held : Held) (end : Ending) → RemembersIn site kept seen d (giving held end)
-  giving_recalls seen d held end = by_next seen d (give_next held) held end
+  giving_recalls seen d held end = by_step (RemembersIn site kept seen d) held (Give held end) (Ended (end_of end)) tt (end_recalls seen d end)
 
   -- ---- a free slot
   module _ (seen : Seen) (d : Doings) (r : RemembersKept site kept seen d seen.held) where

@@ -11,7 +11,6 @@ use Rattle.world.specs.Kinds.{learns, view_after}
 use Rattle.world.specs.Conditions.{IsNewest}
 use Rattle.world.specs.Attempts.{HoldsOnly, EntersReply}
 use Rattle.part.specs.Outcomes.{reply_of}
-use Rattle.phase.specs.declared.role.Role.{Role}
 use Rattle.phase.specs.declared.role.Role.TheVariants as place
 use Rattle.phase.specs.declared.take.Taken.{Taken}
 use Rattle.phase.specs.declared.take.Taken.TheVariants as taking
@@ -20,7 +19,7 @@ use Rattle.phase.specs.declared.load.Loaded.{Loaded}
 use Rattle.phase.specs.declared.load.Loaded.TheVariants as loaded
 use Rattle.phase.specs.declared.held.Held.{Held}
 use Rattle.phase.specs.declared.kept.Kept.{Kept}
-use Rattle.phase.specs.Helds.{free_of, give_next, give_wanted_of}
+use Rattle.phase.specs.Helds.{free_of, give_wanted_of}
 use Rattle.phase.specs.Buckets.{words_in}
 use Rattle.phase.specs.Stands.{IsThere, Leads, HasLoaded as HasLoadedWords}
 use Rattle.phase.specs.Taking.{MayBeTaken, IsButSpent, HasTaken}
@@ -32,6 +31,7 @@ use Rattle.phase.proofs.Loading.{load_begins}
 use Rattle.phase.proofs.locks.Giving.{held_this, held_more, held_same, held_learn, give_stands}
 use Rattle.phase.proofs.locks.Finding.{known_was_loaded}
 use Rattle.phase.proofs.locks.Making.{make_knows}
+use Rattle.phase.proofs.locks.Choosing.{by_held, by_step}
 use Rattle.stash_op.specs.declared.step.StashBucket.{StashBucket}
 use Rattle.stash_op.specs.declared.step.StashBucket.TheVariants.{First, Second}
 use Rattle.stash_op.specs.declared.step.Seen.{Seen}
@@ -39,9 +39,10 @@ use Rattle.phase.specs.declared.ending.Ending.{Ending}
 use Rattle.phase.specs.declared.ending.Ending.TheVariants as ending
 use Rattle.phase.specs.Endings.{outcome_then}
 use Rattle.stash_op.specs.declared.step.StashStep.{StashStep}
+use Rattle.stash_op.specs.declared.step.StashStep.TheVariants.{Give, Ended}
 use Rattle.stash_op.specs.declared.step.Stage.{Stage}
 use Rattle.stash_op.specs.Search.{place_of, free_slot, record_in}
-use Rattle.stash_op.specs.Steps.{end_of, given_by, giving, give, putting, in_second, at_second, in_first, at_first, searched, put_in, filled_to, with_lock, locked_to, lock_of, nothing, begun, kept_in}
+use Rattle.stash_op.specs.Steps.{end_of, giving, give, putting, in_second, at_second, in_first, at_first, searched, put_in, filled_to, with_lock, locked_to, lock_of, nothing, begun, kept_in}
 use Rattle.stash_op.specs.Fits.{IsHere, prepared, IsNext, HasLoaded, IsFilling, IsChanging, IsGiving, SuitsEnd, SuitsStep, IsIn, outcome_at}
 use Rattle.stash_op.specs.Fits as fits
 use Rattle.stash_op.proofs.finding.Standing.{located, holds_loaded, put_loaded}
@@ -59,13 +60,12 @@ abbrev pub Goes : Ground → Kept → View → Stage → View → Type 0
 Goes site kept before stage u = SuitsStage site kept stage u × EntersReply (call_of kept.change) (reply_at stage.step) before u
 
 -- ---- locks back
-outcome_by : (next : Option (Role × ℕ)) (held : Held) (end : Ending) → outcome_at (given_by next held end) ≡ Some (outcome_then end)
-outcome_by (Some next) held end = refl
-outcome_by None held (ending.Replied answer place) = refl
-outcome_by None held (ending.Again why) = refl
+end_outcome : (end : Ending) → outcome_at (Ended (end_of end)) ≡ Some (outcome_then end)
+end_outcome (ending.Replied answer place) = refl
+end_outcome (ending.Again why) = refl
 
 pub giving_outcome : (held : Held) (end : Ending) → outcome_at (giving held end) ≡ Some (outcome_then end)
-giving_outcome held end = outcome_by (give_next held) held end
+giving_outcome held end = by_step (λ (s : StashStep). outcome_at s ≡ Some (outcome_then end)) held (Give held end) (Ended (end_of end)) refl (end_outcome end)
 
 giving_again : (held : Held) (why : Why) → reply_at (giving held (ending.Again why)) ≡ None
 giving_again held why = ap reply_of (giving_outcome held (ending.Again why))
@@ -108,14 +108,10 @@ module _ (site : Ground) (kept : Kept) (is : IsIn site kept) where
   end_suits seen (ending.Replied answer place) u o = o
   end_suits seen (ending.Again why) u o = o
 
-  by_next : (seen : Seen) (held : Held) (end : Ending) (u : View) → IsGiving site kept seen held u → (next : Option (Role × ℕ)) → give_next held ≡ next
-      → SuitsStep site kept seen (given_by next held end) u
-  by_next seen held end u g (Some next) e = g
-  by_next seen held end u g None e =
-      end_suits seen end u (give_stands.ends kept.site kept.hash kept.segment held u g.locks g.quiet (ap (give_wanted_of kept.site kept.hash kept.segment) e))
-
   pub giving_suits : (seen : Seen) (held : Held) (end : Ending) (u : View) → IsGiving site kept seen held u → SuitsStep site kept seen (giving held end) u
-  giving_suits seen held end u g = by_next seen held end u g (give_next held) refl
+  giving_suits seen held end u g =
+      by_held (λ (s : StashStep). SuitsStep site kept seen s u) held (Give held end) (Ended (end_of end)) g
+      (λ none. end_suits seen end u (give_stands.ends kept.site kept.hash kept.segment held u g.locks g.quiet (ap (give_wanted_of kept.site kept.hash kept.segment) none)))
 
   pub give_suits : (seen : Seen) (end : Ending) (u : View) → IsGiving site kept seen seen.held u → SuitsStage site kept (give seen end) u
   give_suits seen end u g = giving_suits seen seen.held end u g

@@ -1,5 +1,5 @@
 -- The one store that makes the insert, the lines that wait, and the ends.
-use Rattle.std.proofs.Common.{◌≡◌, ℕ, ◌+◌, ◌≤◌, Bool, true, false, Option, None, Some, [], refl, ap, arith}
+use Rattle.std.proofs.Common.{◌≡◌, ℕ, ◌+◌, ◌≤◌, Bool, true, false, Some, [], refl, ap, arith}
 use Rattle.std.specs.Prelude.{nat_lt, if◌then◌else◌}
 use Rattle.op_core.specs.declared.want.Want.TheVariants as want
 use Rattle.op_core.specs.declared.want.Ans.{Ans}
@@ -13,7 +13,6 @@ use Rattle.world.specs.Wants.{answer_to}
 use Rattle.world.specs.Pairs.{IsPublishingKind}
 use Rattle.world.specs.Attempts.{HoldsOnly}
 use Rattle.part.specs.Outcomes.{IsDone, replied}
-use Rattle.phase.specs.declared.role.Role.{Role}
 use Rattle.phase.specs.declared.make.Make.{Make}
 use Rattle.phase.specs.declared.make.Make.TheVariants as make
 use Rattle.phase.specs.declared.make.Made.TheVariants as made
@@ -30,7 +29,7 @@ use Rattle.phase.specs.declared.ending.Ending.{Ending}
 use Rattle.phase.specs.declared.ending.Ending.TheVariants as ending
 use Rattle.phase.specs.declared.note.NoteWord.{NoteWord}
 use Rattle.phase.specs.declared.note.NoteWord.TheVariants.{Mark, Fingers}
-use Rattle.phase.proofs.locks.Choosing.{by_both}
+use Rattle.phase.proofs.locks.Choosing.{by_both, by_step}
 use Rattle.stash_op.specs.declared.step.StashEnd.{StashEnd}
 use Rattle.stash_op.specs.declared.step.StashEnd.TheVariants as ends
 use Rattle.stash_op.specs.declared.step.StashStep.{StashStep}
@@ -38,7 +37,7 @@ use Rattle.stash_op.specs.declared.step.StashStep.TheVariants.{Lock, Fill, Note,
 use Rattle.stash_op.specs.declared.step.StashStep.TheVariants as step
 use Rattle.stash_op.specs.declared.step.Stage.{Stage}
 use Rattle.stash_op.specs.Search.{place_of, note_place, noted, has_finger}
-use Rattle.stash_op.specs.Steps.{go, given_by, giving, made_to, lock_of, note_wanted, wanted_in, next_in, needs_split}
+use Rattle.stash_op.specs.Steps.{go, end_of, giving, made_to, lock_of, note_wanted, wanted_in, next_in, needs_split}
 use Rattle.stash_op.specs.Left.{waiting_at, most_waiting, HasMadeAt}
 use Rattle.stash_op.specs.Fits.{mark_kind, note_kind, kind_at, SuitsStep, outcome_of, outcome_at}
 use Rattle.stash_op.proofs.Over.{over_done}
@@ -78,12 +77,8 @@ module _ (kept : Kept) (seen : Seen) where
   makes_in (Ended end) n p = absurd p
 
   -- ---- and it stays made
-  given_made : (next : Option (Role × ℕ)) (held : Held) (answer : Reply) (place : ℕ) → IsDone answer → HasMadeAt (given_by next held (ending.Replied answer place))
-  given_made (Some next) held answer place d = d
-  given_made None held answer place d = d
-
   giving_made : (held : Held) (answer : Reply) (place : ℕ) → IsDone answer → HasMadeAt (giving held (ending.Replied answer place))
-  giving_made held answer place d = given_made (give_next held) held answer place d
+  giving_made held answer place d = by_step HasMadeAt held (Give held (ending.Replied answer place)) (Ended (end_of (ending.Replied answer place))) d d
 
   noted_made : (part : NoteWord) → HasMadeAt (next_in kept seen (Note part) Passed).step
   noted_made Mark = by_both (λ (s : Stage). HasMadeAt s.step) (has_finger seen (noted kept.hash seen)) (go seen (Note Fingers)) (go seen Draw) tt tt

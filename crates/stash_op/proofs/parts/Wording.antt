@@ -13,7 +13,7 @@ use Rattle.phase.specs.declared.make.Made.{Made}
 use Rattle.phase.specs.declared.make.Made.TheVariants as made
 use Rattle.phase.specs.declared.held.Held.{Held}
 use Rattle.phase.specs.declared.kept.Kept.{Kept}
-use Rattle.phase.specs.Helds.{give_next, given}
+use Rattle.phase.specs.Helds.{given}
 use Rattle.phase.specs.Takes.{take_taken}
 use Rattle.phase.specs.Makes.{make_taken}
 use Rattle.phase.specs.Buckets.{words_in}
@@ -25,25 +25,24 @@ use Rattle.stash_op.specs.declared.step.Seen.{Seen}
 use Rattle.phase.specs.declared.ending.Ending.{Ending}
 use Rattle.phase.specs.declared.note.NoteWord.{NoteWord}
 use Rattle.phase.specs.declared.note.NoteWord.TheVariants.{Mark, Fingers}
-use Rattle.phase.proofs.locks.Choosing.{by_both}
+use Rattle.phase.proofs.locks.Choosing.{by_both, by_step}
 use Rattle.stash_op.specs.declared.step.StashStep.{StashStep}
 use Rattle.stash_op.specs.declared.step.StashStep.TheVariants.{Lock, Fill, Note, Draw, CountSpent, Give, Ended}
 use Rattle.stash_op.specs.declared.step.StashStep.TheVariants as step
 use Rattle.stash_op.specs.declared.step.Stage.{Stage}
 use Rattle.stash_op.specs.Search.{place_of, free_slot, noted, has_finger}
-use Rattle.stash_op.specs.Steps.{go, given_by, give, in_second, at_second, in_first, at_first, searched, put_in, filled_with, filled_to, locked_to, lock_of, made_to, noted_to, next_in}
+use Rattle.stash_op.specs.Steps.{go, end_of, giving, give, in_second, at_second, in_first, at_first, searched, put_in, filled_with, filled_to, locked_to, lock_of, made_to, noted_to, next_in}
 use Rattle.stash_op.specs.Fits.{HasWordsAt}
 
 abbrev pub Words : Stage → Type 0
 Words st = ((p : Role) → AreWords (words_in st.seen.buckets p)) × HasWordsAt st.step
 
-by_next : (next : Option (Role × ℕ)) (held : Held) (end : Ending) → HasWordsAt (given_by next held end)
-by_next (Some next) held end = tt
-by_next None held end = tt
+giving_words : (held : Held) (end : Ending) → HasWordsAt (giving held end)
+giving_words held end = by_step HasWordsAt held (Give held end) (Ended (end_of end)) tt tt
 
 module _ (kept : Kept) (seen : Seen) (all : (p : Role) → AreWords (words_in seen.buckets p)) where
   give_words : (end : Ending) → Words (give seen end)
-  give_words end = (all, by_next (give_next seen.held) seen.held end)
+  give_words end = (all, giving_words seen.held end)
 
   second_words : (slot : Option ℕ) → Words (in_second kept seen slot)
   second_words (Some slot) = (all, tt)
@@ -97,5 +96,5 @@ module _ (kept : Kept) (seen : Seen) (all : (p : Role) → AreWords (words_in se
   words_after (Note part) Passed small has = noted_words part
   words_after Draw (Drawn n) small has = give_words kept seen all _
   words_after CountSpent (Value n) small has = give_words kept seen all _
-  words_after (Give held end) Passed small has = (all, by_next (give_next (given held)) (given held) end)
+  words_after (Give held end) Passed small has = (all, giving_words (given held) end)
   words_after s a small has = (all, has)

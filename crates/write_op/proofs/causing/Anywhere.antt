@@ -25,7 +25,7 @@ use Rattle.phase.specs.declared.make.Made.{Made}
 use Rattle.phase.specs.declared.make.Made.TheVariants as made
 use Rattle.phase.specs.declared.held.Held.{Held}
 use Rattle.phase.specs.Asked.{index, looked_by}
-use Rattle.phase.specs.Helds.{none_held, free_of, give_next, given}
+use Rattle.phase.specs.Helds.{none_held, free_of, given}
 use Rattle.phase.specs.Buckets.{with_words}
 use Rattle.phase.specs.Walks.{walk_taken}
 use Rattle.phase.specs.Takes.{take_taken}
@@ -41,14 +41,14 @@ use Rattle.phase.specs.declared.ending.Ending.{Ending}
 use Rattle.phase.specs.declared.ending.Ending.TheVariants as ending
 use Rattle.phase.specs.declared.note.NoteWord.{NoteWord}
 use Rattle.phase.specs.declared.note.NoteWord.TheVariants.{Mark, Fingers}
-use Rattle.phase.proofs.locks.Choosing.{by_both}
+use Rattle.phase.proofs.locks.Choosing.{by_both, by_step}
 use Rattle.write_op.specs.declared.step.WriteStep.{WriteStep}
 use Rattle.write_op.specs.declared.step.WriteStep.TheVariants.{Way, Lock, Check, Fill, Count, Draw, Unnote, CountSpent, Give, Ended}
 use Rattle.write_op.specs.declared.step.WriteStep.TheVariants as step
 use Rattle.write_op.specs.declared.step.Stage.{Stage}
 use Rattle.write_op.specs.declared.op.WriteOp.{WriteOp}
 use Rattle.write_op.specs.Search.{found, room_in, leaves_note, unnoted, has_finger}
-use Rattle.write_op.specs.Steps.{go, given_by, giving, answered, walked_to, locked_to, lock_of, backed_to, visit_second, with_visits, filled, filled_to, inserting, changing, decided, made_to, unnoted_to, begun, next_in, wanted, taken}
+use Rattle.write_op.specs.Steps.{go, end_of, giving, answered, walked_to, locked_to, lock_of, backed_to, visit_second, with_visits, filled, filled_to, inserting, changing, decided, made_to, unnoted_to, begun, next_in, wanted, taken}
 use Rattle.write_op.specs.Fits.{is_asked, HoldsUpto}
 use Rattle.write_op.specs.AnyMemory.{after_all, did_all, HasLoadedKept, KeepsLoads}
 use Rattle.write_op.proofs.finding.Places.{never, holds_more, holds_less, held_asked}
@@ -66,12 +66,8 @@ HoldsIn seen more = ⊤
 abbrev Holds : Stage → Type 0
 Holds s = HoldsIn s.seen s.step
 
-given_holds : (seen : Seen) (next : Option (Role × ℕ)) (held : Held) (end : Ending) → HoldsIn seen (given_by next held end)
-given_holds seen (Some next) held end = tt
-given_holds seen None held end = tt
-
 giving_holds : (seen : Seen) (held : Held) (end : Ending) → HoldsIn seen (giving held end)
-giving_holds seen held end = given_holds seen (give_next held) held end
+giving_holds seen held end = by_step (HoldsIn seen) held (Give held end) (Ended (end_of end)) tt tt
 
 none_holds : (seen : Seen) → seen.held ≡ none_held → HoldsUpto seen 0
 none_holds seen none = record {

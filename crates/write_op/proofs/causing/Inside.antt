@@ -31,7 +31,7 @@ use Rattle.phase.specs.Takes.{take_taken}
 use Rattle.phase.specs.Backs.{back_taken}
 use Rattle.phase.specs.Loads.{load_taken}
 use Rattle.phase.specs.Makes.{make_taken}
-use Rattle.phase.specs.Helds.{give_next, given}
+use Rattle.phase.specs.Helds.{given}
 use Rattle.phase.specs.Buckets.{with_words, words_in}
 use Rattle.write_op.specs.declared.step.Task.{Task}
 use Rattle.write_op.specs.declared.step.Spot.{Spot}
@@ -39,14 +39,14 @@ use Rattle.write_op.specs.declared.step.Seen.{Seen}
 use Rattle.phase.specs.declared.ending.Ending.{Ending}
 use Rattle.phase.specs.declared.note.NoteWord.{NoteWord}
 use Rattle.phase.specs.declared.note.NoteWord.TheVariants.{Mark, Fingers}
-use Rattle.phase.proofs.locks.Choosing.{by_both}
+use Rattle.phase.proofs.locks.Choosing.{by_both, by_step}
 use Rattle.write_op.specs.declared.step.WriteStep.{WriteStep}
 use Rattle.write_op.specs.declared.step.WriteStep.TheVariants.{Way, Lock, Check, Fill, Count, Draw, Unnote, CountSpent, Give, Ended}
 use Rattle.write_op.specs.declared.step.WriteStep.TheVariants as step
 use Rattle.write_op.specs.declared.step.Stage.{Stage}
 use Rattle.write_op.specs.declared.op.WriteOp.{WriteOp}
 use Rattle.write_op.specs.Search.{found, room_in, published_word, leaves_note, unnoted, has_finger}
-use Rattle.write_op.specs.Steps.{go, given_by, giving, answered, walked_to, locked, locked_to, lock_of, backed_to, visit_second, visit_first, with_visits, filled, filled_to, inserting, changing, decided, made_to, unnoted_to, begun, wanted, next_in, taken}
+use Rattle.write_op.specs.Steps.{go, end_of, giving, answered, walked_to, locked, locked_to, lock_of, backed_to, visit_second, visit_first, with_visits, filled, filled_to, inserting, changing, decided, made_to, unnoted_to, begun, wanted, next_in, taken}
 use Rattle.write_op.specs.AnyMemory.{after_all, AsksInside}
 use Rattle.write_op.proofs.finding.Searching.{found_some}
 use Rattle.write_op.proofs.finding.Rooms.{room_some}
@@ -61,12 +61,8 @@ StoresIn seen more = ⊤
 abbrev Stores : Stage → Type 0
 Stores s = StoresIn s.seen s.step
 
-given_stores : (seen : Seen) (next : Option (Role × ℕ)) (held : Held) (end : Ending) → StoresIn seen (given_by next held end)
-given_stores seen (Some next) held end = tt
-given_stores seen None held end = tt
-
 giving_stores : (seen : Seen) (held : Held) (end : Ending) → StoresIn seen (giving held end)
-giving_stores seen held end = given_stores seen (give_next held) held end
+giving_stores seen held end = by_step (StoresIn seen) held (Give held end) (Ended (end_of end)) tt tt
 
 published_low : (d : Effect) (slot : ℕ) → slot < record_slots → published_word d slot < 32
 published_low (Insert value) slot low = omega arith

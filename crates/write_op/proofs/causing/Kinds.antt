@@ -52,14 +52,14 @@ use Rattle.phase.specs.declared.ending.Ending.{Ending}
 use Rattle.phase.specs.declared.ending.Ending.TheVariants as ending
 use Rattle.phase.specs.declared.note.NoteWord.{NoteWord}
 use Rattle.phase.specs.declared.note.NoteWord.TheVariants.{Mark, Fingers}
-use Rattle.phase.proofs.locks.Choosing.{by_both}
+use Rattle.phase.proofs.locks.Choosing.{by_both, by_step}
 use Rattle.write_op.specs.declared.step.WriteStep.{WriteStep}
 use Rattle.write_op.specs.declared.step.WriteStep.TheVariants.{Way, Lock, Check, Fill, Count, Draw, Unnote, CountSpent, Give, Ended}
 use Rattle.write_op.specs.declared.step.WriteStep.TheVariants as step
 use Rattle.write_op.specs.declared.step.Stage.{Stage}
 use Rattle.write_op.specs.declared.op.WriteOp.{WriteOp}
 use Rattle.write_op.specs.Search.{found, room_in, leaves_note, unnoted, has_finger}
-use Rattle.write_op.specs.Steps.{go, given_by, giving, answered, walked_to, locked_to, lock_of, backed_to, visit_second, visit_first, with_visits, filled, filled_to, inserting, changing, decided, made_to, unnoted_to, begun, wanted_in, next_in, wanted, taken}
+use Rattle.write_op.specs.Steps.{go, end_of, giving, answered, walked_to, locked_to, lock_of, backed_to, visit_second, visit_first, with_visits, filled, filled_to, inserting, changing, decided, made_to, unnoted_to, begun, wanted_in, next_in, wanted, taken}
 use Rattle.write_op.specs.Fits.{kind_of}
 use Rattle.write_op.specs.ChangePart.{RemembersIn}
 use Rattle.write_op.specs.AnyMemory.{after_all, did_all, EventsHaveKinds, TriesFree}
@@ -134,12 +134,8 @@ TakesIn seen more = MayGive seen.held
 abbrev Takes : Stage → Type 0
 Takes s = TakesIn s.seen s.step
 
-given_takes : (seen : Seen) (next : Option (Role × ℕ)) (held : Held) (end : Ending) → MayGive held → TakesIn seen (given_by next held end)
-given_takes seen (Some next) held end g = g
-given_takes seen None held end g = tt
-
 giving_takes : (seen : Seen) (held : Held) (end : Ending) → MayGive held → TakesIn seen (giving held end)
-giving_takes seen held end g = given_takes seen (give_next held) held end g
+giving_takes seen held end g = by_step (TakesIn seen) held (Give held end) (Ended (end_of end)) g tt
 
 module _ (task : Task) (seen : Seen) (g : MayGive seen.held) where
   walked_takes : (x : Walked) → Takes (walked_to seen x)

@@ -36,7 +36,7 @@ use Rattle.phase.specs.Takes.{take_wanted, take_looked, take_lost}
 use Rattle.phase.specs.Backs.{back_word, back_taken}
 use Rattle.phase.specs.Loads.{load_taken}
 use Rattle.phase.specs.Makes.{make_taken}
-use Rattle.phase.specs.Helds.{with_held, free_of, give_next, given}
+use Rattle.phase.specs.Helds.{with_held, free_of, given}
 use Rattle.phase.specs.Stands.{HasLoaded as HasLoadedWords}
 use Rattle.phase.specs.Taking.{RemembersTaken}
 use Rattle.phase.specs.Giving.{IsHeld}
@@ -59,13 +59,13 @@ use Rattle.write_op.specs.declared.step.WriteEnd.{WriteEnd}
 use Rattle.write_op.specs.declared.step.WriteEnd.TheVariants as ends
 use Rattle.phase.specs.declared.note.NoteWord.{NoteWord}
 use Rattle.phase.specs.declared.note.NoteWord.TheVariants.{Mark, Fingers}
-use Rattle.phase.proofs.locks.Choosing.{by_both}
+use Rattle.phase.proofs.locks.Choosing.{by_both, by_step}
 use Rattle.write_op.specs.declared.step.WriteStep.{WriteStep}
 use Rattle.write_op.specs.declared.step.WriteStep.TheVariants.{Way, Lock, Check, Fill, Count, Draw, Unnote, CountSpent, Give, Ended}
 use Rattle.write_op.specs.declared.step.WriteStep.TheVariants as step
 use Rattle.write_op.specs.declared.step.Stage.{Stage}
 use Rattle.write_op.specs.Search.{found, room_in, visits, leaves_note, unnoted, has_finger}
-use Rattle.write_op.specs.Steps.{kept_in, go, given_by, giving, answered, walked_to, locked_to, backed_to, visit_second, with_visits, filled_with, filled_to, inserting, changing, decided, made_to, drawn_to, unnoted_to, lock_of, wanted_in, next_in}
+use Rattle.write_op.specs.Steps.{kept_in, go, end_of, giving, answered, walked_to, locked_to, backed_to, visit_second, with_visits, filled_with, filled_to, inserting, changing, decided, made_to, drawn_to, unnoted_to, lock_of, wanted_in, next_in}
 use Rattle.write_op.specs.Fits.{is_asked, Upto}
 use Rattle.write_op.specs.ChangePart.{HasReason, WasThere, ChangedOwn, LoadedUpto, LoadedHeld, AsksFor, RemembersIn}
 use Rattle.write_op.proofs.finding.Rooms.{room_none}
@@ -100,13 +100,12 @@ module _ (task : Task) where
   none_loaded seen d place u = absurd (none_before seen.first seen.second place u)
 
   -- ---- locks back
-  by_next : (seen : Seen) (d : Doings) (next : Option (Role × ℕ)) (held : Held) (end : Ending) → RemembersIn task seen d (given_by next held end)
-  by_next seen d (Some next) held end = tt
-  by_next seen d None held (ending.Replied answer place) = tt
-  by_next seen d None held (ending.Again why) = tt
+  end_recalls : (seen : Seen) (d : Doings) (end : Ending) → RemembersIn task seen d (Ended (end_of end))
+  end_recalls seen d (ending.Replied answer place) = tt
+  end_recalls seen d (ending.Again why) = tt
 
   giving_recalls : (seen : Seen) (d : Doings) (held : Held) (end : Ending) → RemembersIn task seen d (giving held end)
-  giving_recalls seen d held end = by_next seen d (give_next held) held end
+  giving_recalls seen d held end = by_step (RemembersIn task seen d) held (Give held end) (Ended (end_of end)) tt (end_recalls seen d end)
 
   -- ---- the way
   module _ (seen : Seen) (d : Doings) (none : d.changed ≡ []) where

@@ -16,15 +16,14 @@ use Rattle.phase.specs.declared.back.Backed.TheVariants as backed
 use Rattle.phase.specs.declared.load.Loaded.{Loaded}
 use Rattle.phase.specs.declared.load.Loaded.TheVariants as loaded
 use Rattle.phase.specs.declared.held.Held.{Held}
-use Rattle.phase.specs.Helds.{give_next}
 use Rattle.write_op.specs.declared.step.Seen.{Seen}
 use Rattle.phase.specs.declared.ending.Ending.{Ending}
 use Rattle.phase.specs.declared.ending.Ending.TheVariants as ending
 use Rattle.phase.specs.Endings.{outcome_then}
-use Rattle.phase.proofs.locks.Choosing.{by_both}
+use Rattle.phase.proofs.locks.Choosing.{by_both, by_step}
 use Rattle.write_op.specs.declared.step.WriteStep.{WriteStep}
-use Rattle.write_op.specs.declared.step.WriteStep.TheVariants.{Lock, Count}
-use Rattle.write_op.specs.Steps.{given_by, giving, walked_to, locked, locked_to, backed_to, visit_second, visit_first, with_visits, filled, filled_to}
+use Rattle.write_op.specs.declared.step.WriteStep.TheVariants.{Lock, Count, Give, Ended}
+use Rattle.write_op.specs.Steps.{end_of, giving, walked_to, locked, locked_to, backed_to, visit_second, visit_first, with_visits, filled, filled_to}
 use Rattle.write_op.specs.Fits.{outcome_at}
 
 -- the reply that is decided
@@ -32,13 +31,12 @@ abbrev pub reply_at : WriteStep → Option (Reply × ℕ)
 reply_at s = reply_of (outcome_at s)
 
 -- ---- locks back
-by_next : (next : Option (Role × ℕ)) (held : Held) (end : Ending) → outcome_at (given_by next held end) ≡ Some (outcome_then end)
-by_next (Some next) held end = refl
-by_next None held (ending.Replied answer place) = refl
-by_next None held (ending.Again why) = refl
+end_outcome : (end : Ending) → outcome_at (Ended (end_of end)) ≡ Some (outcome_then end)
+end_outcome (ending.Replied answer place) = refl
+end_outcome (ending.Again why) = refl
 
 pub giving_outcome : (held : Held) (end : Ending) → outcome_at (giving held end) ≡ Some (outcome_then end)
-giving_outcome held end = by_next (give_next held) held end
+giving_outcome held end = by_step (λ (s : WriteStep). outcome_at s ≡ Some (outcome_then end)) held (Give held end) (Ended (end_of end)) refl (end_outcome end)
 
 giving_again : (held : Held) (why : Why) → reply_at (giving held (ending.Again why)) ≡ None
 giving_again held why = ap reply_of (giving_outcome held (ending.Again why))

@@ -1,5 +1,5 @@
 -- On the way, at the locks, and while buckets are loaded: what each phase makes of an answer leaves a view that suits.
-use Rattle.std.proofs.Common.{◌≡◌, ℕ, ◌+◌, Bool, true, false, Option, None, Some, List, [], ◌∷◌, inl, inr, refl, sym, ap, subst, arith}
+use Rattle.std.proofs.Common.{◌≡◌, ℕ, ◌+◌, Bool, true, false, None, List, [], ◌∷◌, inl, inr, refl, sym, ap, subst, arith}
 use Rattle.std.specs.Prelude.{if◌then◌else◌}
 use Rattle.op_core.specs.declared.why.Why.TheVariants.{Busy, Moved}
 use Rattle.hash_word.specs.Hash.{home_of}
@@ -26,7 +26,7 @@ use Rattle.phase.specs.declared.load.Loaded.{Loaded}
 use Rattle.phase.specs.declared.load.Loaded.TheVariants as loaded
 use Rattle.phase.specs.declared.held.Held.{Held}
 use Rattle.phase.specs.Asked.{index, looked_by, loaded_by}
-use Rattle.phase.specs.Helds.{none_held, with_held, free_of, give_next, give_wanted_of}
+use Rattle.phase.specs.Helds.{none_held, with_held, free_of, give_wanted_of}
 use Rattle.phase.specs.Buckets.{with_words, words_in}
 use Rattle.phase.specs.Backs.{back_taken}
 use Rattle.phase.specs.Stands.{back_kind, IsThere, HasLoaded as HasLoadedWords, HasWalked}
@@ -38,13 +38,15 @@ use Rattle.phase.proofs.Loading.{load_begins}
 use Rattle.phase.proofs.asking.Asked.{near_asked, upto_more, upto_less}
 use Rattle.phase.proofs.Wording.{words_this, words_other}
 use Rattle.phase.proofs.locks.Giving.{none_free, held_none, held_stands, give_stands}
+use Rattle.phase.proofs.locks.Choosing.{by_held}
 use Rattle.write_op.specs.declared.step.Task.{Task}
 use Rattle.write_op.specs.declared.step.Seen.{Seen}
 use Rattle.phase.specs.declared.ending.Ending.{Ending}
 use Rattle.phase.specs.declared.ending.Ending.TheVariants as ending
-use Rattle.write_op.specs.declared.step.WriteStep.TheVariants.{Lock, Count}
+use Rattle.write_op.specs.declared.step.WriteStep.{WriteStep}
+use Rattle.write_op.specs.declared.step.WriteStep.TheVariants.{Lock, Count, Give, Ended}
 use Rattle.write_op.specs.Search.{visits}
-use Rattle.write_op.specs.Steps.{end_of, given_by, giving, give, walked_to, locked_to, lock_of, backed_to, visit_second, with_visits, filled_with, filled_to}
+use Rattle.write_op.specs.Steps.{end_of, giving, give, walked_to, locked_to, lock_of, backed_to, visit_second, with_visits, filled_with, filled_to}
 use Rattle.write_op.specs.Fits.{is_asked, Upto, IsVisiting, HasLoaded, IsPinned, PinnedAt, VisitsAt, IsGiving, SuitsEnd, SuitsStep, SuitsStage, IsIn}
 use Rattle.write_op.proofs.finding.Places.{holds_more, holds_less}
 
@@ -60,14 +62,10 @@ module _ (site : Ground) (task : Task) (is : IsIn site task) where
   end_suits seen (ending.Replied answer place) u o = o
   end_suits seen (ending.Again why) u o = o
 
-  by_next : (seen : Seen) (held : Held) (end : Ending) (u : View) → IsGiving site task seen held u → (next : Option (Role × ℕ)) → give_next held ≡ next
-      → SuitsStep site task seen (given_by next held end) u
-  by_next seen held end u g (Some next) e = g
-  by_next seen held end u g None e =
-      end_suits seen end u (give_stands.ends task.site task.hash seen.path.segment held u g.locks g.quiet (ap (give_wanted_of task.site task.hash seen.path.segment) e))
-
   pub giving_suits : (seen : Seen) (held : Held) (end : Ending) (u : View) → IsGiving site task seen held u → SuitsStep site task seen (giving held end) u
-  giving_suits seen held end u g = by_next seen held end u g (give_next held) refl
+  giving_suits seen held end u g =
+      by_held (λ (s : WriteStep). SuitsStep site task seen s u) held (Give held end) (Ended (end_of end)) g
+      (λ none. end_suits seen end u (give_stands.ends task.site task.hash seen.path.segment held u g.locks g.quiet (ap (give_wanted_of task.site task.hash seen.path.segment) none)))
 
   pub give_suits : (seen : Seen) (end : Ending) (u : View) → IsGiving site task seen seen.held u → SuitsStage site task (give seen end) u
   give_suits seen end u g = giving_suits seen seen.held end u g

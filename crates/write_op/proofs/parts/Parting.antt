@@ -20,7 +20,6 @@ use Rattle.world.specs.Kinds.{peeks, meets_entry, meets_head, pins, finds_room}
 use Rattle.world.specs.Pairs.{IsPublishingKind}
 use Rattle.world.specs.Attempts.{HoldsOnly}
 use Rattle.part.specs.Outcomes.{IsDone, replied}
-use Rattle.phase.specs.declared.role.Role.{Role}
 use Rattle.phase.specs.declared.walk.Walk.{Walk}
 use Rattle.phase.specs.declared.walk.Walk.TheVariants as walk
 use Rattle.phase.specs.declared.back.Back.{Back}
@@ -44,7 +43,7 @@ use Rattle.phase.specs.declared.ending.Ending.{Ending}
 use Rattle.phase.specs.declared.ending.Ending.TheVariants as ending
 use Rattle.phase.specs.declared.note.NoteWord.{NoteWord}
 use Rattle.phase.specs.declared.note.NoteWord.TheVariants.{Mark, Fingers}
-use Rattle.phase.proofs.locks.Choosing.{by_both}
+use Rattle.phase.proofs.locks.Choosing.{by_both, by_step}
 use Rattle.write_op.specs.declared.step.WriteEnd.{WriteEnd}
 use Rattle.write_op.specs.declared.step.WriteEnd.TheVariants as ends
 use Rattle.write_op.specs.declared.step.WriteStep.{WriteStep}
@@ -52,7 +51,7 @@ use Rattle.write_op.specs.declared.step.WriteStep.TheVariants.{Way, Lock, Check,
 use Rattle.write_op.specs.declared.step.WriteStep.TheVariants as step
 use Rattle.write_op.specs.declared.step.Stage.{Stage}
 use Rattle.write_op.specs.Search.{found, leaves_note, unnoted, has_finger}
-use Rattle.write_op.specs.Steps.{go, given_by, giving, answered, made_to, lock_of, note_wanted, wanted_in, next_in, is_without_slot}
+use Rattle.write_op.specs.Steps.{go, end_of, giving, answered, made_to, lock_of, note_wanted, wanted_in, next_in, is_without_slot}
 use Rattle.write_op.specs.Left.{waiting_at, most_waiting, HasMadeAt}
 use Rattle.write_op.specs.Fits.{inserting_kind, changing_kind, deciding_kind, mark_kind, note_kind, kind_at, SuitsStep, outcome_of, outcome_at}
 use Rattle.write_op.proofs.Over.{over_done}
@@ -130,12 +129,8 @@ module _ (task : Task) (seen : Seen) where
   makes_in s n p = makes_there s n (only_there s n p)
 
   -- ---- and it stays made
-  given_made : (next : Option (Role × ℕ)) (held : Held) (answer : Reply) (place : ℕ) → IsDone answer → HasMadeAt (given_by next held (ending.Replied answer place))
-  given_made (Some next) held answer place d = d
-  given_made None held answer place d = d
-
   giving_made : (held : Held) (answer : Reply) (place : ℕ) → IsDone answer → HasMadeAt (giving held (ending.Replied answer place))
-  giving_made held answer place d = given_made (give_next held) held answer place d
+  giving_made held answer place d = by_step HasMadeAt held (Give held (ending.Replied answer place)) (Ended (end_of (ending.Replied answer place))) d d
 
   unnoted_made : (part : NoteWord) (place : ℕ) → HasMadeAt (next_in task seen (Unnote part place) Passed).step
   unnoted_made Mark place = by_both (λ (s : Stage). HasMadeAt s.step) (has_finger seen (unnoted task.hash seen)) (go seen (Unnote Fingers place)) (answered seen place reply.Done) tt (giving_made seen.held reply.Done place tt)

@@ -23,7 +23,7 @@ use Rattle.phase.specs.declared.make.Make.TheVariants as make
 use Rattle.phase.specs.declared.make.Made.TheVariants as made
 use Rattle.phase.specs.declared.held.Held.{Held}
 use Rattle.phase.specs.Buckets.{with_words}
-use Rattle.phase.specs.Helds.{give_next, given}
+use Rattle.phase.specs.Helds.{given}
 use Rattle.phase.specs.Walks.{walk_taken}
 use Rattle.phase.specs.Takes.{take_taken}
 use Rattle.phase.specs.Backs.{back_taken}
@@ -33,13 +33,13 @@ use Rattle.write_op.specs.declared.step.Spot.{Spot}
 use Rattle.write_op.specs.declared.step.Seen.{Seen}
 use Rattle.phase.specs.declared.ending.Ending.{Ending}
 use Rattle.phase.specs.declared.ending.Ending.TheVariants as ending
-use Rattle.phase.proofs.locks.Choosing.{by_both}
+use Rattle.phase.proofs.locks.Choosing.{by_both, by_step}
 use Rattle.write_op.specs.declared.step.WriteStep.{WriteStep}
 use Rattle.write_op.specs.declared.step.WriteStep.TheVariants.{Way, Lock, Check, Fill, Count, Draw, Unnote, CountSpent, Give, Ended}
 use Rattle.write_op.specs.declared.step.WriteStep.TheVariants as step
 use Rattle.write_op.specs.declared.step.Stage.{Stage}
 use Rattle.write_op.specs.Search.{found, room_in}
-use Rattle.write_op.specs.Steps.{given_by, giving, answered, walked_to, locked, locked_to, backed_to, visit_second, visit_first, with_visits, filled, filled_to, inserting, changing, decided, counted, made_to, lock_of, next_in}
+use Rattle.write_op.specs.Steps.{end_of, giving, answered, walked_to, locked, locked_to, backed_to, visit_second, visit_first, with_visits, filled, filled_to, inserting, changing, decided, counted, made_to, lock_of, next_in}
 use Rattle.write_op.specs.Left.{HasMadeAt}
 use Rattle.write_op.specs.Causes.{MadeOnlySo}
 
@@ -48,13 +48,15 @@ Unmade s = HasMadeAt s → ⊥
 
 -- ---- locks back
 -- the end of locks that are given back is was where their giving is
-given_made : (next : Option (Role × ℕ)) (held : Held) (end : Ending) → HasMadeAt (given_by next held end) → HasMadeAt (Give held end)
-given_made (Some next) held end was = was
-given_made None held (ending.Replied answer place) was = was
-given_made None held (ending.Again why) was = absurd was
+end_made : (held : Held) (end : Ending) → HasMadeAt (Ended (end_of end)) → HasMadeAt (Give held end)
+end_made held (ending.Replied answer place) was = was
+end_made held (ending.Again why) was = absurd was
+
+given_made : (held : Held) (end : Ending) → HasMadeAt (giving held end) → HasMadeAt (Give held end)
+given_made held end = by_step (λ (s : WriteStep). HasMadeAt s → HasMadeAt (Give held end)) held (Give held end) (Ended (end_of end)) (λ was. was) (end_made held end)
 
 giving_unmade : (held : Held) (end : Ending) → Unmade (Give held end) → Unmade (giving held end)
-giving_unmade held end out was = out (given_made (give_next held) held end was)
+giving_unmade held end out was = out (given_made held end was)
 
 module _ (task : Task) (seen : Seen) where
   -- ---- the way
@@ -146,7 +148,7 @@ module _ (task : Task) (seen : Seen) where
   only_made Draw a was = inl tt
   only_made (Unnote part place) a was = inl tt
   only_made CountSpent (Value n) was = absurd (giving_unmade seen.held (ending.Replied reply.Spent n) (λ again. again) was)
-  only_made (Give held end) Passed was = inl (given_made (give_next (given held)) (given held) end was)
+  only_made (Give held end) Passed was = inl (given_made (given held) end was)
   only_made s a was = inl was
 
 pub made_only_so : MadeOnlySo

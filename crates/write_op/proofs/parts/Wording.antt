@@ -21,7 +21,7 @@ use Rattle.phase.specs.declared.load.Loaded.TheVariants as loaded
 use Rattle.phase.specs.declared.make.Made.{Made}
 use Rattle.phase.specs.declared.make.Made.TheVariants as made
 use Rattle.phase.specs.declared.held.Held.{Held}
-use Rattle.phase.specs.Helds.{give_next, given}
+use Rattle.phase.specs.Helds.{given}
 use Rattle.phase.specs.Walks.{walk_taken}
 use Rattle.phase.specs.Takes.{take_taken}
 use Rattle.phase.specs.Backs.{back_taken}
@@ -38,23 +38,22 @@ use Rattle.write_op.specs.declared.step.WriteStep.TheVariants.{Way, Lock, Check,
 use Rattle.write_op.specs.declared.step.WriteStep.TheVariants as step
 use Rattle.write_op.specs.declared.step.Stage.{Stage}
 use Rattle.write_op.specs.Search.{found, room_in, leaves_note, unnoted, has_finger}
-use Rattle.write_op.specs.Steps.{go, given_by, give, answered, walked_to, locked, locked_to, lock_of, backed_to, visit_second, visit_first, with_visits, filled_with, filled_to, inserting, changing, decided, made_to, unnoted_to, next_in}
+use Rattle.write_op.specs.Steps.{go, end_of, giving, give, answered, walked_to, locked, locked_to, lock_of, backed_to, visit_second, visit_first, with_visits, filled_with, filled_to, inserting, changing, decided, made_to, unnoted_to, next_in}
 use Rattle.phase.specs.AreWords.{AreWords}
 use Rattle.write_op.specs.Fits.{HasWordsAt}
 use Rattle.phase.proofs.Wording.{none_words, set_words, put_words}
-use Rattle.phase.proofs.locks.Choosing.{by_both}
+use Rattle.phase.proofs.locks.Choosing.{by_both, by_step}
 
 -- ---- what is kept
 abbrev Words : Stage → Type 0
 Words st = ((p : Role) → AreWords (words_in st.seen.buckets p)) × HasWordsAt st.step
 
-by_next : (next : Option (Role × ℕ)) (held : Held) (end : Ending) → HasWordsAt (given_by next held end)
-by_next (Some next) held end = tt
-by_next None held end = tt
+giving_words : (held : Held) (end : Ending) → HasWordsAt (giving held end)
+giving_words held end = by_step HasWordsAt held (Give held end) (Ended (end_of end)) tt tt
 
 module _ (task : Task) (seen : Seen) (all : (p : Role) → AreWords (words_in seen.buckets p)) where
   give_words : (end : Ending) → Words (give seen end)
-  give_words end = (all, by_next (give_next seen.held) seen.held end)
+  give_words end = (all, giving_words seen.held end)
 
   walked_words : (x : Walked) → Words (walked_to seen x)
   walked_words (walked.On w) = (all, tt)
@@ -132,5 +131,5 @@ module _ (task : Task) (seen : Seen) (all : (p : Role) → AreWords (words_in se
   words_after Draw (Drawn n) small has = by_both Words (leaves_note task.change.effect seen.place) (go seen (Unnote Mark n)) (answered seen n reply.Done) (all, tt) (give_words _)
   words_after (Unnote part place) Passed small has = unnoted_words part place
   words_after CountSpent (Value n) small has = give_words _
-  words_after (Give held end) Passed small has = (all, by_next (give_next (given held)) (given held) end)
+  words_after (Give held end) Passed small has = (all, giving_words (given held) end)
   words_after s a small has = (all, has)
