@@ -1,9 +1,7 @@
 -- What a power cut may leave of a shared image: sound images with what was replied, each planned change whole or absent.
-use Rattle.std.proofs.Common.{◌≡◌, ◌⊎◌, inl, inr, ℕ, zero, suc, ◌^◌, ◌<◌, ◌≤◌, List, [], ◌∷◌, ◌++◌, length, cond, Option, None, Some, refl, sym, ap, ◌∙◌, subst, arith, append_assoc, append-nil}
+use Rattle.std.proofs.Common.{◌≡◌, ◌⊎◌, inl, inr, ℕ, zero, suc, ◌^◌, ◌<◌, ◌≤◌, List, [], ◌∷◌, ◌++◌, length, Option, refl, sym, ap, ◌∙◌, subst, arith, append_assoc, append-nil}
 use Rattle.std.specs.Prelude.{slice_index, take, map, Contains}
-use Rattle.std.specs.Cmp.{nat_cmp_total, unsigned_tied}
-use Rattle.std.specs.FinMap.{get, get-insert, get-remove}
-use Rattle.std.proofs.lemmas.Bool.{eq-eqb}
+use Rattle.std.specs.FinMap.{get}
 use Rattle.std.proofs.lemmas.List.{get_or-take}
 use Rattle.std.proofs.lemmas.List.Elements.{Contains-append_right}
 use mathlib.Core.Option.{some-injective, some-ne-none}
@@ -12,10 +10,9 @@ use Rattle.trace.specs.Events.{Words}
 use Rattle.image_layout.specs.Places.{Shape, IsShape, state_word, words_of}
 use Rattle.image_layout.specs.StateWord.{marker_in}
 use Rattle.map_model.specs.declared.call.Call.{Call}
-use Rattle.map_model.specs.declared.call.Call.TheVariants.{Get, Insert, Update, Remove}
 use Rattle.map_model.specs.declared.entry.Reply.TheVariants.{Done}
 use Rattle.map_model.specs.declared.entry.Entry.{Entry}
-use Rattle.map_model.specs.Map.{Map, key_of, reply_of, changed, after}
+use Rattle.map_model.specs.Map.{Map, key_of, reply_of, after}
 use Rattle.map_model.specs.Weave.{weave}
 use Rattle.map_model.specs.Legal.{replay, IsLegal}
 use Rattle.sound_image.specs.Records.{HasAt}
@@ -25,11 +22,11 @@ use Rattle.bucket_words.specs.Core.{core_of}
 use Rattle.bucket_words.specs.Hits.{find}
 use Rattle.world.specs.Ground.{Ground}
 use Rattle.world.specs.Views.{View, Has, At, IsLoose}
-use Rattle.world.specs.History.{result_of, reply_by}
+use Rattle.world.specs.History.{reply_by}
 use Rattle.world.specs.Media.{IsPossible}
 use Rattle.world.specs.StepLaws.{IsGoodMedium}
 use Rattle.world.specs.Attempts.{OwesNothing}
-use Rattle.world.proofs.Legality.{same_reply, not_shown}
+use Rattle.world.proofs.Legality.{after_has}
 use Rattle.restart_op.specs.Closing.{SaysShapeInFront}
 use Rattle.restart_op.proofs.images.Rules.{unmarked_rules}
 use Rattle.restart_op.proofs.images.Pairs.{has_of_found}
@@ -78,16 +75,6 @@ loose_with p (pass ∷ passes) (suc j) u x at l = loose_with (both p pass.me.0) 
 planned_with : (p : Watch) (passes : List (Seat ℕ Watch)) → (with_all p passes).view.planned ≡ p.view.planned ++ planned_in passes
 planned_with p [] = sym (append-nil p.view.planned)
 planned_with p (pass ∷ passes) = planned_with (both p pass.me.0) passes ∙ append_assoc p.view.planned pass.me.0.view.planned (planned_in passes)
-
--- ---- a change of the map
-changed_has : (m : Map) (call : Call) → Done ≡ reply_by (get m (key_of call)) call → get (changed m call) (key_of call) ≡ result_of call
-changed_has m (Get k) done = absurd (not_shown (get m k) done)
-changed_has m (Insert k v) done = get-insert nat_cmp_total m k v k ∙ ap (λ b. cond b (Some v) (get m k)) (unsigned_tied k k ∙ eq-eqb k k refl)
-changed_has m (Update k v) done = get-insert nat_cmp_total m k v k ∙ ap (λ b. cond b (Some v) (get m k)) (unsigned_tied k k ∙ eq-eqb k k refl)
-changed_has m (Remove k) done = get-remove nat_cmp_total m k k ∙ ap (λ b. cond b None (get m k)) (unsigned_tied k k ∙ eq-eqb k k refl)
-
-after_has : (m : Map) (call : Call) → Done ≡ reply_by (get m (key_of call)) call → get (after m call (reply_of m call)) (key_of call) ≡ result_of call
-after_has m call done = ap (λ r. get (after m call r) (key_of call)) (sym (same_reply m call) ∙ sym done) ∙ changed_has m call done
 
 -- ---- a cut
 module _ (site : Ground) (before newest : List ℕ) (p : Watch) (passes : List (Seat ℕ Watch)) (is_shape : IsShape site.shape)

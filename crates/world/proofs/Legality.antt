@@ -1,6 +1,6 @@
 -- A history in log form makes the replies of all callers one legal history of a plain map, and its map is that map's.
 use Rattle.std.proofs.Common.{◌≡◌, ℕ, zero, suc, ◌+◌, ◌<◌, ◌≤◌, Bool, true, cond, eqb, List, [], ◌∷◌, ◌++◌, length, map, Option, None, Some, inl, inr, refl, sym, ap, ◌∙◌, subst, arith, length-append}
-use Rattle.std.proofs.lemmas.Bool.{eqb-true, le-leb, lt-leb}
+use Rattle.std.proofs.lemmas.Bool.{eqb-true, eq-eqb, le-leb, lt-leb}
 use Rattle.std.proofs.lemmas.List.Elements.{filter-append}
 use Rattle.std.specs.Prelude.{filter}
 use Rattle.std.specs.List.{AllByRecursion}
@@ -12,7 +12,7 @@ use Rattle.map_model.specs.declared.call.Call.TheVariants.{Get, Insert, Update, 
 use Rattle.map_model.specs.declared.entry.Reply.{Reply}
 use Rattle.map_model.specs.declared.entry.Reply.TheVariants.{Found, Absent, Done, Exists, Full, Deep, Spent}
 use Rattle.map_model.specs.declared.entry.Entry.{Entry}
-use Rattle.map_model.specs.Map.{Map, key_of, shown, reply_of, is_done, changed}
+use Rattle.map_model.specs.Map.{Map, key_of, shown, reply_of, is_done, changed, after}
 use Rattle.map_model.specs.Weave.{all_of, draws, drew_at, weave}
 use Rattle.map_model.specs.Legal.{IsReplyOf, replay, InOrder, IsPlace, IsLegal, seen_after}
 use Rattle.map_model.specs.ByPlaces.{draws_below, map_at, IsRightAtPlace}
@@ -62,6 +62,12 @@ changed_is m (Get q) k done = absurd (not_shown (get m q) done)
 changed_is m (Insert q v) k done = get-insert nat_cmp_total m q v k ∙ ap (λ b. cond b (Some v) (get m k)) (unsigned_tied k q)
 changed_is m (Update q v) k done = get-insert nat_cmp_total m q v k ∙ ap (λ b. cond b (Some v) (get m k)) (unsigned_tied k q)
 changed_is m (Remove q) k done = get-remove nat_cmp_total m q k ∙ ap (λ b. cond b None (get m k)) (unsigned_tied k q)
+
+changed_has : (m : Map) (call : Call) → Done ≡ reply_by (get m (key_of call)) call → get (changed m call) (key_of call) ≡ result_of call
+changed_has m call done = changed_is m call (key_of call) done ∙ ap (λ b. cond b (result_of call) (get m (key_of call))) (eq-eqb (key_of call) (key_of call) refl)
+
+pub after_has : (m : Map) (call : Call) → Done ≡ reply_by (get m (key_of call)) call → get (after m call (reply_of m call)) (key_of call) ≡ result_of call
+after_has m call done = ap (λ r. get (after m call r) (key_of call)) (sym (same_reply m call) ∙ sym done) ∙ changed_has m call done
 
 -- ---- the map after one change more
 when_zero : (start : ℕ → Option ℕ) (log : Log) (k : ℕ) → map_when start log 0 k ≡ start k

@@ -1,10 +1,9 @@
 -- A core that holds is good.
-use Rattle.std.proofs.Common.{◌≡◌, ℕ, zero, suc, ◌^◌, ◌<◌, ◌≤◌, ◌⊎◌, Bool, true, false, cond, List, [], ◌∷◌, ◌++◌, length, map, slice_get, slice_index, Contains, Option, None, Some, inl, inr, refl, sym, ap, ◌∙◌, subst, arith}
+use Rattle.std.proofs.Common.{◌≡◌, ℕ, zero, suc, ◌^◌, ◌<◌, ◌≤◌, ◌⊎◌, Bool, true, false, List, [], ◌∷◌, ◌++◌, length, map, slice_get, slice_index, Contains, Option, None, Some, inl, inr, refl, sym, ap, ◌∙◌, subst, arith}
 use mathlib.Core.Option.{some-injective, some-ne-none}
 use Rattle.std.specs.List.{AllZip}
-use Rattle.std.specs.Cmp.{nat_cmp_total, unsigned_tied}
-use Rattle.std.specs.FinMap.{get, get-insert, get-remove}
-use Rattle.std.proofs.lemmas.Bool.{cases_lt, eq-eqb}
+use Rattle.std.specs.FinMap.{get}
+use Rattle.std.proofs.lemmas.Bool.{cases_lt}
 use Rattle.std.proofs.lemmas.List.{get_or_past}
 use Rattle.std.proofs.lemmas.List.Elements.{Contains-append_left, Contains-append_right}
 use Rattle.std.proofs.lemmas.Option.{none-some, same_Some}
@@ -13,10 +12,9 @@ use Rattle.trace.specs.Media.{IsPossible as DevicePossible}
 use Rattle.image_layout.specs.Places.{state_word, words_of}
 use Rattle.image_layout.specs.StateWord.{marker_in}
 use Rattle.map_model.specs.declared.call.Call.{Call}
-use Rattle.map_model.specs.declared.call.Call.TheVariants.{Get, Insert, Update, Remove}
 use Rattle.map_model.specs.declared.entry.Reply.TheVariants as reply
 use Rattle.map_model.specs.declared.entry.Entry.{Entry}
-use Rattle.map_model.specs.Map.{Map, key_of, reply_of, changed, after}
+use Rattle.map_model.specs.Map.{Map, key_of, reply_of, after}
 use Rattle.map_model.specs.Weave.{weave}
 use Rattle.map_model.specs.Legal.{replay}
 use Rattle.sound_image.specs.Records.{HasAt}
@@ -33,7 +31,7 @@ use Rattle.world.specs.Media.{IsPossible}
 use Rattle.world.specs.World.{fresh_view}
 use Rattle.world.specs.Laws.{EntriesAreLegal}
 use Rattle.world.specs.areas.Worlds.{DeviceLeaves}
-use Rattle.world.proofs.Legality.{same_reply, not_shown}
+use Rattle.world.proofs.Legality.{after_has}
 use Rattle.restart_op.proofs.images.Rules.{unmarked_rules}
 use Rattle.restart_op.proofs.images.Pairs.{has_of_found}
 use Rattle.engine.specs.Core.{Caller, Core, current, open_of, told_of, tolds_of, histories}
@@ -47,16 +45,6 @@ use Rattle.engine.specs.OpPart.{op_part}
 use Rattle.engine.proofs.Places.{one_more}
 use Rattle.engine.proofs.holding.Scripted.{all_follow}
 use Rattle.engine.proofs.sessions.Cut.{told_had, told_full, told_spent, told_legal, IsLegalWith}
-
--- ---- a change of the map
-changed_has : (m : Map) (call : Call) → reply.Done ≡ reply_by (get m (key_of call)) call → get (changed m call) (key_of call) ≡ result_of call
-changed_has m (Get k) done = absurd (not_shown (get m k) done)
-changed_has m (Insert k v) done = get-insert nat_cmp_total m k v k ∙ ap (λ b. cond b (Some v) (get m k)) (unsigned_tied k k ∙ eq-eqb k k refl)
-changed_has m (Update k v) done = get-insert nat_cmp_total m k v k ∙ ap (λ b. cond b (Some v) (get m k)) (unsigned_tied k k ∙ eq-eqb k k refl)
-changed_has m (Remove k) done = get-remove nat_cmp_total m k k ∙ ap (λ b. cond b None (get m k)) (unsigned_tied k k ∙ eq-eqb k k refl)
-
-after_has : (m : Map) (call : Call) → reply.Done ≡ reply_by (get m (key_of call)) call → get (after m call (reply_of m call)) (key_of call) ≡ result_of call
-after_has m call done = ap (λ r. get (after m call r) (key_of call)) (sym (same_reply m call) ∙ sym done) ∙ changed_has m call done
 
 -- ---- the open calls
 -- a caller that has planned a change has its call open, and has not drawn
