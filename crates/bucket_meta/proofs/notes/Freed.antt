@@ -4,6 +4,7 @@ use Rattle.std.specs.Int.{bit_not, w64}
 use Rattle.std.proofs.lemmas.Nat.{and_shr, and_mod, and_mask, and_le_l}
 use Rattle.word_bits.specs.Bits.{bits, bit, mask}
 use Rattle.word_bits.proofs.OneBit.{clear_same, clear_other}
+use Rattle.word_bits.proofs.Fits.{and_fits}
 use Rattle.bucket_meta.specs.Bucket.{note_used, note_member, note_index, note_finger, overflow_count}
 use Rattle.bucket_meta.specs.NoteWords.{finger_bits, freed_mark, freed_fingers, FreesPlace}
 use Rattle.bucket_meta.proofs.Fingers.{byte_there}
@@ -43,15 +44,12 @@ below n m ones =
     let small : n % 2 ^ 28 % 2 ^ 28 ≡ n % 2 ^ 28 = omega arith in
     and_mod n (2 ^ 64 - 1 - m) 28 ∙ ap (bit_and (n % 2 ^ 28)) ones ∙ and_mask (n % 2 ^ 28) 28 ∙ small
 
-pub fits_less : (n m : ℕ) → n < 2 ^ 64 → bit_and n m < 2 ^ 64
-fits_less n m fits = let most = and_le_l n m in omega (arith, fits, most)
-
 module _ (w : ℕ) (fits : w < 2 ^ 64) where
   above_by : (a b c : ℕ) → (2 ^ 64 - 1 - a) / 2 ^ 40 ≡ 2 ^ 24 - 1 → (2 ^ 64 - 1 - b) / 2 ^ 40 ≡ 2 ^ 24 - 1 → (2 ^ 64 - 1 - c) / 2 ^ 40 ≡ 2 ^ 24 - 1
       → bit_and (bit_and (bit_and w (2 ^ 64 - 1 - a)) (2 ^ 64 - 1 - b)) (2 ^ 64 - 1 - c) / 2 ^ 40 ≡ w / 2 ^ 40
   above_by a b c p q r =
-      above (bit_and (bit_and w (2 ^ 64 - 1 - a)) (2 ^ 64 - 1 - b)) c (fits_less (bit_and w (2 ^ 64 - 1 - a)) (2 ^ 64 - 1 - b) (fits_less w (2 ^ 64 - 1 - a) fits)) r
-      ∙ above (bit_and w (2 ^ 64 - 1 - a)) b (fits_less w (2 ^ 64 - 1 - a) fits) q ∙ above w a fits p
+      above (bit_and (bit_and w (2 ^ 64 - 1 - a)) (2 ^ 64 - 1 - b)) c (and_fits (bit_and w (2 ^ 64 - 1 - a)) (2 ^ 64 - 1 - b) (and_fits w (2 ^ 64 - 1 - a) fits)) r
+      ∙ above (bit_and w (2 ^ 64 - 1 - a)) b (and_fits w (2 ^ 64 - 1 - a) fits) q ∙ above w a fits p
 
   below_by : (a b c : ℕ) → (2 ^ 64 - 1 - a) % 2 ^ 28 ≡ 2 ^ 28 - 1 → (2 ^ 64 - 1 - b) % 2 ^ 28 ≡ 2 ^ 28 - 1 → (2 ^ 64 - 1 - c) % 2 ^ 28 ≡ 2 ^ 28 - 1
       → bit_and (bit_and (bit_and w (2 ^ 64 - 1 - a)) (2 ^ 64 - 1 - b)) (2 ^ 64 - 1 - c) % 2 ^ 28 ≡ w % 2 ^ 28

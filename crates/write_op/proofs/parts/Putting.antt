@@ -1,10 +1,10 @@
 -- A change puts words alone into the memory, and asks for words of the image and those right behind it.
 use Rattle.std.proofs.Common.{◌≡◌, ℕ, ◌+◌, ◌*◌, ◌%◌, ◌^◌, ◌<◌, ◌≤◌, Option, Some, None, List, refl, sym, subst, arith, slice_index}
-use Rattle.std.specs.Prelude.{⊤, ◌==◌, bit_and}
-use Rattle.std.proofs.lemmas.Nat.{and_le_l}
+use Rattle.std.specs.Prelude.{⊤, ◌==◌}
 use Rattle.std.specs.Int.{bit_not, w64}
 use Rattle.hash_word.specs.Hash.{finger_of}
 use Rattle.word_bits.specs.Bits.{mask}
+use Rattle.word_bits.proofs.Fits.{and_fits}
 use Rattle.bucket_meta.specs.Bucket.{record_slots}
 use Rattle.bucket_meta.specs.Marks.{finger_place}
 use Rattle.bucket_meta.specs.NoteWords.{note_place, freed_mark, freed_fingers, lowered_count, finger_bits}
@@ -56,12 +56,9 @@ use Rattle.write_op.specs.Fits.{HasAll, IsChosen, SuitsStep, IsIn}
 use Rattle.write_op.proofs.finding.Chosen.{slot_low, written_is}
 use Rattle.write_op.proofs.permitting.Publishing.{located_all, key_is, value_is, mark_is, word_is}
 
-less : (n m : ℕ) → n < 2 ^ 64 → bit_and n m < 2 ^ 64
-less n m fits = let most = and_le_l n m in omega (arith, fits, most)
-
 -- ---- marks
 freed_small : (w i : ℕ) → w < 2 ^ 64 → freed_mark w i < 2 ^ 64
-freed_small w i fits = less _ (bit_not w64 (finger_bits i)) (less _ (bit_not w64 (mask (36 + i))) (less _ (bit_not w64 (mask (32 + i))) (less w (bit_not w64 (mask (28 + i))) fits)))
+freed_small w i fits = and_fits _ (bit_not w64 (finger_bits i)) (and_fits _ (bit_not w64 (mask (36 + i))) (and_fits _ (bit_not w64 (mask (32 + i))) (and_fits w (bit_not w64 (mask (28 + i))) fits)))
 
 fingers_small : (w i : ℕ) → w < 2 ^ 64 → freed_fingers w i < 2 ^ 64
 fingers_small w i fits = either_small (i == 0) _ _ (finger_below w 6 0 (omega arith)) (either_small (i == 1) _ w (finger_below w 7 0 (omega arith)) fits)
