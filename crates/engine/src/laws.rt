@@ -73,10 +73,11 @@ pub(crate) fn attempts_have_causes()
 }
 
 /// An engine fits the world of many callers: at the beginning of a call, on a site of this shape and version, it suits the view of a caller
-/// that holds, knows and owes nothing; while the power is on each event is one of a kind that the view may take, and leaves a view that suits
-/// the engine; or the attempt has ended, and the caller holds and owes nothing, and has its reply as its next entry, or its view suits the
-/// next attempt of the call, which splits a segment where that is needed, and repairs one that is stale. Whatever an attempt was decided to
-/// be, the next one begins so with a view that holds and owes nothing; and so does the repair of a segment that the view knows to be live.
+/// that holds, knows and owes nothing; while the power is on each event of a caller that has a number is one of a kind that the view may take,
+/// and leaves a view that suits the engine; or the attempt has ended, and the caller holds and owes nothing, and has its reply as its next
+/// entry, or its view suits the next attempt of the call, which splits a segment where that is needed, and repairs one that is stale. Whatever
+/// an attempt was decided to be, the next one of a caller that has a number begins so with a view that holds and owes nothing; and so does the
+/// repair of a segment that the view knows to be live.
 pub fn fits_the_world()
     ensures begins { BeginsSuited }
     ensures anew { AnewSuited }

@@ -33,8 +33,8 @@ pub fn attempts_have_laws()
 }
 
 /// An attempt is under way where its engine has done nothing yet and the view suits it, be it that of a call, of a split or of a repair; and
-/// where its engine wants nothing more it is over: with a reply, or with none, and then the view suits the next attempt. So begins the repair of
-/// a segment that the view knows to be live.
+/// where its engine wants nothing more it is over: with a reply, or with none, and then, unless the power was found off, the view suits the next
+/// attempt of a caller that has a number. So begins, of such a caller, the repair of a segment that the view knows to be live.
 pub fn attempts_begin_and_end()
     ensures begins { BeginsGoing }
     ensures ends { EndsOver }

@@ -62,8 +62,9 @@ pub fn close(table: OwnedImage, keeper: ImageSeat, room: Vec<u64>) -> Vec<u64>
 }
 
 /// Ends an image where its power was cut: `keeper` has taken in the seats of all other callers, wherever these stood, so that it holds
-/// and owes what they did. The newest words, those behind the image with them, come back in `room`, which has as many; what else the cut
-/// may have left is said by the keeper's view.
+/// and owes what they did. Words, those behind the image with them, come back in `room`, which has as many. Of the keeper's views there is
+/// one history, and whatever the cut may have left of these words is good over it; they themselves may be left, and what may be left
+/// beside them is said by the keeper's own view.
 pub fn cut(table: OwnedImage, keeper: ImageSeat, room: Vec<u64>) -> Vec<u64>
     requires seat { IsSeatOf table.shared.table_id table.shared.key keeper }
     requires callers { keeper.me.0.view.callers ≡ table.shared.key.callers }
