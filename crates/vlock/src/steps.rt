@@ -11,6 +11,9 @@ use crate::table::{Acting, Acts, Image, ImageSeat};
 use image_layout::Geometry;
 use op_core::{Ans, Want};
 
+/// How many words a line has.
+const LINE: usize = trace::LINE as usize;
+
 /// One event, as one atomic step. It gives the value that its word was found to have.
 ///
 /// `about` is not read: at a call with `Brand` the ghosts of `N` are made from the numbers in it. A flush is a load of the
@@ -39,7 +42,7 @@ pub fn step<N: Acting, E>(
             image.compare_exchange::<Acts<N>>(seat, word as usize, old, new)
         }
         Want::Draw => image.fetch_add::<Acts<N>>(seat, counter, 1),
-        Want::Flush(line) => image.load::<Acts<N>>(seat, 8 * line as usize),
+        Want::Flush(line) => image.load::<Acts<N>>(seat, LINE * line as usize),
         Want::Fence => image.load::<Acts<N>>(seat, counter),
         Want::Power => image.load::<Acts<N>>(seat, counter + 1),
         Want::Done => unreachable!(),
