@@ -3,7 +3,7 @@ use Rattle.std.specs.Prelude.{◌≡◌, ℕ, suc, ◌<◌, ◌≤◌, ⊤, Opti
 use Rattle.std.specs.List.{AllByRecursion}
 use Rattle.op_core.specs.declared.want.Want.{Want}
 use Rattle.op_core.specs.declared.want.Want.TheVariants.{Flush, Done}
-use Rattle.trace.specs.Events.{Words, Trace, HasLine}
+use Rattle.trace.specs.Events.{Words, Trace, HasLine, most_unfenced}
 use Rattle.trace.specs.Progress.{pending}
 use Rattle.image_layout.specs.Places.{Shape, state_word, words_of}
 use Rattle.image_layout.specs.Volatile.{all_words_of}
@@ -110,7 +110,7 @@ IsRunning t s = IsRunningBy t s.keeper s.core
 pub record MayBeDone (t : Setup) (c : ℕ) (core : Core) (w : Want) : Type 0 where
   pub word : word_of t.shape w < all_words_of t.shape
   pub line : (l : ℕ) → w ≡ Flush l → HasLine (words_of t.shape) l
-  pub few : (l : ℕ) → w ≡ Flush l → length (pending c core.trace) < 8
+  pub few : (l : ℕ) → w ≡ Flush l → length (pending c core.trace) < most_unfenced
   pub some : w ≡ Done → ⊥
 
 -- an event that a state has may be done, and leaves a state of the run

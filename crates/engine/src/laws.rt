@@ -1,6 +1,7 @@
 //! The laws of an engine. The functions do nothing: each stands for the law that its contract says.
 
 ghost use Rattle.std.specs.Prelude.{◌≡◌, ◌≢◌, ℕ, ◌+◌, ◌<◌, ◌≤◌, ◌⊎◌, false, Some};
+ghost use Rattle.trace.specs.Events.{most_unfenced};
 ghost use Rattle.op_core.specs.declared.want.Want.TheVariants.{Flush, Fence, Done};
 ghost use Rattle.op_core.specs.declared.want.Ans.{Ans};
 ghost use Rattle.map_model.specs.declared.call.Call.{Call};
@@ -139,7 +140,7 @@ pub fn stores_keep_notes()
 /// raises it, and no event but a fence lowers it.
 pub fn flushes_are_few()
     ensures begins { (here : Site) (e : Engine) → IsFresh here e → waiting e ≡ 0 }
-    ensures most { (e : Engine) → waiting e ≤ 8 }
+    ensures most { (e : Engine) → waiting e ≤ most_unfenced }
     ensures flushes { (e : Engine) (ans : Ans) (l : ℕ) → IsAnswer (wanted e) ans → wanted e ≡ Flush l → waiting e + 1 ≤ waiting (taken e ans) }
     ensures keeps { (e : Engine) (ans : Ans) → IsAnswer (wanted e) ans → wanted e ≢ Fence → waiting e ≤ waiting (taken e ans) }
     ensures ends { (e : Engine) → wanted e ≡ Done → waiting e ≡ 0 }

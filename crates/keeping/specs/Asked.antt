@@ -1,6 +1,6 @@
 -- When a memory can do an event, and what the event finds.
 use Rattle.std.specs.Prelude.{◌≡◌, ℕ, ◌<◌, ◌≤◌, slice_index}
-use Rattle.trace.specs.Events.{HasLine}
+use Rattle.trace.specs.Events.{HasLine, most_unfenced}
 use Rattle.op_core.specs.declared.want.Want.{Want}
 use Rattle.op_core.specs.declared.want.Want.TheVariants.{Flush, Done}
 use Rattle.image_layout.specs.Places.{words_of}
@@ -18,5 +18,5 @@ pub record MayBeAsked (caller : ℕ) (w : Want) (memory : Memory) : Type 0 where
   pub caller_is : caller ≤ memory.callers
   pub word : word_of memory.shape w < all_words_of memory.shape
   pub line : (l : ℕ) → w ≡ Flush l → HasLine (words_of memory.shape) l
-  pub few : (l : ℕ) → w ≡ Flush l → unfenced caller memory < 8
+  pub few : (l : ℕ) → w ≡ Flush l → unfenced caller memory < most_unfenced
   pub some : w ≡ Done → ⊥

@@ -2,6 +2,7 @@
 
 ghost use Rattle.std.specs.Prelude.{◌≡◌, ℕ, ◌<◌, ◌≤◌, ◌+◌, ◌↔◌, IfOk, IfErr, OnOk, OnErr, IsOk, [], ◌++◌, ◌-◌, replicate, length, slice_index};
 ghost use Rattle.image_layout.specs.Places.{words_of};
+ghost use Rattle.trace.specs.Events.{most_unfenced};
 ghost use Rattle.trace.specs.Events.Event.{loaded, stored, exchanged, drawn, flushed, fenced};
 ghost use Rattle.image_layout.specs.Volatile.{all_words_of, counter_word};
 ghost use Rattle.pm_trace.specs.Memory.{IsLine, unfenced};
@@ -17,7 +18,7 @@ use std::alloc::{AllocError, Global};
 use std::marker::Model;
 
 /// How many lines a caller may have flushed and not fenced.
-const LINES: usize = 8;
+const LINES: usize = trace::MOST_UNFENCED as usize;
 
 /// These words, and zeros behind them: `total` in all.
 fn padded(alloc: Global, words: &[u64], total: usize) -> Result<Vec<u64>, AllocError>
@@ -42,6 +43,7 @@ pub struct Device {
 
 impl Model for Device {
     ghost use Rattle.std.specs.Prelude.{◌≡◌, ℕ, ◌+◌, ◌*◌, ◌≤◌, All, length, vec_capacity};
+    ghost use Rattle.trace.specs.Events.{most_unfenced};
     ghost use Rattle.image_layout.specs.Volatile.{all_words_of};
     ghost use Rattle.pm_trace.specs.Memory.{Memory, flushes_of};
     ghost use Rattle.pm_trace.specs.FlushLists.{IsFlush};
@@ -53,8 +55,8 @@ impl Model for Device {
     ghost invariant = { λ d. (length d.newest.items ≡ all_words_of d.geometry)
         × (length d.settled.items ≡ all_words_of d.geometry)
         × All (IsFlush d.geometry d.callers) d.flushes.items
-        × ((c : ℕ) → length (flushes_of c d.flushes.items) ≤ 8)
-        × (8 * (d.callers + 1) ≤ vec_capacity d.flushes) };
+        × ((c : ℕ) → length (flushes_of c d.flushes.items) ≤ most_unfenced)
+        × (most_unfenced * (d.callers + 1) ≤ vec_capacity d.flushes) };
 }
 
 impl Device {
@@ -174,7 +176,7 @@ impl Device {
     pub fn flush(&mut self, caller: u8, line: u64)
         requires line { IsLine self.old.shape line }
         requires caller { caller ≤ self.old.callers }
-        requires room { unfenced caller self.old < 8 }
+        requires room { unfenced caller self.old < most_unfenced }
         ensures follows { Follows self.old (flushed caller line) self.new }
         ensures shape { self.new.shape ≡ self.old.shape }
         ensures callers { self.new.callers ≡ self.old.callers }

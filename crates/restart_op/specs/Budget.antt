@@ -1,5 +1,5 @@
 -- How many events a restart takes, and which words they are on.
-use Rattle.std.specs.Prelude.{◌≡◌, ◌≢◌, ℕ, suc, ◌+◌, ◌-◌, ◌*◌, ◌/◌, ◌<◌, ◌⊎◌, ⊤, if◌then◌else◌}
+use Rattle.std.specs.Prelude.{◌≡◌, ◌≢◌, ℕ, suc, ◌+◌, ◌-◌, ◌*◌, ◌<◌, ◌⊎◌, ⊤, if◌then◌else◌}
 use Rattle.trace.specs.Events.{Words, line_of}
 use Rattle.image_layout.specs.Places.{Shape, IsShape, state_word}
 use Rattle.op_core.specs.declared.want.Want.{Want}
@@ -10,12 +10,13 @@ use Rattle.world.specs.areas.Areas.{header_word}
 use Rattle.restart_op.specs.declared.restart.RestartStep.{RestartStep}
 use Rattle.restart_op.specs.declared.restart.RestartStep.TheVariants.{Load, LoadHead, StoreHead, FlushHead, FenceHeads, Store, Flush, Fence, Ended}
 use Rattle.restart_op.specs.declared.restart.RestartOp.{RestartOp}
+use Rattle.restart_op.specs.Course.{fences_of}
 use Rattle.restart_op.specs.Restart.{started_for, begun, wanted, taken}
 
 -- HOW MANY EVENTS a restart takes: four for the state word; and in a sweep a load, a store and a flush of each header, and a fence for each eight
 -- of them
 abbrev pub events_of_sweep : Shape → ℕ
-events_of_sweep shape = 3 * shape.segments + (shape.segments + 7) / 8 + 4
+events_of_sweep shape = 3 * shape.segments + fences_of shape.segments + 4
 
 abbrev pub events_of_restart : Shape → Words → ℕ
 events_of_restart shape words = if (started_for (words state_word)).swept then events_of_sweep shape else 4
@@ -27,15 +28,15 @@ from_to from to = suc (to - from - 1)
 
 -- in a round, from a header on: those of the loads and stores to come, of the flushes from the first of the round on, of the fences, and three
 abbrev pub left_in_round : ℕ → ℕ → ℕ → ℕ
-left_in_round slots first slot = 2 * from_to slot slots + from_to first slots + (from_to first slots + 7) / 8 + 3
+left_in_round slots first slot = 2 * from_to slot slots + from_to first slots + fences_of (from_to first slots) + 3
 
 -- at most so many events are left
 abbrev pub left_in : Shape → RestartStep → ℕ
 left_in shape Load = suc (left_in_round shape.segments 0 0)
 left_in shape (LoadHead first slot) = left_in_round shape.segments first slot
 left_in shape (StoreHead first slot head) = left_in_round shape.segments first slot - 1
-left_in shape (FlushHead slot end) = from_to slot end + (1 + 3 * (shape.segments - end) + (shape.segments - end + 7) / 8 + 3)
-left_in shape (FenceHeads end) = 1 + 3 * (shape.segments - end) + (shape.segments - end + 7) / 8 + 3
+left_in shape (FlushHead slot end) = from_to slot end + (1 + 3 * (shape.segments - end) + fences_of (shape.segments - end) + 3)
+left_in shape (FenceHeads end) = 1 + 3 * (shape.segments - end) + fences_of (shape.segments - end) + 3
 left_in shape (Store started) = 3
 left_in shape (Flush started) = 2
 left_in shape (Fence started) = 1

@@ -4,7 +4,7 @@ use Rattle.op_core.specs.declared.want.Want.{Want}
 use Rattle.op_core.specs.declared.want.Want.TheVariants as want
 use Rattle.op_core.specs.declared.want.Ans.{Ans}
 use Rattle.op_core.specs.declared.want.Ans.TheVariants.{Value, Won, Lost, Drawn, Passed}
-use Rattle.trace.specs.Events.{line_of}
+use Rattle.trace.specs.Events.{line_of, most_unfenced}
 use Rattle.image_layout.specs.Places.{Shape, state_word, words_of}
 use Rattle.image_layout.specs.StateWord.{with_marker}
 use Rattle.restart_op.specs.declared.close.CloseStep.{CloseStep}
@@ -26,7 +26,7 @@ begun shape = record { geometry = shape; step = Flush 0 0 }
 -- a line was flushed: eight of them, and the last ones, are fenced
 abbrev pub flushed : Shape → ℕ → ℕ → CloseStep
 flushed shape line waiting =
-    if nat_lt line (lines_of shape - 1) then (if nat_lt waiting 7 then Flush (line + 1) (waiting + 1) else Fence (line + 1))
+    if nat_lt line (lines_of shape - 1) then (if nat_lt waiting (most_unfenced - 1) then Flush (line + 1) (waiting + 1) else Fence (line + 1))
     else Fence (lines_of shape)
 
 -- the lines before this one are fenced

@@ -1,9 +1,9 @@
 -- What a close keeps, and what it leaves.
-use Rattle.std.specs.Prelude.{◌≡◌, ◌≢◌, ℕ, ◌+◌, ◌-◌, ◌/◌, ◌^◌, ◌<◌, ◌≤◌, List, [], ◌∷◌, length, slice_index}
+use Rattle.std.specs.Prelude.{◌≡◌, ◌≢◌, ℕ, ◌+◌, ◌-◌, ◌^◌, ◌<◌, ◌≤◌, List, [], ◌∷◌, length, slice_index}
 use Rattle.std.specs.FinMap.{get}
 use Rattle.op_core.specs.declared.want.Want.TheVariants.{Done}
 use Rattle.map_model.specs.Map.{Map}
-use Rattle.trace.specs.Events.{Words, Event, Trace, with_word, value, value_at}
+use Rattle.trace.specs.Events.{Words, Event, Trace, with_word, value, value_at, most_unfenced}
 use Rattle.trace.specs.Progress.{pending}
 use Rattle.trace.specs.Steps.{Writes}
 use Rattle.trace.specs.Media.{IsPossible}
@@ -22,7 +22,7 @@ use Rattle.world.specs.Attempts.{OwesNothing}
 use Rattle.restart_op.specs.declared.close.CloseStep.{CloseStep}
 use Rattle.restart_op.specs.declared.close.CloseStep.TheVariants.{Flush, Fence, Load, Store, FlushState, FenceState, Ended}
 use Rattle.restart_op.specs.declared.close.CloseOp.{CloseOp}
-use Rattle.restart_op.specs.Course.{Course, after_events}
+use Rattle.restart_op.specs.Course.{Course, after_events, fences_of}
 use Rattle.restart_op.specs.Close.{lines_of, begun, wanted, taken}
 use Rattle.restart_op.specs.AtRest.{IsOpenStructure}
 use Rattle.restart_op.specs.Restarted.{site_of, world_of}
@@ -34,12 +34,12 @@ close_after shape words trace n = after_events wanted taken shape n (record { wo
 
 -- how many events all of it takes: each line's flush, a fence for each eight of them, and four for the state word
 abbrev pub events_of : Shape → ℕ
-events_of shape = lines_of shape + (lines_of shape + 7) / 8 + 4
+events_of shape = lines_of shape + fences_of (lines_of shape) + 4
 
 -- at most so many events are left
 abbrev pub left_in : Shape → CloseStep → ℕ
-left_in shape (Flush line waiting) = (lines_of shape - 1 - line) + 1 + ((lines_of shape - 1 - line) + 1 + waiting + 7) / 8 + 4
-left_in shape (Fence line) = lines_of shape - line + (lines_of shape - line + 7) / 8 + 5
+left_in shape (Flush line waiting) = (lines_of shape - 1 - line) + 1 + fences_of ((lines_of shape - 1 - line) + 1 + waiting) + 4
+left_in shape (Fence line) = lines_of shape - line + fences_of (lines_of shape - line) + 5
 left_in shape Load = 4
 left_in shape (Store state) = 3
 left_in shape FlushState = 2
@@ -61,7 +61,7 @@ EndsInTime = (shape : Shape) → IsShape shape → (words : Words) (trace : Trac
 -- never do more than eight flushed lines wait for a fence
 abbrev pub FewWait : Type 0
 FewWait = (shape : Shape) (words : Words) (trace : Trace) → pending 0 trace ≡ [] → (n : ℕ)
-    → length (pending 0 (close_after shape words trace n).trace) ≤ 8
+    → length (pending 0 (close_after shape words trace n).trace) ≤ most_unfenced
 
 -- ---- before a close
 -- the first four words say what the image is and how it is laid out

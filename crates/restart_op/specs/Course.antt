@@ -1,10 +1,14 @@
 -- What caller 0 does alone: the words, the events and the machine after so many events.
-use Rattle.std.specs.Prelude.{ℕ, zero, suc, ◌∷◌}
-use Rattle.trace.specs.Events.{Words, Trace}
+use Rattle.std.specs.Prelude.{ℕ, zero, suc, ◌+◌, ◌-◌, ◌/◌, ◌∷◌}
+use Rattle.trace.specs.Events.{Words, Trace, most_unfenced}
 use Rattle.op_core.specs.declared.want.Want.{Want}
 use Rattle.op_core.specs.declared.want.Ans.{Ans}
 use Rattle.image_layout.specs.Places.{Shape}
 use Rattle.world.specs.Wants.{answer_to, word_of, event_of, words_after}
+
+-- how many fences so many flushed lines take, each as many as may wait
+abbrev pub fences_of : ℕ → ℕ
+fences_of lines = (lines + (most_unfenced - 1)) / most_unfenced
 
 module _ {M : Type 0} (wanted : M → Want) (taken : M → Ans → M) (shape : Shape) where
   pub record Course : Type 0 where

@@ -1,6 +1,6 @@
 -- What a restart wants in each step, and what an answer makes of it.
 use Rattle.std.specs.Prelude.{ℕ, ◌+◌, ◌-◌, ◌==◌, nat_lt, true, false, if◌then◌else◌}
-use Rattle.trace.specs.Events.{line_of}
+use Rattle.trace.specs.Events.{line_of, most_unfenced}
 use Rattle.segment_head.specs.Versions.{unversioned}
 use Rattle.image_layout.specs.Places.{Shape, state_word}
 use Rattle.image_layout.specs.StateWord.{image_version_in, marker_in}
@@ -56,7 +56,7 @@ state_seen state = if (started_for state).swept then LoadHead 0 0 else Store (st
 -- a header was stored: a round has eight of them at most
 abbrev pub head_stored : Shape → ℕ → ℕ → RestartStep
 head_stored shape first slot =
-    if nat_lt slot (shape.segments - 1) then (if nat_lt (slot - first) 7 then LoadHead first (slot + 1) else FlushHead first (slot + 1))
+    if nat_lt slot (shape.segments - 1) then (if nat_lt (slot - first) (most_unfenced - 1) then LoadHead first (slot + 1) else FlushHead first (slot + 1))
     else FlushHead first shape.segments
 
 -- the line of one was flushed

@@ -2,7 +2,7 @@
 use Rattle.std.specs.Prelude.{◌≡◌, ◌≢◌, ℕ, ◌+◌, ◌^◌, ◌<◌, ◌≤◌, ◌↔◌, true, List, [], ◌∷◌, length, replicate, slice_index}
 use Rattle.std.specs.FinMap.{get}
 use Rattle.segment_head.specs.Versions.{unversioned}
-use Rattle.trace.specs.Events.{Words, Trace, HasLine}
+use Rattle.trace.specs.Events.{Words, Trace, HasLine, most_unfenced}
 use Rattle.trace.specs.Progress.{pending}
 use Rattle.trace.specs.Media.{IsPossible}
 use Rattle.image_layout.specs.Places.{Shape, IsShape, state_word, words_of}
@@ -62,7 +62,7 @@ pub record IsAsked (shape : Shape) (c : Course wanted taken shape) : Type 0 wher
   pub asks : wanted c.op ≢ Done
   pub word : word_of shape (wanted c.op) < all_words_of shape
   pub line : (l : ℕ) → wanted c.op ≡ want.Flush l → HasLine (words_of shape) l
-  pub few : (l : ℕ) → wanted c.op ≡ want.Flush l → length (pending 0 c.trace) < 8
+  pub few : (l : ℕ) → wanted c.op ≡ want.Flush l → length (pending 0 c.trace) < most_unfenced
 
 abbrev pub RestartAsks : Type 0
 RestartAsks = (shape : Shape) (words : List ℕ) (n : ℕ) → IsShape shape → n < events_of_restart shape (slice_index words) → IsAsked shape (restarted shape words n)

@@ -10,7 +10,7 @@ ghost use Rattle.restart_op.specs.Close.{lines_of, begun, wanted, taken, flushed
 use image_layout::state::with_marker;
 use image_layout::{Geometry, STATE_WORD};
 use op_core::{Ans, Machine, Want};
-use trace::line_of;
+use trace::{MOST_UNFENCED, line_of};
 
 /// What a close leaves: a clean image.
 #[derive(Clone, Copy, Debug)]
@@ -92,7 +92,7 @@ impl CloseOp {
         let lines = self.lines();
         if line >= lines - 1 {
             CloseStep::Fence { line: lines }
-        } else if waiting < 7 {
+        } else if waiting < MOST_UNFENCED - 1 {
             CloseStep::Flush {
                 line: line + 1,
                 waiting: waiting + 1,

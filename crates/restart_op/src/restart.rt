@@ -10,7 +10,10 @@ use image_layout::state::{is_marked, version_of};
 use image_layout::{Geometry, STATE_WORD};
 use op_core::{Ans, Machine, Want};
 use segment_head::version::unversioned;
-use trace::line_of;
+use trace::{MOST_UNFENCED, line_of};
+
+/// How many headers a round of a sweep has at most: the lines of as many may wait for a fence.
+const MOST_HEADERS: u64 = MOST_UNFENCED as u64;
 
 /// What a restart leaves to those who run on the image.
 #[derive(Clone, Copy, Debug)]
@@ -156,7 +159,7 @@ impl RestartOp {
     {
         let slots = self.geometry.segments();
         if slot < slots - 1 {
-            if slot.saturating_sub(first) < 7 {
+            if slot.saturating_sub(first) < MOST_HEADERS - 1 {
                 RestartStep::LoadHead {
                     first,
                     slot: slot + 1,

@@ -9,6 +9,10 @@ Words = ℕ → ℕ
 abbrev pub line_words : ℕ
 line_words = 8
 
+-- how many lines a caller may have flushed and not fenced
+abbrev pub most_unfenced : ℕ
+most_unfenced = 8
+
 -- the line in which a word lies
 abbrev pub line_of : ℕ → ℕ
 line_of i = i / line_words
