@@ -3,6 +3,7 @@ use Rattle.std.specs.Prelude.{◌≡◌, ℕ, ◌<◌, ◌≤◌, Option, Some, 
 use Rattle.op_core.specs.declared.want.Want.{Want}
 use Rattle.op_core.specs.declared.want.Want.TheVariants.{Store, Flush, Fence}
 use Rattle.trace.specs.Events.{line_of}
+use Rattle.whole_segment.specs.Rounds.{most_lines}
 use Rattle.image_layout.specs.Places.{root_word}
 use Rattle.world.specs.Facts.{Fact}
 use Rattle.world.specs.Ground.{Ground}
@@ -42,7 +43,7 @@ IsLooseOn lines Fencing v = v.dirty ≡ []
 
 -- THE VIEW in each step
 pub record RoundStands (rounds : Rounds) (v : View) : Type 0 where
-  pub few : length rounds.round ≤ 8
+  pub few : length rounds.round ≤ most_lines
   pub loose : IsLooseOn rounds.round rounds.step v
 
 -- all is settled

@@ -1,6 +1,7 @@
 //! The phase.
 
 ghost use Rattle.std.specs.Prelude.{◌≡◌, ◌<◌, length};
+ghost use Rattle.whole_segment.specs.Rounds.{most_lines};
 ghost use Rattle.rounds.specs.Steps.{begun, has_room, first_flush, flushing_wanted, flushed_to, stored_to, rounds_stores, rounds_wanted, event_wanted, rounds_taken};
 
 use op_core::Want;
@@ -61,7 +62,7 @@ fn flushing_want(round: &Round, i: u8) -> Want
 
 /// What comes behind the flush of the line of this number.
 fn flushed_to(round: &Round, i: u8) -> RoundStep
-    requires { i < 8 }
+    requires { i < most_lines }
     ensures { result ≡ flushed_to round.now i }
 {
     if i + 1 < round.count() {

@@ -7,7 +7,7 @@ use Rattle.std.proofs.lemmas.List.{length-replicate, append_assoc}
 use Rattle.std.proofs.Math.Seq.{take-append_seam, set-append_seam}
 use Rattle.std.proofs.lemmas.List.Elements.{Contains-append_left, Contains-append_right, Contains-push, Contains-push_cases}
 use Rattle.whole_segment.specs.declared.round.Round.TheInside.{Inside}
-use Rattle.whole_segment.specs.Rounds.{ends_with, takes, touched}
+use Rattle.whole_segment.specs.Rounds.{most_lines, ends_with, takes, touched}
 use Rattle.whole_segment.specs.OneRound.{lines_of, round_of, IsRound}
 
 ends_has : (lines : List ℕ) (line : ℕ) → ends_with lines line ≡ true → Contains lines line
@@ -44,20 +44,20 @@ has_room lines line h e = ltb-true (length lines) 8 (subst (λ b. (b || nat_lt (
 -- at most eight lines are those of their fields
 fields_stand : (lines : List ℕ) → length lines ≤ 8 → IsRound (round_of lines)
 fields_stand lines most = record {
-  eight = (let zeros = length-replicate {A = ℕ} (8 - length lines) 0 in let all = length-append lines (replicate (8 - length lines) 0) in omega (arith, zeros, all, most));
+  eight = (let zeros = length-replicate {A = ℕ} (most_lines - length lines) 0 in let all = length-append lines (replicate (most_lines - length lines) 0) in omega (arith, zeros, all, most));
   most = most;
-  fields = ap round_of (take-append_seam lines (replicate (8 - length lines) 0));
+  fields = ap round_of (take-append_seam lines (replicate (most_lines - length lines) 0));
 }
 
 -- the first place that is not used gets a line
-place_filled : (lines : List ℕ) (line n : ℕ) → 8 - length lines ≡ suc n → set (lines ++ replicate (8 - length lines) 0) (length lines) line ≡ (lines ++ line ∷ []) ++ replicate n 0
+place_filled : (lines : List ℕ) (line n : ℕ) → most_lines - length lines ≡ suc n → set (lines ++ replicate (most_lines - length lines) 0) (length lines) line ≡ (lines ++ line ∷ []) ++ replicate n 0
 place_filled lines line n e = ap (λ m. set (lines ++ replicate m 0) (length lines) line) e ∙ set-append_seam lines 0 (replicate n 0) line
     ∙ sym (append_assoc lines (line ∷ []) (replicate n 0))
 
-fields_touched : (lines : List ℕ) (line : ℕ) → length lines < 8 → IsRound (record { lines = set (lines ++ replicate (8 - length lines) 0) (length lines) line; count = length lines + 1 })
+fields_touched : (lines : List ℕ) (line : ℕ) → length lines < 8 → IsRound (record { lines = set (lines ++ replicate (most_lines - length lines) 0) (length lines) line; count = length lines + 1 })
 fields_touched lines line less =
     let more = length-append lines (line ∷ []) in
-    let places = place_filled lines line (8 - length (lines ++ line ∷ [])) (omega (arith, more, less)) in
+    let places = place_filled lines line (most_lines - length (lines ++ line ∷ [])) (omega (arith, more, less)) in
     subst IsRound (λ i. record { lines = sym places i; count = more i }) (fields_stand (lines ++ line ∷ []) (omega (arith, more, less)))
 
 pub fields_more : (a : Inside) (line : ℕ) → IsRound a → (lines : List ℕ) → lines_of a ≡ lines → length lines < 8

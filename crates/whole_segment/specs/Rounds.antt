@@ -1,7 +1,7 @@
 -- Rounds of stores: words are stored as long as they touch at most eight lines, then these lines are flushed and fenced, and so on.
 use Rattle.std.specs.Prelude.{◌≡◌, ℕ, ◌+◌, ◌<◌, ◌≤◌, ◌==◌, ◌||◌, Bool, false, nat_lt, List, [], ◌∷◌, ◌++◌, length, if◌then◌else◌}
 
--- how many lines are flushed at most and not fenced
+-- how many lines a round touches at most, so that no more are flushed and not fenced
 abbrev pub most_lines : ℕ
 most_lines = 8
 

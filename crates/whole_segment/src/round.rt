@@ -31,7 +31,7 @@ impl Model for Round {
 }
 
 impl Round {
-    ghost use Rattle.whole_segment.specs.Rounds.{ends_with, takes, touched};
+    ghost use Rattle.whole_segment.specs.Rounds.{most_lines, ends_with, takes, touched};
 
     /// A round that has touched no line.
     pub fn begun() -> Round
@@ -46,7 +46,7 @@ impl Round {
     /// How many lines it has touched.
     pub fn count(&self) -> u8
         ensures is { result ≡ length self.now }
-        ensures most { result ≤ 8 }
+        ensures most { result ≤ most_lines }
     {
         self.count
     }
