@@ -1,12 +1,12 @@
 -- The laws of the states of a run: it begins, each event keeps it, and at any moment it is good.
-use Rattle.std.specs.Prelude.{◌≡◌, ℕ, ◌^◌, ◌<◌, ◌≤◌, ◌⊎◌, List, length, map, slice_index}
+use Rattle.std.specs.Prelude.{◌≡◌, ℕ, ◌<◌, ◌≤◌, ◌⊎◌, List, length, map, slice_index}
 use Rattle.std.specs.List.{range_with_len, AllByRecursion, AllZip}
 use Rattle.trace.specs.Events.{Words}
 use Rattle.trace.specs.Media.{IsPossible}
 use Rattle.map_model.specs.declared.entry.Reply.TheVariants.{Full, Spent}
 use Rattle.map_model.specs.declared.entry.Entry.{Entry}
 use Rattle.map_model.specs.Map.{Map}
-use Rattle.map_model.specs.Weave.{all_of, draws, weave}
+use Rattle.map_model.specs.Weave.{all_of, draws, spent_count, weave}
 use Rattle.map_model.specs.ByPlaces.{map_at}
 use Rattle.map_model.specs.Legal.{IsLegal, replay}
 use Rattle.image_layout.specs.Places.{Shape, words_of}
@@ -54,7 +54,7 @@ WereTaken t core = AllByRecursion (λ e. e.reply ≡ Full → HasNoFreeSlot t.sh
 
 -- where a call was refused for want of a number, 2 ^ 63 changes are drawn, or some lock word of a live segment has the last version
 abbrev pub WereSpent : Shape → Words → List Entry → Type 0
-WereSpent shape words entries = AllByRecursion (λ e. e.reply ≡ Spent → (2 ^ 63 ≤ draws entries) ⊎ HasSpentLock shape words) entries
+WereSpent shape words entries = AllByRecursion (λ e. e.reply ≡ Spent → (spent_count ≤ draws entries) ⊎ HasSpentLock shape words) entries
 
 -- THE MOMENT IS GOOD: the replies so far are one legal history, and so is every medium that a power cut may leave; and each
 -- refusal had its cause

@@ -1,11 +1,11 @@
 -- When the core is good: the replies of all callers are one legal history, and whatever a power cut may leave is sound and
 -- holds that history's map, open calls whole or absent.
-use Rattle.std.specs.Prelude.{◌<◌, ◌≤◌, ◌⊎◌, ◌^◌, ◌≡◌, ◌≢◌, ℕ, List, length, map, slice_index}
+use Rattle.std.specs.Prelude.{◌<◌, ◌≤◌, ◌⊎◌, ◌≡◌, ◌≢◌, ℕ, List, length, map, slice_index}
 use Rattle.std.specs.List.{AllByRecursion, AllZip}
 use Rattle.trace.specs.Events.{Words}
 use Rattle.trace.specs.Media.{IsPossible}
 use Rattle.map_model.specs.Map.{Map}
-use Rattle.map_model.specs.Weave.{all_of, draws, weave}
+use Rattle.map_model.specs.Weave.{all_of, draws, spent_count, weave}
 use Rattle.map_model.specs.declared.entry.Reply.TheVariants.{Full, Spent}
 use Rattle.map_model.specs.ByPlaces.{map_at}
 use Rattle.session.specs.Session.{HadNoRoom}
@@ -42,4 +42,4 @@ pub record IsGood (shape : Shape) (start : Words) (opening : Map) (core : Core) 
   -- where a reply is that the table is full, no slot is free that was free in the image
   pub full : AllByRecursion (λ e. e.reply ≡ Full → HasNoFreeSlot shape start core) (all_of (histories core))
   -- where a reply is that a number is spent, 2 ^ 63 changes are drawn, or some lock word of a live segment has the last version
-  pub spent : AllByRecursion (λ e. e.reply ≡ Spent → (2 ^ 63 ≤ draws (all_of (histories core))) ⊎ HasSpentLock shape core.words) (all_of (histories core))
+  pub spent : AllByRecursion (λ e. e.reply ≡ Spent → (spent_count ≤ draws (all_of (histories core))) ⊎ HasSpentLock shape core.words) (all_of (histories core))

@@ -1,5 +1,5 @@
 -- What holds of the core between any two turns: the world is well, and the view of each caller fits what it runs and what it was told.
-use Rattle.std.specs.Prelude.{◌^◌, map, take, ◌≤◌, ◌≡◌, ℕ, ◌<◌, false, Option, None, Some, List, [], ◌∷◌, ◌++◌, ◌⊎◌, length, replicate}
+use Rattle.std.specs.Prelude.{map, take, ◌≤◌, ◌≡◌, ℕ, ◌<◌, false, Option, None, Some, List, [], ◌∷◌, ◌++◌, ◌⊎◌, length, replicate}
 use Rattle.std.specs.List.{AllByRecursion, AllZip}
 use Rattle.std.specs.FinMap.{get}
 use Rattle.restart_op.specs.Closing.{SaysShapeInFront, HaveFit, AllAreQuiet}
@@ -10,7 +10,7 @@ use Rattle.image_layout.specs.Volatile.{power_word}
 use Rattle.map_model.specs.declared.call.Call.{Call}
 use Rattle.map_model.specs.declared.entry.Entry.{Entry}
 use Rattle.map_model.specs.Map.{Map}
-use Rattle.map_model.specs.Weave.{all_of, draws}
+use Rattle.map_model.specs.Weave.{all_of, draws, spent_count}
 use Rattle.map_model.specs.declared.entry.Reply.TheVariants.{Full, Spent}
 use Rattle.map_model.specs.ByPlaces.{map_at}
 use Rattle.session.specs.Session.{HadNoRoom}
@@ -99,7 +99,7 @@ FullIsTaken site words views = (j : ℕ) (v : View) (e : Entry) → At views j v
 
 -- each reply that a number is spent has its cause: 2 ^ 63 changes are drawn, or some lock word of a live segment has the last version
 abbrev pub HadSpent : Shape → Words → List View → Type 0
-HadSpent shape words views = (j : ℕ) (v : View) (e : Entry) → At views j v → Has e v.own → e.reply ≡ Spent → (2 ^ 63 ≤ draws (all_own views)) ⊎ HasSpentLock shape words
+HadSpent shape words views = (j : ℕ) (v : View) (e : Entry) → At views j v → Has e v.own → e.reply ≡ Spent → (spent_count ≤ draws (all_own views)) ⊎ HasSpentLock shape words
 
 -- a slot that is free in an image is so in the words of the site
 abbrev pub KeepsFree : Ground → Words → Type 0

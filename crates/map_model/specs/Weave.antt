@@ -1,5 +1,5 @@
 -- The one order of all entries, made from the places that they drew and loaded.
-use Rattle.std.specs.Prelude.{ℕ, zero, suc, Bool, not, ◌&&◌, ◌==◌, List, [], ◌++◌, length, filter}
+use Rattle.std.specs.Prelude.{ℕ, ◌^◌, zero, suc, Bool, not, ◌&&◌, ◌==◌, List, [], ◌++◌, length, filter}
 use Rattle.std.specs.List.{flat_map}
 use Rattle.map_model.specs.declared.entry.Entry.{Entry}
 
@@ -18,6 +18,10 @@ all_of lists = flat_map (λ list. list) lists
 -- how many entries drew their place
 abbrev pub draws : List Entry → ℕ
 draws all = length (filter (λ e. e.drew) all)
+
+-- who finds so many places drawn draws none
+abbrev pub spent_count : ℕ
+spent_count = 2 ^ 63
 
 -- at place n: first the entries that loaded it, then the one that drew it
 abbrev pub at_place : List Entry → ℕ → List Entry

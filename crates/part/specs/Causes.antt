@@ -21,6 +21,7 @@ use Rattle.map_model.specs.declared.entry.Reply.{Reply}
 use Rattle.map_model.specs.declared.entry.Reply.TheVariants.{Full, Deep, Spent}
 use Rattle.map_model.specs.Map.{key_of}
 use Rattle.map_model.specs.Legal.{IsInsert}
+use Rattle.map_model.specs.Weave.{spent_count}
 use Rattle.world.specs.declared.site.Site.{Site}
 use Rattle.world.specs.Ground.{Ground, IsGround, IsStructured}
 use Rattle.world.specs.Views.{View, At, Has, HasLock}
@@ -215,7 +216,7 @@ module _ (shape : Shape) (words : Words) (did : Doings) (call : Call) where
   -- ---- spent
   -- the commit counter has no place left, or the attempt loaded one of the lock words as free with its last version
   abbrev pub IsSpent : Type 0
-  IsSpent = (2 ^ 63 ≤ words (counter_word shape)) ⊎ ((lock : ℕ) × IsOwnLock lock × Has (lock, 2 ^ 64 - 2) did.loads)
+  IsSpent = (spent_count ≤ words (counter_word shape)) ⊎ ((lock : ℕ) × IsOwnLock lock × Has (lock, 2 ^ 64 - 2) did.loads)
 
   -- THE CAUSE of each reply: that there is no room in the table who splits tells alone; the other replies are those of the plain map, and
   -- have no more

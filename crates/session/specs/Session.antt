@@ -7,7 +7,7 @@ use Rattle.map_model.specs.declared.call.Call.{Call}
 use Rattle.map_model.specs.declared.entry.Reply.TheVariants.{Full, Deep, Spent}
 use Rattle.map_model.specs.declared.entry.Entry.{Entry}
 use Rattle.map_model.specs.Map.{Map, key_of}
-use Rattle.map_model.specs.Weave.{all_of, draws, weave}
+use Rattle.map_model.specs.Weave.{all_of, draws, spent_count, weave}
 use Rattle.map_model.specs.Legal.{IsLegal, replay}
 use Rattle.map_model.specs.ByPlaces.{map_at}
 use Rattle.hash_word.specs.Hash.{top}
@@ -80,5 +80,5 @@ pub record IsSession (shape : Shape) (first last : List ℕ) (scripts : List (Li
   pub had_no_room : AllByRecursion (λ e. HadNoRoom shape (map_at opening (all_of (map history_of tolds)) e.place) e) (all_of (map history_of tolds))
   pub none_free : (e : Entry) → Contains (all_of (map history_of tolds)) e → e.reply ≡ Full → (s : ℕ) → s < shape.segments
       → state_at (frame_of shape (slice_index first)) s ≡ free → state_at (frame_of shape (slice_index last)) s ≢ free
-  pub spent : (e : Entry) → Contains (all_of (map history_of tolds)) e → e.reply ≡ Spent → draws (all_of (map history_of tolds)) < 2 ^ 63
+  pub spent : (e : Entry) → Contains (all_of (map history_of tolds)) e → e.reply ≡ Spent → draws (all_of (map history_of tolds)) < spent_count
       → (ending.scheduled ≡ true → ending.closed ≡ true) → HasSpentBucket shape last

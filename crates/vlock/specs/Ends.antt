@@ -5,7 +5,7 @@ use Rattle.map_model.specs.declared.call.Call.{Call}
 use Rattle.map_model.specs.declared.entry.Entry.{Entry}
 use Rattle.map_model.specs.declared.entry.Reply.TheVariants.{Done, Full, Spent}
 use Rattle.map_model.specs.Map.{Map, key_of}
-use Rattle.map_model.specs.Weave.{weave}
+use Rattle.map_model.specs.Weave.{spent_count, weave}
 use Rattle.map_model.specs.Legal.{replay, IsLegal}
 use Rattle.trace.specs.Events.{Words}
 use Rattle.image_layout.specs.Places.{words_of}
@@ -60,7 +60,7 @@ pub record IsEnd (site : Ground) (words : Words) (views : List View) : Type 0 wh
   pub repaired : (s : ℕ) → IsCurrentIn site words s → IsRepaired site words s
   -- where it was replied that a number is spent, 2 ^ 63 changes are drawn, or some lock word of a live segment is free with the last version; and
   -- where it was replied that no slot is free, none is that was free at the start
-  pub spent : (j : ℕ) (v : View) (e : Entry) → At views j v → Has e v.own → e.reply ≡ Spent → (2 ^ 63 ≤ length log) ⊎ HasSpentLock site.shape words
+  pub spent : (j : ℕ) (v : View) (e : Entry) → At views j v → Has e v.own → e.reply ≡ Spent → (spent_count ≤ length log) ⊎ HasSpentLock site.shape words
   pub full : (j : ℕ) (v : View) (e : Entry) → At views j v → Has e v.own → e.reply ≡ Full → HasNoFreeSlot site words
 
 -- THE POWER WAS CUT, and callers stood anywhere: of these views, whose first is that of who took the others in, there is one history, and whatever the

@@ -13,6 +13,7 @@ use Rattle.map_model.specs.declared.entry.Reply.TheVariants.{Done, Spent}
 use Rattle.map_model.specs.declared.entry.Entry.{Entry}
 use Rattle.map_model.specs.Map.{key_of, shown}
 use Rattle.map_model.specs.Legal.{seen_after}
+use Rattle.map_model.specs.Weave.{spent_count}
 use Rattle.bucket_words.specs.Core.{core_of}
 use Rattle.frame_facts.specs.Facts.{Fact, Lives, Current, Rooted, Begins}
 use Rattle.world.specs.Views.{Glance, Answer, Move, Owed, View}
@@ -236,7 +237,7 @@ view_after shape meets_root n v = record v { facts = Rooted n ∷ v.facts }
 view_after shape (meets_entry e i) n v = record v { facts = Lives n ∷ v.facts }
 view_after shape (meets_head s version) n v = with_head shape s version n v
 view_after shape (pins s b) n v = record v { pinned = (s, n) ∷ v.pinned }
-view_after shape (finds_room call) n v = with_count (nat_lt n (2 ^ 63)) call n v
+view_after shape (finds_room call) n v = with_count (nat_lt n spent_count) call n v
 view_after shape (refuses call reply) n v = with_reply v (next_entry v call reply n false)
 view_after shape (places k a) n v = record v { notes = unmarked v.notes; answer = Some (record { key = k; value = a; place = n }) }
 view_after shape (looks lock) n v = with_look (n % 2 == 0) lock n v

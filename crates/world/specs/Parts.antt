@@ -1,13 +1,13 @@
 -- What holds of the newest words and of all views between any two events, from the end of a restart to the close. It is
 -- said object by object: structure, locks, words, planned changes, history, owned records, copies, overflow data, media, notes, room, spent numbers, power.
-use Rattle.std.specs.Prelude.{◌≡◌, ◌≢◌, ℕ, ◌+◌, ◌%◌, ◌^◌, ◌<◌, ◌≤◌, true, Some, List, [], ◌∷◌, ◌⊎◌, length, filter}
+use Rattle.std.specs.Prelude.{◌≡◌, ◌≢◌, ℕ, ◌+◌, ◌%◌, ◌<◌, ◌≤◌, true, Some, List, [], ◌∷◌, ◌⊎◌, length, filter}
 use Rattle.trace.specs.Events.{Words}
 use Rattle.image_layout.specs.Volatile.{counter_word, power_word}
 use Rattle.map_model.specs.declared.call.Call.{Call}
 use Rattle.map_model.specs.declared.entry.Reply.TheVariants.{Done, Spent}
 use Rattle.map_model.specs.declared.entry.Entry.{Entry}
 use Rattle.map_model.specs.Map.{key_of}
-use Rattle.map_model.specs.Weave.{draws, drew_at}
+use Rattle.map_model.specs.Weave.{draws, spent_count, drew_at}
 use Rattle.map_model.specs.Legal.{InOrder, seen_of}
 use Rattle.image_layout.specs.Places.{head_at, bucket_at, buckets}
 use Rattle.sound_image.specs.Records.{key_hash}
@@ -88,13 +88,13 @@ pub record IsAnswer (site : Ground) (log : Log) (seen : ℕ) (a : Answer) : Type
 pub record Room (site : Ground) (views : List View) (log : Log) : Type 0 where
   pub callers : total (λ v. v.callers) views ≡ site.callers
   pub each : (j : ℕ) (v : View) → At views j v → v.room ≤ v.callers
-  pub few : length log + total (λ v. v.room) views ≤ 2 ^ 63 + site.callers
+  pub few : length log + total (λ v. v.room) views ≤ spent_count + site.callers
 
 -- SPENT NUMBERS: a lock word of a live segment that a view found free with the last version is so still; and where a reply says that a
 -- number is spent, 2 ^ 63 changes are drawn, or some lock word of a live segment is free with the last version
 pub record Spending (site : Ground) (words : Words) (views : List View) (log : Log) : Type 0 where
   pub met : (j : ℕ) (v : View) (lock : ℕ) → At views j v → Has lock v.spent_locks → IsSpentLock site.shape words lock
-  pub told : (j : ℕ) (v : View) (e : Entry) → At views j v → Has e v.own → e.reply ≡ Spent → (2 ^ 63 ≤ length log) ⊎ HasSpentLock site.shape words
+  pub told : (j : ℕ) (v : View) (e : Entry) → At views j v → Has e v.own → e.reply ≡ Spent → (spent_count ≤ length log) ⊎ HasSpentLock site.shape words
 
 -- POWER: it is off only where some view stored the power word
 abbrev pub Powered : Ground → Words → List View → Type 0

@@ -10,6 +10,7 @@ use Rattle.map_model.specs.declared.change.Effect.{Effect}
 use Rattle.map_model.specs.declared.change.Effect.TheVariants.{Insert, Update, Remove}
 use Rattle.map_model.specs.declared.entry.Reply.TheVariants as reply
 use Rattle.map_model.specs.Changes.{call_of}
+use Rattle.map_model.specs.Weave.{spent_count}
 use Rattle.world.specs.declared.site.Site.{Site}
 use Rattle.world.specs.Ground.{Ground, version_of}
 use Rattle.world.specs.Views.{Owed, View, Has}
@@ -107,7 +108,7 @@ module _ (task : Task) (seen : Seen) where
 
   -- a counter of 2^63 or more is answered as spent, whatever the key has
   abbrev pub count_kind : ℕ → Kind
-  count_kind n = if nat_le (2 ^ 63) n then finds_room (call_of task.change) else deciding_kind task.change.effect
+  count_kind n = if nat_le spent_count n then finds_room (call_of task.change) else deciding_kind task.change.effect
 
   -- the last store of a note repays what is owed
   abbrev pub mark_kind : Bool → ℕ → ℕ → Kind

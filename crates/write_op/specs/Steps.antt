@@ -1,5 +1,5 @@
 -- What a change wants in each step, and what an answer makes of it.
-use Rattle.std.specs.Prelude.{ℕ, ◌+◌, ◌%◌, ◌^◌, nat_le, ⊤, Bool, true, false, Option, None, Some, is_none, List, if◌then◌else◌}
+use Rattle.std.specs.Prelude.{ℕ, ◌+◌, ◌%◌, nat_le, ⊤, Bool, true, false, Option, None, Some, is_none, List, if◌then◌else◌}
 use Rattle.image_layout.specs.Volatile.{counter_word}
 use Rattle.sound_image.specs.Records.{key_hash}
 use Rattle.op_core.specs.declared.want.Want.{Want}
@@ -12,6 +12,7 @@ use Rattle.map_model.specs.declared.change.Effect.TheVariants.{Insert, Update, R
 use Rattle.map_model.specs.declared.change.Change.{Change}
 use Rattle.map_model.specs.declared.entry.Reply.{Reply}
 use Rattle.map_model.specs.declared.entry.Reply.TheVariants as reply
+use Rattle.map_model.specs.Weave.{spent_count}
 use Rattle.world.specs.declared.site.Site.{Site}
 use Rattle.phase.specs.declared.role.Role.{Role}
 use Rattle.phase.specs.declared.role.Role.TheVariants.{Home, Probing, First, Second}
@@ -158,7 +159,7 @@ decided task seen count Remove = changing task seen count (found seen task.chang
 
 -- the commit counter gives no place from 2^63 on
 abbrev pub counted : Task → Seen → ℕ → Stage
-counted task seen count = if nat_le (2 ^ 63) count then answered seen count reply.Spent else decided task seen count task.change.effect
+counted task seen count = if nat_le spent_count count then answered seen count reply.Spent else decided task seen count task.change.effect
 
 -- ---- stores, the draw, and the note
 abbrev pub made_to : Seen → Made → Stage
