@@ -22,7 +22,7 @@ pub const STASH_BUCKETS: u8 = 2;
 /// How many buckets a segment has.
 pub const BUCKETS: u8 = HOMES + STASH_BUCKETS;
 /// How many words a segment has: a header and its buckets.
-pub const SEGMENT_WORDS: u64 = 2144;
+pub const SEGMENT_WORDS: u64 = BLOCK * (1 + BUCKETS as u64);
 /// How many words the buckets of a segment have together.
 pub const WORDS_OF_BUCKETS: u64 = SEGMENT_WORDS - BLOCK;
 /// The most slots for segments that an image may have.
@@ -58,9 +58,9 @@ impl fmt::Display for GeoFault {
 
 impl Error for GeoFault {}
 
-/// Two to the power `e`, at most 17.
+/// Two to the power `e`, which is at most one more than the greatest depth.
 fn power(e: u64) -> u64
-    requires { e ≤ 17 }
+    requires { e ≤ most_depth + 1 }
     ensures is { result ≡ 2 ^ e }
     ensures some { 1 ≤ result }
     ensures most { result ≤ 131072 }

@@ -17,9 +17,9 @@ use map_model::NoMemory;
 use segment_head::prefix::Prefix;
 use std::alloc::Global;
 
-/// Two to the power `bits`, at most 17: how many patterns have so many bits.
+/// Two to the power `bits`, which is at most one more than the greatest depth: how many patterns have so many bits.
 pub(crate) fn power(bits: u8) -> usize
-    requires { bits ≤ 17 }
+    requires { bits ≤ most_depth + 1 }
     ensures is { result ≡ 2 ^ bits }
     ensures some { 1 ≤ result }
     ensures most { result ≤ 131072 }
