@@ -24,7 +24,7 @@ allocated s w1 = bit s w1
 
 -- 1 where the record of slot s stands in its probing bucket
 abbrev pub member : ℕ → ℕ → ℕ
-member s w1 = bit (14 + s) w1
+member s w1 = bit (record_slots + s) w1
 
 -- the fingerprint of slot s: 0 to 7 stand in w2, 8 to 13 in w3
 abbrev pub finger : ℕ → ℕ → ℕ → ℕ

@@ -6,15 +6,15 @@ use Rattle.bucket_meta.specs.Bucket.{allocated, member, finger, note_used, overf
 
 -- the metadata word where the slot has a record that is at home: its allocation bit set, its membership bit not
 abbrev pub inserted_mark : ℕ → ℕ → ℕ
-inserted_mark w1 slot = bit_and (bit_or w1 (mask slot)) (bit_not w64 (mask (14 + slot)))
+inserted_mark w1 slot = bit_and (bit_or w1 (mask slot)) (bit_not w64 (mask (record_slots + slot)))
 
 -- the metadata word where the slot has a record that stands in its probing bucket: both bits set
 abbrev pub member_mark : ℕ → ℕ → ℕ
-member_mark w1 slot = bit_or (bit_or w1 (mask slot)) (mask (14 + slot))
+member_mark w1 slot = bit_or (bit_or w1 (mask slot)) (mask (record_slots + slot))
 
 -- the metadata word where the slot has no record: both bits not set
 abbrev pub removed_mark : ℕ → ℕ → ℕ
-removed_mark w1 slot = bit_and (bit_and w1 (bit_not w64 (mask slot))) (bit_not w64 (mask (14 + slot)))
+removed_mark w1 slot = bit_and (bit_and w1 (bit_not w64 (mask slot))) (bit_not w64 (mask (record_slots + slot)))
 
 -- fingerprints 0 to 7 stand in word 2, the others in word 3
 abbrev pub finger_place : ℕ → ℕ

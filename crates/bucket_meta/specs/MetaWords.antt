@@ -6,8 +6,8 @@ use Rattle.word_bits.specs.Bits.{bits}
 
 -- the fields are those of words 1 to 3 of a bucket
 pub record IsMetaOf (m : Meta) (w1 w2 w3 : ℕ) : Type 0 where
-  pub alloc : m.alloc ≡ bits 0 14 w1
-  pub member : m.member ≡ bits 14 14 w1
+  pub alloc : m.alloc ≡ bits 0 record_slots w1
+  pub member : m.member ≡ bits record_slots record_slots w1
   pub used : m.used ≡ bits 28 4 w1
   pub omember : m.omember ≡ bits 32 4 w1
   pub oindex : m.oindex ≡ bits 36 4 w1

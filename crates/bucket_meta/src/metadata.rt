@@ -2,8 +2,9 @@
 
 ghost use Rattle.std.specs.Prelude.{◌≡◌, ◌≢◌, ℕ, ◌+◌, ◌*◌, ◌^◌, ◌<◌, ◌≤◌, ◌↔◌, IfSome, IsNone, length, slice_index, slice_set, count_ones, if◌then◌else◌};
 ghost use Rattle.word_bits.specs.Bits.{bits, bit};
+ghost use Rattle.bucket_meta.specs.Bucket.{record_slots};
 
-use crate::words::SLOTS;
+use crate::words::{SET_BITS, SLOTS};
 use word_bits::{bits_of, with_bits};
 
 /// What the three words of metadata of a bucket say.
@@ -25,16 +26,16 @@ pub struct Meta {
     /// How many records of this bucket stand in the stash without a note.
     pub ocount: u8,
     /// The fingerprints of the record slots.
-    pub fps: [u8; 14],
+    pub fps: [u8; SLOTS as usize],
     /// The fingerprints of the note slots.
     pub ofps: [u8; 4],
-    pub ghost alloc_fits: { alloc < 2 ^ 14 },
-    pub ghost member_fits: { member < 2 ^ 14 },
+    pub ghost alloc_fits: { alloc < 2 ^ record_slots },
+    pub ghost member_fits: { member < 2 ^ record_slots },
     pub ghost used_fits: { used < 2 ^ 4 },
     pub ghost omember_fits: { omember < 2 ^ 4 },
     pub ghost oindex_fits: { oindex < 2 ^ 4 },
     pub ghost ocount_fits: { ocount < 2 ^ 5 },
-    pub ghost fourteen: { length fps ≡ 14 },
+    pub ghost fourteen: { length fps ≡ record_slots },
     pub ghost four: { length ofps ≡ 4 },
 }
 
@@ -47,9 +48,9 @@ fn word_of(bytes: [u8; 8]) -> u64
 
 /// The set of slots with this slot in it.
 fn with_slot(slots: u16, slot: u8) -> u16
-    requires whole { slots < 2 ^ 14 }
-    requires within { slot < 14 }
-    ensures whole { result < 2 ^ 14 }
+    requires whole { slots < 2 ^ record_slots }
+    requires within { slot < record_slots }
+    ensures whole { result < 2 ^ record_slots }
     ensures set { bit slot result ≡ 1 }
     ensures others { (s : ℕ) → s ≢ slot → bit s result ≡ bit s slots }
 {
@@ -58,9 +59,9 @@ fn with_slot(slots: u16, slot: u8) -> u16
 
 /// The set of slots without this slot.
 fn without_slot(slots: u16, slot: u8) -> u16
-    requires whole { slots < 2 ^ 14 }
-    requires within { slot < 14 }
-    ensures whole { result < 2 ^ 14 }
+    requires whole { slots < 2 ^ record_slots }
+    requires within { slot < record_slots }
+    ensures whole { result < 2 ^ record_slots }
     ensures cleared { bit slot result ≡ 0 }
     ensures others { (s : ℕ) → s ≢ slot → bit s result ≡ bit s slots }
 {
@@ -79,8 +80,8 @@ impl Meta {
         let [f0, f1, f2, f3, f4, f5, f6, f7] = w2.to_le_bytes();
         let [f8, f9, f10, f11, f12, f13, o0, o1] = w3.to_le_bytes();
         Meta {
-            alloc: bits_of(w1, 0, 14) as u16,
-            member: bits_of(w1, 14, 14) as u16,
+            alloc: bits_of(w1, 0, SET_BITS) as u16,
+            member: bits_of(w1, SET_BITS, SET_BITS) as u16,
             used: bits_of(w1, 28, 4) as u8,
             omember: bits_of(w1, 32, 4) as u8,
             oindex: bits_of(w1, 36, 4) as u8,
@@ -98,7 +99,7 @@ impl Meta {
         let [f0, f1, f2, f3, f4, f5, f6, f7, f8, f9, f10, f11, f12, f13] = self.fps;
         let [o0, o1, o2, o3] = self.ofps;
         let w1 = u64::from(self.alloc);
-        let w1 = with_bits(w1, 14, u64::from(self.member));
+        let w1 = with_bits(w1, SET_BITS, u64::from(self.member));
         let w1 = with_bits(w1, 28, u64::from(self.used));
         let w1 = with_bits(w1, 32, u64::from(self.omember));
         let w1 = with_bits(w1, 36, u64::from(self.oindex));
@@ -112,11 +113,11 @@ impl Meta {
 
     /// The lowest slot that has no record.
     pub fn free_slot(&self) -> Option<u8>
-        ensures within { IfSome result (λ slot. slot < 14) }
+        ensures within { IfSome result (λ slot. slot < record_slots) }
         ensures free { IfSome result (λ slot. bit slot self.now.alloc ≡ 0) }
         ensures lowest { IfSome result (λ slot. (s : ℕ) → s < slot → bit s self.now.alloc ≡ 1) }
         ensures full { IsNone result ↔ IsFull self.now.alloc }
-        ensures filled { IsNone result ↔ (count_ones self.now.alloc ≡ 14) }
+        ensures filled { IsNone result ↔ (count_ones self.now.alloc ≡ record_slots) }
     {
         let slot = self.alloc.trailing_ones();
         if slot < u32::from(SLOTS) {
@@ -129,8 +130,8 @@ impl Meta {
     /// How many slots have a record, at most 14.
     pub fn filled(&self) -> u8
         ensures count { result ≡ count_ones self.now.alloc }
-        ensures at_most { result ≤ 14 }
-        ensures full { (result ≡ 14) ↔ IsFull self.now.alloc }
+        ensures at_most { result ≤ record_slots }
+        ensures full { (result ≡ record_slots) ↔ IsFull self.now.alloc }
     {
         self.alloc.count_ones() as u8
     }
@@ -138,7 +139,7 @@ impl Meta {
     /// Says of a slot, from 0 to 13, that it has a record with this fingerprint. `is_member` is true where
     /// this is the record's probing bucket.
     pub fn place(&mut self, slot: u8, finger: u8, is_member: bool)
-        requires { slot < 14 }
+        requires { slot < record_slots }
         ensures allocated { bit slot self.new.alloc ≡ 1 }
         ensures other_alloc { SameElsewhere self.old.alloc self.new.alloc slot }
         ensures member { bit slot self.new.member ≡ (if is_member then 1 else 0) }
@@ -157,7 +158,7 @@ impl Meta {
 
     /// Says of a slot, from 0 to 13, that it has no record. The fingerprint there stays.
     pub fn clear(&mut self, slot: u8)
-        requires { slot < 14 }
+        requires { slot < record_slots }
         ensures allocated { bit slot self.new.alloc ≡ 0 }
         ensures other_alloc { SameElsewhere self.old.alloc self.new.alloc slot }
         ensures member { bit slot self.new.member ≡ 0 }

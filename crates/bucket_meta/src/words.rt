@@ -17,6 +17,9 @@ pub const BUCKET_WORDS: usize = 32;
 /// How many record slots a bucket has.
 pub const SLOTS: u8 = 14;
 
+/// How many bits a set of record slots has.
+pub(crate) const SET_BITS: u32 = SLOTS as u32;
+
 /// How many note slots a bucket has.
 pub const NOTE_SLOTS: u8 = 4;
 
@@ -99,7 +102,7 @@ pub fn inserted_mark(w1: u64, slot: u8) -> u64
     ensures { result ≡ inserted_mark w1 slot }
 {
     let slot = u32::from(slot);
-    (w1 | mask(slot)) & !mask(14 + slot)
+    (w1 | mask(slot)) & !mask(SET_BITS + slot)
 }
 
 /// The metadata word with the slot taken, by a record that stands in its probing bucket.
@@ -107,7 +110,7 @@ pub fn member_mark(w1: u64, slot: u8) -> u64
     ensures { result ≡ member_mark w1 slot }
 {
     let slot = u32::from(slot);
-    w1 | mask(slot) | mask(14 + slot)
+    w1 | mask(slot) | mask(SET_BITS + slot)
 }
 
 /// The metadata word with the slot free.
@@ -115,7 +118,7 @@ pub fn removed_mark(w1: u64, slot: u8) -> u64
     ensures { result ≡ removed_mark w1 slot }
 {
     let slot = u32::from(slot);
-    w1 & !mask(slot) & !mask(14 + slot)
+    w1 & !mask(slot) & !mask(SET_BITS + slot)
 }
 
 /// The number of the word, 2 or 3, that has a slot's fingerprint.
