@@ -28,7 +28,7 @@ use Rattle.world.specs.Laws.{EntriesAreLegal}
 use Rattle.world.proofs.basics.Entries.{when_now, place_le}
 
 -- ---- a reply in the map and by what the key has
-pub same_reply : (m : Map) (call : Call) → reply_by (get m (key_of call)) call ≡ reply_of m call
+same_reply : (m : Map) (call : Call) → reply_by (get m (key_of call)) call ≡ reply_of m call
 same_reply m (Get k) = refl
 same_reply m (Insert k v) = refl
 same_reply m (Update k v) = refl
@@ -43,7 +43,7 @@ reply_is m call Full may = may
 reply_is m call Deep may = may
 reply_is m call Spent may = may
 
-pub not_shown : (a : Option ℕ) → Done ≡ shown a → ⊥
+not_shown : (a : Option ℕ) → Done ≡ shown a → ⊥
 not_shown None e = cc
 not_shown (Some v) e = cc
 
