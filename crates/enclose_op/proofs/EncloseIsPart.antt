@@ -9,7 +9,7 @@ use Rattle.op_core.specs.declared.want.Ans.TheVariants.{Value, Won, Lost}
 use Rattle.op_core.specs.Answers.{IsAnswer}
 use Rattle.hash_word.specs.Hash.{home_of}
 use Rattle.segment_head.specs.HeadWord.{depth_in}
-use Rattle.image_layout.specs.Places.{Shape, buckets, first_segment}
+use Rattle.image_layout.specs.Places.{Shape, buckets, first_segment, last_of_buckets}
 use Rattle.image_layout.specs.Volatile.{counter_word, all_words_of}
 use Rattle.sound_image.specs.Records.{key_hash}
 use Rattle.sound_image.proofs.Hashes.{key_hash-fits}
@@ -132,7 +132,7 @@ module _ (site : Ground) (here : Site) (call : Call) (e : Enclosed) (is : IsOf s
   enters Head n same asks =
       none_more call before v (reply_of (outcome_at (next_in e Head (Value n)).step)) (next_view Head n) (silent_head (is_followed e n)) same refl refl
   enters (Fill at) n same asks =
-      none_more call before v (reply_of (outcome_at (next_in e (Fill at) (Value n)).step)) (next_view (Fill at) n) (silent_fill (with_word e at n) at (nat_lt at 2111)) same refl refl
+      none_more call before v (reply_of (outcome_at (next_in e (Fill at) (Value n)).step)) (next_view (Fill at) n) (silent_fill (with_word e at n) at (nat_lt at last_of_buckets)) same refl refl
   enters (CountSpent b) n same asks = one Spent n refl same
   enters CountDeep n same asks = one Deep n refl same
   enters (Give give end) n same asks =
@@ -191,12 +191,12 @@ decided_left true true = omega arith
 decided_left true false = omega arith
 decided_left false deep = let few = give_few 0 buckets in omega (arith, few)
 
-after_left : (at : ℕ) → at < 2111 → (t : Bool) → 69 + (2111 - (if t then at + 2 else at + 1)) < 69 + (2111 - at)
+after_left : (at : ℕ) → at < last_of_buckets → (t : Bool) → 69 + (last_of_buckets - (if t then at + 2 else at + 1)) < 69 + (last_of_buckets - at)
 after_left at low true = omega (arith, low)
 after_left at low false = omega (arith, low)
 
-fill_left : (e : Enclosed) (at : ℕ) (t : Bool) → nat_lt at 2111 ≡ t → left_at (if t then Fill (word_after at) else decided e) < 69 + (2111 - at)
-fill_left e at true low = after_left at (ltb-true at 2111 low) ((at + 1) % 32 == 0)
+fill_left : (e : Enclosed) (at : ℕ) (t : Bool) → nat_lt at last_of_buckets ≡ t → left_at (if t then Fill (word_after at) else decided e) < 69 + (last_of_buckets - at)
+fill_left e at true low = after_left at (ltb-true at last_of_buckets low) ((at + 1) % 32 == 0)
 fill_left e at false high =
     let low = decided_left (has_no_room (kept_first e) (home_of e.hash)) (depth_in e.head == e.site.geometry.depth) in
     omega (arith, low)
@@ -212,7 +212,7 @@ falls_at e Guard a i = absurd i
 falls_at e (Lock b take) a i = lock_left e b (take_left take) (take_taken take a) (take_falls (lock_of e b) take a i)
 falls_at e Head (Value n) i = head_left (is_followed e n)
 falls_at e Head a i = absurd i
-falls_at e (Fill at) (Value n) i = fill_left (with_word e at n) at (nat_lt at 2111) refl
+falls_at e (Fill at) (Value n) i = fill_left (with_word e at n) at (nat_lt at last_of_buckets) refl
 falls_at e (Fill at) a i = absurd i
 falls_at e (CountSpent b) (Value n) i = let few = give_few 0 b in omega (arith, few)
 falls_at e (CountSpent b) a i = absurd i

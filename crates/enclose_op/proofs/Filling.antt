@@ -4,7 +4,7 @@ use Rattle.std.specs.Prelude.{◌==◌, if◌then◌else◌}
 use Rattle.std.proofs.lemmas.Bool.{cases_eq, eqb-true, eqb-false, and_parts}
 use Rattle.std.proofs.lemmas.List.{get_or-set_same, get_or-set_other}
 use Rattle.segment_head.specs.HeadWord.{version_in}
-use Rattle.image_layout.specs.Places.{head_at, bucket_at, buckets, block}
+use Rattle.image_layout.specs.Places.{head_at, bucket_at, buckets, block, last_of_buckets}
 use Rattle.way.specs.Ways.{head_word, bucket_word, is_leading}
 use Rattle.world.specs.DeadSlots.{IsInSlot}
 use Rattle.map_model.specs.declared.call.Call.{Call}
@@ -205,14 +205,14 @@ module _ (site : Ground) (here : Site) (call : Call) (e : Enclosed) (is : IsOf s
       number_of f b n = omega arith
 
       -- words of all numbers are words of all buckets
-      pub by_buckets : (l : List (ℕ × ℕ)) → 2111 ≤ at → ((j : ℕ) → j < at + 1 → j % block ≢ 0 → Has (bucket_at site.shape e.segment 0 + j, slice_index f.buckets j) l)
+      pub by_buckets : (l : List (ℕ × ℕ)) → last_of_buckets ≤ at → ((j : ℕ) → j < at + 1 → j % block ≢ 0 → Has (bucket_at site.shape e.segment 0 + j, slice_index f.buckets j) l)
           → (b k : ℕ) → b < buckets → 1 ≤ k → k < block → Has (bucket_at site.shape e.segment b + k, slice_index f.buckets (32 * b + k)) l
       by_buckets l last all b k near from low =
           let has = all (32 * b + k) (omega (arith, last, near, low)) (λ same. (let none : k ≡ 0 = omega (arith, same, low) in omega (arith, none, from))) in
           subst (λ (z : ℕ). Has (z, slice_index f.buckets (32 * b + k)) l) (number_of (head_at site.shape e.segment) b k) has
 
       -- the next one
-      pub fill_next : at < 2111 → (t : Bool) → ((at + 1) % 32 == 0) ≡ t → IsFilling site f (if t then at + 2 else at + 1) u
+      pub fill_next : at < last_of_buckets → (t : Bool) → ((at + 1) % 32 == 0) ≡ t → IsFilling site f (if t then at + 2 else at + 1) u
       fill_next low true turns =
           let is = eqb-true ((at + 1) % 32) 0 turns in
           record {
@@ -232,7 +232,7 @@ module _ (site : Ground) (here : Site) (call : Call) (e : Enclosed) (is : IsOf s
       }
 
       -- after the last one all are known
-      pub all_known : 2111 ≤ at → KnowsBuckets site.shape u e.segment (kept_words f)
+      pub all_known : last_of_buckets ≤ at → KnowsBuckets site.shape u e.segment (kept_words f)
       all_known last b k near from low =
           settled_word u (bucket_at site.shape e.segment b + k) (kept_words f (bucket_at site.shape e.segment b + k)) fill_taking.part.quiet
           (subst (λ (z : ℕ). Has (bucket_at site.shape e.segment b + k, z) u.known) (sym (kept_there site f (record { shape = l.shape; within = l.within }) b k)) (by_buckets u.known last upto b k near from low))

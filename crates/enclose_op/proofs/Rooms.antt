@@ -12,7 +12,7 @@ use Rattle.bucket_meta.specs.Slots.{IsFull}
 use Rattle.segment_head.specs.HeadWord.{version_in, depth_in}
 use Rattle.trace.specs.Events.{Words, after}
 use Rattle.trace.specs.Events.Event.{loaded, exchanged}
-use Rattle.image_layout.specs.Places.{Shape, bucket_at, buckets, homes, first_segment}
+use Rattle.image_layout.specs.Places.{Shape, bucket_at, buckets, homes, first_segment, last_of_buckets}
 use Rattle.image_layout.specs.Volatile.{segment_guard}
 use Rattle.sound_image.specs.Records.{key_hash}
 use Rattle.way.specs.Ways.{head_word, bucket_word, is_leading}
@@ -80,10 +80,10 @@ decided_tells true true some = absurd (none-some finished some)
 decided_tells true false some = absurd (none-some finished some)
 decided_tells false deep some = refl
 
-fill_tells : (f : Enclosed) (at : ℕ) (t : Bool) → nat_lt at 2111 ≡ t → outcome_at (if t then Fill (word_after at) else decided f) ≡ Some finished
-    → (2111 ≤ at) × (has_no_room (kept_first f) (home_of f.hash) ≡ false)
+fill_tells : (f : Enclosed) (at : ℕ) (t : Bool) → nat_lt at last_of_buckets ≡ t → outcome_at (if t then Fill (word_after at) else decided f) ≡ Some finished
+    → (last_of_buckets ≤ at) × (has_no_room (kept_first f) (home_of f.hash) ≡ false)
 fill_tells f at true is some = absurd (none-some finished some)
-fill_tells f at false is some = (ltb-false at 2111 is, decided_tells (has_no_room (kept_first f) (home_of f.hash)) (depth_in f.head == f.site.geometry.depth) some)
+fill_tells f at false is some = (ltb-false at last_of_buckets is, decided_tells (has_no_room (kept_first f) (home_of f.hash)) (depth_in f.head == f.site.geometry.depth) some)
 
 -- ---- where nothing can be moved by some words nothing can by the same
 same_moves : (home probing further back h p f b : ℕ) → home ≡ h → probing ≡ p → further ≡ f → back ≡ b → NothingMoves home probing further back → NothingMoves h p f b
@@ -112,7 +112,7 @@ module _ (site : Ground) (here : Site) (call : Call) (words : Words) (e : Enclos
       (subst (λ (h : ℕ). is_leading head h ≡ true) (sym hash_is) crammed.leads))
 
   -- after the last word
-  module _ (at : ℕ) (s : SuitsStep site here call e (Fill at) v) (small : words (bucket_word e.site.geometry e.segment 0 + at) < 2 ^ 64) (last : 2111 ≤ at) where
+  module _ (at : ℕ) (s : SuitsStep site here call e (Fill at) v) (small : words (bucket_word e.site.geometry e.segment 0 + at) < 2 ^ 64) (last : last_of_buckets ≤ at) where
     abbrev word : ℕ
     word = bucket_word e.site.geometry e.segment 0 + at
 
@@ -161,7 +161,7 @@ module _ (site : Ground) (here : Site) (call : Call) (words : Words) (e : Enclos
       both_ways (is_followed e (words i)) (head_tells (is_followed e (words i)) some) followed
   not_told (Fill at) s small none some =
       let f : Enclosed = with_word e at (words (bucket_word e.site.geometry e.segment 0 + at)) in
-      let tells = fill_tells f at (nat_lt at 2111) refl some in
+      let tells = fill_tells f at (nat_lt at last_of_buckets) refl some in
       both_ways (has_no_room (kept_first f) (home_of f.hash)) tells.1 (crammed_there at s small tells.0)
   not_told (CountSpent b) s small none some = not_finished (replied Spent _) (λ same. absurd (cc)) some
   not_told CountDeep s small none some = not_finished (replied Deep _) (λ same. absurd (cc)) some

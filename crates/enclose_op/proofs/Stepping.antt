@@ -7,7 +7,7 @@ use Rattle.op_core.specs.declared.want.Ans.{Ans}
 use Rattle.hash_word.specs.Hash.{home_of}
 use Rattle.segment_head.specs.HeadWord.{depth_in}
 use Rattle.trace.specs.Events.{Words}
-use Rattle.image_layout.specs.Places.{Shape, buckets}
+use Rattle.image_layout.specs.Places.{Shape, buckets, last_of_buckets}
 use Rattle.image_layout.specs.Volatile.{counter_word}
 use Rattle.way.specs.Ways.{bucket_word}
 use Rattle.whole_segment.specs.Room.{has_no_room}
@@ -193,15 +193,15 @@ module _ (site : Ground) (here : Site) (call : Call) (e : Enclosed) (is : IsOf s
       }
 
   -- a word of a bucket
-  fill_by : (at n : ℕ) (s : Suited (Fill at)) (small : n < 2 ^ 64) (words : Words) → words (bucket_word e.site.geometry e.segment 0 + at) ≡ n → IsNewest site v words → (t : Bool) → nat_lt at 2111 ≡ t
+  fill_by : (at n : ℕ) (s : Suited (Fill at)) (small : n < 2 ^ 64) (words : Words) → words (bucket_word e.site.geometry e.segment 0 + at) ≡ n → IsNewest site v words → (t : Bool) → nat_lt at last_of_buckets ≡ t
       → SuitsStep site here call (with_word e at n) (if t then Fill (word_after at) else decided (with_word e at n)) (next_view (Fill at) n)
   fill_by at n s small words found new true low = (
     fill_headed site here call e is v at s n small,
-    fill_next site here call e is v at s n small (ltb-true at 2111 low) ((at + 1) % 32 == 0) refl,
+    fill_next site here call e is v at s n small (ltb-true at last_of_buckets low) ((at + 1) % 32 == 0) refl,
   )
   fill_by at n s small words found new false high =
       decided_suits (with_word e at n) (is_with_word site here call e is at n) (next_view (Fill at) n) words (newest_more words (bucket_word e.site.geometry e.segment 0 + at) n found new)
-      (fill_headed site here call e is v at s n small) (all_known site here call e is v at s n small (ltb-false at 2111 high))
+      (fill_headed site here call e is v at s n small) (all_known site here call e is v at s n small (ltb-false at last_of_buckets high))
 
   -- what is given back
   back_to : (more : Option Giving) (end : NotEnclosed) (u : View) → SuitsNext site e more u → Stood (go e (given_by more end)) u
@@ -214,7 +214,7 @@ module _ (site : Ground) (here : Site) (call : Call) (e : Enclosed) (is : IsOf s
   stands Guard n s asks small words found new = guard_stands site here call e is v n s
   stands (Lock b take) n s asks small words found new = lock_stands site here call e is v b take s n small
   stands Head n s asks small words found new = head_stands site here call e is v n small s
-  stands (Fill at) n s asks small words found new = record { is = is_with_word site here call e is at n; view = fill_by at n s small words found new (nat_lt at 2111) refl }
+  stands (Fill at) n s asks small words found new = record { is = is_with_word site here call e is at n; view = fill_by at n s small words found new (nat_lt at last_of_buckets) refl }
   stands (CountSpent b) n s asks small words found new = record {
     is = is;
     view = give_suits site e 0 b (next_view (CountSpent b) n) (omega arith) s.1 (part_replied b Spent n s.0);

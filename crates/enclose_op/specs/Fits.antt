@@ -2,7 +2,7 @@
 use Rattle.std.specs.Prelude.{◌≡◌, ◌≢◌, ℕ, ◌+◌, ◌-◌, ◌*◌, ◌%◌, ◌^◌, ◌<◌, ◌≤◌, true, Option, None, Some, [], ◌∷◌, slice_index}
 use Rattle.hash_word.specs.Hash.{home_of}
 use Rattle.segment_head.specs.HeadWord.{depth_in}
-use Rattle.image_layout.specs.Places.{root_word, bucket_at, buckets, block, words_of_buckets}
+use Rattle.image_layout.specs.Places.{root_word, bucket_at, buckets, block, words_of_buckets, last_of_buckets}
 use Rattle.way.specs.Ways.{head_word, bucket_word}
 use Rattle.whole_segment.specs.Room.{has_no_room}
 use Rattle.map_model.specs.declared.call.Call.{Call}
@@ -69,7 +69,7 @@ abbrev pub left_at : EncloseStep → ℕ
 left_at Guard = 2313
 left_at (Lock b take) = 2180 + 2 * (buckets - 1 - b) + take_left take
 left_at Head = 2180
-left_at (Fill at) = 69 + (2111 - at)
+left_at (Fill at) = 69 + (last_of_buckets - at)
 left_at (CountSpent b) = 68
 left_at CountDeep = 68
 left_at (Give give end) = give_left give

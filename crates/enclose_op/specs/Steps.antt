@@ -2,7 +2,7 @@
 use Rattle.std.specs.Prelude.{ℕ, ◌+◌, ◌%◌, ◌==◌, ◌&&◌, nat_lt, Bool, true, false, Option, None, Some, replicate, slice_set, if◌then◌else◌, ◌-◌}
 use Rattle.hash_word.specs.Hash.{home_of}
 use Rattle.segment_head.specs.HeadWord.{version_in, depth_in}
-use Rattle.image_layout.specs.Places.{buckets, block, words_of_buckets}
+use Rattle.image_layout.specs.Places.{buckets, block, words_of_buckets, last_of_buckets}
 use Rattle.image_layout.specs.Volatile.{counter_word}
 use Rattle.sound_image.specs.Records.{key_hash}
 use Rattle.way.specs.Ways.{head_word, bucket_word, is_leading}
@@ -85,7 +85,7 @@ abbrev pub with_word : Enclosed → ℕ → ℕ → Enclosed
 with_word e at seen = record e { buckets = slice_set e.buckets at seen }
 
 abbrev pub filled_to : Enclosed → ℕ → EncloseOp
-filled_to e at = go e (if nat_lt at 2111 then Fill (word_after at) else decided e)
+filled_to e at = go e (if nat_lt at last_of_buckets then Fill (word_after at) else decided e)
 
 abbrev pub filled : Enclosed → ℕ → ℕ → EncloseOp
 filled e at seen = filled_to (with_word e at seen) at

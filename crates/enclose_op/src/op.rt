@@ -1,14 +1,14 @@
 //! The machine, its steps, and how it ends.
 
 ghost use Rattle.std.specs.Prelude.{◌≡◌, ◌<◌, ℕ, ◌↔◌, IsTrue, true, slice_index};
-ghost use Rattle.image_layout.specs.Places.{buckets};
+ghost use Rattle.image_layout.specs.Places.{buckets, last_of_buckets};
 ghost use Rattle.op_core.specs.declared.want.Want.TheVariants as want;
 ghost use Rattle.enclose_op.specs.Whole.{kept_first};
 ghost use Rattle.enclose_op.specs.Steps.{begun, giving, next_lock, locked_to, is_followed, headed, word_after, decided, with_word, filled, given_to, wanted, taken, end_at, is_whole};
 
 use crate::enclosed::Enclosed;
 use crate::give::{Give, give_from, given};
-use image_layout::{BLOCK, BUCKETS, WORDS_OF_BUCKETS};
+use image_layout::{BLOCK, BUCKETS, LAST_OF_BUCKETS, WORDS_OF_BUCKETS};
 use map_model::{Change, Reply};
 use op_core::{Ans, Machine, Want, Why};
 use phase::{Take, Taken, take_next, take_want};
@@ -18,6 +18,9 @@ use world::Site;
 
 /// How many words a bucket has.
 const BLOCK_WORDS: u16 = BLOCK as u16;
+
+/// The number of the last word of the buckets.
+const LAST: u16 = LAST_OF_BUCKETS as u16;
 
 /// How an attempt is to end once all is given back.
 #[derive(Clone, Copy, Debug)]
@@ -93,7 +96,7 @@ fn next_lock(bucket: u8) -> EncloseStep
 
 /// The number of the word that is loaded after one of this number: lock words are left out.
 fn word_after(at: u16) -> u16
-    requires { at < 2111 }
+    requires { at < last_of_buckets }
     ensures { result ≡ word_after at }
 {
     if (at + 1) % BLOCK_WORDS == 0 {
@@ -181,7 +184,7 @@ fn filled(op: &mut EncloseOp, at: u16, seen: u64)
     ensures { op.new ≡ filled op.old.enclosed at seen }
 {
     op.enclosed.set_word(at, seen);
-    op.step = if at < 2111 {
+    op.step = if at < LAST {
         EncloseStep::Fill(word_after(at))
     } else {
         op.enclosed.decided()

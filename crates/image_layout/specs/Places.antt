@@ -31,6 +31,10 @@ segment_words = block * (1 + buckets)
 abbrev pub words_of_buckets : ℕ
 words_of_buckets = block * buckets
 
+-- the last one of them, counted from the first, which is 0
+abbrev pub last_of_buckets : ℕ
+last_of_buckets = words_of_buckets - 1
+
 -- how many words an image has at most
 abbrev pub most_words : ℕ
 most_words = 35258400
@@ -60,11 +64,11 @@ state_word = 16
 
 -- entry i of the directory area of depth e: the areas follow one another from word 32 on, depth 0 first
 abbrev pub entry_at : ℕ → ℕ → ℕ
-entry_at e i = 32 + 2 ^ e - 1 + i
+entry_at e i = block + 2 ^ e - 1 + i
 
--- the first segment begins at the next multiple of 32 behind the areas
+-- the first segment begins at the next whole block behind the areas
 abbrev pub first_segment : Shape → ℕ
-first_segment shape = (32 + 2 ^ (shape.depth + 1) - 1 + 31) / 32 * 32
+first_segment shape = (block + 2 ^ (shape.depth + 1) - 1 + (block - 1)) / block * block
 
 -- the first word of the header of the segment in slot s
 abbrev pub head_at : Shape → ℕ → ℕ

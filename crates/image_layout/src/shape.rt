@@ -25,6 +25,8 @@ pub const BUCKETS: u8 = HOMES + STASH_BUCKETS;
 pub const SEGMENT_WORDS: u64 = BLOCK * (1 + BUCKETS as u64);
 /// How many words the buckets of a segment have together.
 pub const WORDS_OF_BUCKETS: u64 = SEGMENT_WORDS - BLOCK;
+/// The last one of these words, counted from the first, which is 0.
+pub const LAST_OF_BUCKETS: u64 = WORDS_OF_BUCKETS - 1;
 /// The most slots for segments that an image may have.
 pub const MOST_SEGMENTS: u64 = 16384;
 /// The greatest depth that a directory may have.

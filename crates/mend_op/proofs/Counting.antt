@@ -7,7 +7,7 @@ use Rattle.op_core.specs.declared.want.Want.{Want}
 use Rattle.op_core.specs.declared.want.Ans.{Ans}
 use Rattle.op_core.specs.declared.want.Ans.TheVariants.{Passed, Value}
 use Rattle.op_core.specs.Answers.{IsAnswer}
-use Rattle.image_layout.specs.Places.{homes}
+use Rattle.image_layout.specs.Places.{homes, last_of_buckets}
 use Rattle.rounds.specs.declared.rounds.Rounds.{Rounds}
 use Rattle.rounds.specs.Steps.{rounds_stores, rounds_wanted, event_wanted, rounds_taken}
 use Rattle.rounds.specs.Steps as rounds
@@ -117,13 +117,13 @@ loaded_left : (o : Option ℕ) (op : MendOp) → left_of (loaded_by o op) ≤ 3 
 loaded_left (Some side) op = begin_left op stage.Clear
 loaded_left None op = let left = begin_left op stage.Mend in omega (arith, left)
 
-fill_falls : (i : ℕ) (op : MendOp) (t : Bool) → nat_lt i 2111 ≡ t → left_of (if t then at_step op (Fill (i + 1)) else loaded_by op.guarded.side op) < suc (fills_left (i + 1))
-fill_falls i op true is = let low = ltb-true i 2111 is in omega (arith, low)
+fill_falls : (i : ℕ) (op : MendOp) (t : Bool) → nat_lt i last_of_buckets ≡ t → left_of (if t then at_step op (Fill (i + 1)) else loaded_by op.guarded.side op) < suc (fills_left (i + 1))
+fill_falls i op true is = let low = ltb-true i last_of_buckets is in omega (arith, low)
 fill_falls i op false is = let left = loaded_left op.guarded.side op in omega (arith, left)
 
 -- EACH ANSWER leaves fewer
 pub falls_at : (op : MendOp) (s : MendStep) (a : Ans) → IsAnswer (wanted_in op s) a → left_of (next_in op s a) < left_at s
-falls_at op (Fill i) (Value seen) is = fill_falls i (with_word op i seen) (nat_lt i 2111) refl
+falls_at op (Fill i) (Value seen) is = fill_falls i (with_word op i seen) (nat_lt i last_of_buckets) refl
 falls_at op (Fill i) a is = absurd is
 falls_at op (Round stage n rounds) a is = round_falls op stage n rounds a is
 falls_at op Finish Passed is = omega arith

@@ -1,7 +1,7 @@
 -- What a mending wants in each step, and what an answer makes of it; and how it ends.
 use Rattle.std.specs.Prelude.{ℕ, ◌+◌, ◌-◌, ◌*◌, ◌==◌, not, nat_lt, Bool, true, false, Option, None, Some, replicate, slice_index, slice_set, if◌then◌else◌}
 use Rattle.trace.specs.Events.{line_of}
-use Rattle.image_layout.specs.Places.{homes, words_of_buckets}
+use Rattle.image_layout.specs.Places.{homes, words_of_buckets, last_of_buckets}
 use Rattle.way.specs.Ways.{head_word, bucket_word}
 use Rattle.op_core.specs.declared.want.Want.{Want}
 use Rattle.op_core.specs.declared.want.Want.TheVariants as want
@@ -103,7 +103,7 @@ loaded_by (Some side) op = begin stage.Clear op
 loaded_by None op = begin stage.Mend op
 
 abbrev pub filled_to : ℕ → MendOp → MendOp
-filled_to i op = if nat_lt i 2111 then at_step op (Fill (i + 1)) else loaded_by op.guarded.side op
+filled_to i op = if nat_lt i last_of_buckets then at_step op (Fill (i + 1)) else loaded_by op.guarded.side op
 
 -- ---- the header
 abbrev pub finished : MendOp → MendOp

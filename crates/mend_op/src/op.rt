@@ -9,7 +9,7 @@ ghost use Rattle.mend_op.specs.Steps.{head_at, word_at, with_word, with_stored, 
 use crate::heads::{finished_head, renewed_head};
 use crate::make::made;
 use crate::stage::Stage;
-use image_layout::{HOMES, WORDS_OF_BUCKETS};
+use image_layout::{HOMES, LAST_OF_BUCKETS, WORDS_OF_BUCKETS};
 use op_core::{Ans, Machine, Want};
 use repair_op::Guarded;
 use rounds::Rounds;
@@ -20,7 +20,7 @@ use way::{bucket_word, head_word};
 const NOTES: u8 = 2 * HOMES;
 
 /// The number of the last word of the buckets.
-const LAST: u16 = 2111;
+const LAST: u16 = LAST_OF_BUCKETS as u16;
 
 /// How a mending ends.
 #[derive(Clone, Copy, Debug)]

@@ -12,7 +12,7 @@ use Rattle.op_core.specs.Answers.{Finds}
 use Rattle.hash_word.specs.Hash.{home_of}
 use Rattle.segment_head.specs.HeadWord.{depth_in}
 use Rattle.trace.specs.Events.{Words}
-use Rattle.image_layout.specs.Places.{buckets}
+use Rattle.image_layout.specs.Places.{buckets, last_of_buckets}
 use Rattle.whole_segment.specs.Room.{has_no_room}
 use Rattle.map_model.specs.declared.call.Call.{Call}
 use Rattle.map_model.specs.declared.entry.Reply.TheVariants.{Deep, Spent}
@@ -178,7 +178,7 @@ module _ (site : Ground) (here : Site) (call : Call) (words : Words) (e : Enclos
   caused_at v (Fill at) s r outcome none some =
       let n : ℕ = words (word_of site.shape (wanted_in e (Fill at))) in
       let f : Enclosed = with_word e at n in
-      on_caused (wanted_in e (Fill at)) (if nat_lt at 2111 then Fill (word_after at) else decided f) outcome (fill_on f at (nat_lt at 2111)) some
+      on_caused (wanted_in e (Fill at)) (if nat_lt at last_of_buckets then Fill (word_after at) else decided f) outcome (fill_on f at (nat_lt at last_of_buckets)) some
   caused_at v (CountSpent b) s r outcome none some =
       told (wanted_in e (CountSpent b)) (replied Spent (words (word_of site.shape (wanted_in e (CountSpent b))))) outcome
       (lock_of e b, (r.guard, (b, r.near, lock_is site e l b r.near)), r.spent) some
@@ -229,7 +229,7 @@ module _ (e : Enclosed) (word value : ℕ) where
     not_own_at Head n s none some has = on_told (if is_followed e n then Fill 1 else backing buckets Room) (head_on (is_followed e n)) some
     not_own_at (Fill at) n s none some has =
         let f : Enclosed = with_word e at n in
-        on_told (if nat_lt at 2111 then Fill (word_after at) else decided f) (fill_on f at (nat_lt at 2111)) some
+        on_told (if nat_lt at last_of_buckets then Fill (word_after at) else decided f) (fill_on f at (nat_lt at last_of_buckets)) some
     not_own_at (CountSpent b) n s none some has = absurd (let same = same_Some (replied Spent n) told_busy some in cc)
     not_own_at CountDeep n s none some has = absurd (let same = same_Some (replied Deep n) told_busy some in cc)
     not_own_at (Give give end) n s none some has = none-some (outcome_of end) (sym none)

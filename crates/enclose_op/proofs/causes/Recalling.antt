@@ -10,7 +10,7 @@ use Rattle.op_core.specs.declared.want.Ans.{Ans}
 use Rattle.op_core.specs.declared.want.Ans.TheVariants.{Value, Won, Lost}
 use Rattle.hash_word.specs.Hash.{home_of}
 use Rattle.segment_head.specs.HeadWord.{depth_in}
-use Rattle.image_layout.specs.Places.{bucket_at, buckets, block}
+use Rattle.image_layout.specs.Places.{bucket_at, buckets, block, last_of_buckets}
 use Rattle.way.specs.Ways.{head_word, bucket_word}
 use Rattle.whole_segment.specs.Room.{has_no_room}
 use Rattle.map_model.specs.declared.call.Call.{Call}
@@ -176,7 +176,7 @@ module _ (site : Ground) (here : Site) (call : Call) (e : Enclosed) (is : IsOf s
     }
     after_by false stays = record { locks = still_locks; header = inr r.header; words = words_to }
 
-    whole : 2111 ≤ at → RemembersWhole site f filling
+    whole : last_of_buckets ≤ at → RemembersWhole site f filling
     whole last = record {
       enclosing = record {
         taken = still_locks.taken;
@@ -186,14 +186,14 @@ module _ (site : Ground) (here : Site) (call : Call) (e : Enclosed) (is : IsOf s
       only = still_locks.only;
     }
 
-    decided_by : 2111 ≤ at → (room deep : Bool) → RemembersAt site f filling (if room then (if deep then CountDeep else Whole) else backing buckets Room)
+    decided_by : last_of_buckets ≤ at → (room deep : Bool) → RemembersAt site f filling (if room then (if deep then CountDeep else Whole) else backing buckets Room)
     decided_by last true true = whole last
     decided_by last true false = whole last
     decided_by last false deep = tt
 
-    fill_by : (t : Bool) → nat_lt at 2111 ≡ t → RemembersAt site f filling (if t then Fill (word_after at) else decided f)
+    fill_by : (t : Bool) → nat_lt at last_of_buckets ≡ t → RemembersAt site f filling (if t then Fill (word_after at) else decided f)
     fill_by true low = after_by ((at + 1) % 32 == 0) refl
-    fill_by false high = decided_by (ltb-false at 2111 high) (has_no_room (kept_first f) (home_of f.hash)) (depth_in f.head == f.site.geometry.depth)
+    fill_by false high = decided_by (ltb-false at last_of_buckets high) (has_no_room (kept_first f) (home_of f.hash)) (depth_in f.head == f.site.geometry.depth)
 
   -- ---- what is given back
   back_by : (did : Doings) (more : Option Giving) (end : NotEnclosed) → Recalls site (go e (given_by more end)) did
@@ -207,7 +207,7 @@ module _ (site : Ground) (here : Site) (call : Call) (e : Enclosed) (is : IsOf s
   recalls_next v (Lock b Look) n small s asks r = look_by b s.1 r.0 n (n % 2 == 1) (n == 2 ^ 64 - 2) refl
   recalls_next v (Lock b (Try free)) n small s asks r = try_by b s.1 r.0 free r.1 n (n == free)
   recalls_next v Head n small s asks r = head_by n r (is_followed e n)
-  recalls_next v (Fill at) n small s asks r = fill_by v at n small s r (nat_lt at 2111) refl
+  recalls_next v (Fill at) n small s asks r = fill_by v at n small s r (nat_lt at last_of_buckets) refl
   recalls_next v (CountSpent b) n small s asks r = tt
   recalls_next v CountDeep n small s asks r = tt
   recalls_next v (Give give end) n small s asks r =

@@ -9,7 +9,7 @@ use Rattle.op_core.specs.declared.want.Ans.{Ans}
 use Rattle.op_core.specs.declared.want.Ans.TheVariants.{Value, Won, Lost, Passed}
 use Rattle.op_core.specs.declared.why.Why.TheVariants.{Busy}
 use Rattle.segment_head.specs.HeadWord.{version_in, state_in, depth_in, pattern_in, splitting}
-use Rattle.image_layout.specs.Places.{homes}
+use Rattle.image_layout.specs.Places.{homes, last_of_buckets}
 use Rattle.image_layout.specs.Volatile.{allocation_guard}
 use Rattle.world.specs.Wants.{answer_to}
 use Rattle.world.specs.areas.Kinds.{is_new_side, is_ready_side}
@@ -157,7 +157,7 @@ noted_not false n op = refl
 module _ (op : MendOp) where
   -- BUT FOR ONE EVENT it is as far with the version behind it as before
   pub renewed_same : (s : MendStep) (a : Ans) → s ≢ mend.Renew → is_renewed (mend_next_in op s a).step ≡ is_renewed s
-  renewed_same (mend.Fill i) (Value seen) other = filled_not (nat_lt i 2111) i (with_word op i seen)
+  renewed_same (mend.Fill i) (Value seen) other = filled_not (nat_lt i last_of_buckets) i (with_word op i seen)
   renewed_same (mend.Fill i) a other = refl
   renewed_same (mend.Round s n r) Passed other = rounded_by_not (rounds_stores r (due op s n)) s n (rounds_taken r (due op s n)) op
   renewed_same (mend.Round s n r) a other = refl

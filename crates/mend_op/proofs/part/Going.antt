@@ -2,7 +2,7 @@
 use Rattle.std.proofs.Common.{◌≡◌, ℕ, ◌+◌, ◌*◌, Bool, true, false, Option, None, Some, refl}
 use Rattle.std.specs.Prelude.{⊤, if◌then◌else◌, nat_lt}
 use Rattle.op_core.specs.declared.want.Want.{Want}
-use Rattle.image_layout.specs.Places.{homes}
+use Rattle.image_layout.specs.Places.{homes, last_of_buckets}
 use Rattle.part.specs.Doings.{Doings}
 use Rattle.world.specs.Ground.{Ground}
 use Rattle.rounds.specs.declared.rounds.Rounds.{Rounds}
@@ -92,4 +92,4 @@ filled_by op i true = record { early = tt; same = refl }
 filled_by op i false = loaded_goes op op.guarded.side
 
 pub filled_goes : (op : MendOp) (i : ℕ) → GoesOn op (filled_to i op)
-filled_goes op i = filled_by op i (nat_lt i 2111)
+filled_goes op i = filled_by op i (nat_lt i last_of_buckets)

@@ -4,7 +4,7 @@ use Rattle.std.specs.Prelude.{if◌then◌else◌, nat_lt}
 use Rattle.std.proofs.lemmas.Bool.{cases_eq, ltb-true, ltb-false}
 use Rattle.std.proofs.lemmas.List.{get_or-set_same, get_or-set_other}
 use Rattle.trace.specs.Events.{Words}
-use Rattle.image_layout.specs.Places.{words_of_buckets}
+use Rattle.image_layout.specs.Places.{words_of_buckets, last_of_buckets}
 use Rattle.map_model.specs.declared.call.Call.{Call}
 use Rattle.world.specs.declared.site.Site.{Site}
 use Rattle.world.specs.Ground.{Ground, IsGround}
@@ -90,17 +90,17 @@ module _ (site : Ground) (ground : IsGround site) (here : Site) (call : Call) (o
       looked_for site ground op.guarded is.old v words new s.1.header more.words before (newest last),
     )
 
-    filled_by : (t : Bool) → nat_lt i 2111 ≡ t → MendStands site here call (if t then at_step more (Fill (i + 1)) else loaded_by op.guarded.side more) u
+    filled_by : (t : Bool) → nat_lt i last_of_buckets ≡ t → MendStands site here call (if t then at_step more (Fill (i + 1)) else loaded_by op.guarded.side more) u
     filled_by true below = record {
       is = is_at site here call more is_more more.next is_more.next_small (Fill (i + 1));
       view = (
-        (let less = ltb-true i 2111 below in omega (arith, less)),
+        (let less = ltb-true i last_of_buckets below in omega (arith, less)),
         held,
         before_still site op.guarded op.guarded.side v u refl s.2,
         record { dirty = s.3.dirty; flushed = s.3.flushed },
       );
     }
-    filled_by false past = loaded_stands op.guarded.side (let less = low in let far = ltb-false i 2111 past in omega (arith, less, far)) s.2
+    filled_by false past = loaded_stands op.guarded.side (let less = low in let far = ltb-false i last_of_buckets past in omega (arith, less, far)) s.2
 
     pub fill_stands : MendStands site here call (filled_to i more) (view_then site.shape (reads (word_at op i)) n v)
-    fill_stands = subst (λ j. MendStands site here call (filled_to i more) (record v { known = (j, n) ∷ v.known })) (sym place_is) (filled_by (nat_lt i 2111) refl)
+    fill_stands = subst (λ j. MendStands site here call (filled_to i more) (record v { known = (j, n) ∷ v.known })) (sym place_is) (filled_by (nat_lt i last_of_buckets) refl)
