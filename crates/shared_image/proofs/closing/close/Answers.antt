@@ -32,6 +32,9 @@ returns-clause-sound c =
     c.requires.on.says c.requires.on.unmarked c.run_close.ensures.closed (omega (arith, long, given, words)) (c.truncate.ensures.items ∙ ap (λ (n : ℕ). take n c.run_close.new.words.items) c.words.ensures.is)
     (ap (λ w. map (λ v. v.own) (w.view ∷ w.past)) c.take_all-seat.ensures.taken ∙ replies_with p c.args.passes.items c.requires.keeper.still.own c.requires.keeper.still.past)).0
 
+pub returns-clause-length : goal.returns-clause-length
+returns-clause-length c = (returns-clause-sound c).whole
+
 pub returns-clause-clean : goal.returns-clause-clean
 returns-clause-clean c =
     let p = c.args.keeper.seat.me.0 in

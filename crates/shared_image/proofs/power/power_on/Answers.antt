@@ -46,6 +46,9 @@ returns-clause-keeper c =
     (record { table = c.in_ok-table.table; geometry = c.args.medium.now.geometry; started = c.restart-started.result; room = c.restart-started.new.words })
     c.in_ok-table.ensures.table (record { seat = c.in_ok-table.seat }) c.in_ok-table.ensures.seat.0 c.in_ok-table.ensures.seat.1
 
+pub returns-clause-callers : goal.returns-clause-callers
+returns-clause-callers c = (ap (λ m. m.0.view.callers) c.in_ok-table.ensures.seat.1, ap (λ (k : Opening). k.callers) c.in_ok-table.ensures.table)
+
 pub returns-clause-pairs : goal.returns-clause-pairs
 returns-clause-pairs c m has k =
     let key : Opening = record { geometry = c.args.medium.now.geometry; words = c.of.result; callers = c.args.callers + 1 } in

@@ -1,5 +1,7 @@
-use Rattle.std.proofs.Common.{◌≡◌, ◌∙◌, false}
+use Rattle.std.proofs.Common.{◌≡◌, ◌∙◌, false, subst}
+use Rattle.shared_call.specs.declared.tries.Answer.{Answer}
 use Rattle.shared_image.specs.Powered.{ground_in}
+use Rattle.shared_image.specs.Waiting.{StandsAt}
 use Rattle.shared_image.proofs.Waited.{called, trying_of, trying_now, waited_on, not_off, gone_on}
 use Rattle.shared_image.proofs.waiting.call_in.Goals as goal
 
@@ -32,3 +34,8 @@ loop-preserved g c =
           (gone_on (ground_in c.args.image.now) c.args.site.now c.args.call 1000 c.loop.off _ _ _ _ _ _ _ _ _ on c.next_try-answer.ensures.tried);
       off_is = c.next_try-answer.ensures.off;
     }
+
+pub returns-in-Replied-clause-came : goal.returns-in-Replied-clause-came
+returns-in-Replied-clause-came g c =
+    subst (λ (answer : Answer). StandsAt (ground_in c.args.image.now) c.args.site.now c.args.call c.args.pass.now.me.0 answer c.loop.engine c.loop.pass.me.0) c.in-Replied.is
+    c.loop.invariant.waiting.stands
