@@ -2,17 +2,16 @@
 
 ghost use Rattle.std.specs.Prelude.{◌≡◌, ◌≢◌, ℕ, ◌^◌, ◌<◌, ◌↔◌, IsTrue, MatchOption};
 ghost use Rattle.word_bits.specs.Bits.{bit};
+ghost use Rattle.bucket_meta.specs.Bucket.{note_slots};
 ghost use Rattle.image_layout.specs.Places.{stash_buckets};
 ghost use Rattle.stash.specs.NoteSlots.{IsUnused, IsNoteAt, IsLowest, HoldsNowhere, NoteSlotBecomes, filled_note_slot, freed_note_slot};
 
 use bucket_meta::Meta;
-
-/// How many note slots a bucket has.
-const NOTE_SLOTS: u8 = 4;
+use bucket_meta::words::NOTE_SLOTS;
 
 /// Bit `note_slot` of the four bits, 0 or 1.
 fn bit_at(bits: u8, note_slot: u8) -> u8
-    requires { note_slot < 4 }
+    requires { note_slot < note_slots }
     ensures { result ≡ bit note_slot bits }
 {
     (bits >> note_slot) & 1
@@ -21,7 +20,7 @@ fn bit_at(bits: u8, note_slot: u8) -> u8
 /// The four bits with `value`, 0 or 1, as bit `note_slot`.
 fn with_bit(bits: u8, note_slot: u8, value: u8) -> u8
     requires four { bits < 2 ^ 4 }
-    requires within { note_slot < 4 }
+    requires within { note_slot < note_slots }
     requires is_bit { value < 2 }
     ensures four { result < 2 ^ 4 }
     ensures here { bit note_slot result ≡ value }
@@ -48,7 +47,7 @@ pub(crate) fn unused_note_slot(meta: &Meta) -> Option<u8>
 
 /// Whether a note slot holds this note, where `member` is its membership bit.
 fn is_note_at(meta: &Meta, note_slot: u8, member: u8, finger: u8, index: u8) -> bool
-    requires { note_slot < 4 }
+    requires { note_slot < note_slots }
     ensures { IsTrue result ↔ IsNoteAt meta.now member (finger, index) note_slot }
 {
     bit_at(meta.used, note_slot) == 1
@@ -72,7 +71,7 @@ pub(crate) fn note_slot_of(meta: &Meta, member: u8, finger: u8, index: u8) -> Op
 
 /// Overwrites every field of a note slot with those of a note, where `member` is its membership bit.
 pub(crate) fn fill(meta: &mut Meta, note_slot: u8, member: u8, finger: u8, index: u8)
-    requires within { note_slot < 4 }
+    requires within { note_slot < note_slots }
     requires side { member < 2 }
     requires stash { index < stash_buckets }
     ensures { NoteSlotBecomes meta.old meta.new note_slot (filled_note_slot member (finger, index)) }
@@ -85,7 +84,7 @@ pub(crate) fn fill(meta: &mut Meta, note_slot: u8, member: u8, finger: u8, index
 
 /// Makes every field of a note slot 0.
 pub(crate) fn free(meta: &mut Meta, note_slot: u8)
-    requires within { note_slot < 4 }
+    requires within { note_slot < note_slots }
     ensures { NoteSlotBecomes meta.old meta.new note_slot freed_note_slot }
 {
     meta.used = with_bit(meta.used, note_slot, 0);
