@@ -14,7 +14,7 @@ use image_layout::{BUCKETS, Geometry, HOMES};
 use word_bits::{each_fits, mask};
 
 /// How many positions there are in which a key is looked for.
-const POSITIONS: u8 = 56;
+const POSITIONS: u8 = 4 * SLOTS;
 
 /// The bucket of a position, for a key of this home.
 fn bucket_at(home: u8, position: u8) -> u8

@@ -18,8 +18,8 @@ const STASH_SLOTS: usize = STASH_BUCKETS as usize * SLOTS as usize;
 pub(crate) struct StashRecords {
     records: [(u8, u8, u8); STASH_SLOTS],
     count: usize,
-    ghost places: { length records ≡ 28 },
-    ghost most: { count ≤ 28 },
+    ghost places: { length records ≡ stash_buckets * record_slots },
+    ghost most: { count ≤ stash_buckets * record_slots },
 }
 
 impl Loaded {
@@ -57,7 +57,7 @@ impl StashRecords {
 
     /// One more.
     fn push(&mut self, entry: (u8, u8, u8))
-        requires { length (records_of self.old) < 28 }
+        requires { length (records_of self.old) < stash_buckets * record_slots }
         ensures { records_of self.new ≡ records_of self.old ++ entry ∷ [] }
     {
         self.records[self.count] = entry;
@@ -95,7 +95,7 @@ impl StashRecords {
     /// The records in their order.
     pub(crate) fn as_slice(&self) -> &[(u8, u8, u8)]
         ensures is { result.now ≡ records_of self.now }
-        ensures most { length result.now ≤ 28 }
+        ensures most { length result.now ≤ stash_buckets * record_slots }
     {
         &self.records[..self.count]
     }
