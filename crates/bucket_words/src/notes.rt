@@ -1,9 +1,10 @@
 //! Laws of overflow notes beside records in the stash. The functions do nothing: each stands for the law that its contract says.
 
-ghost use Rattle.std.specs.Prelude.{◌≡◌, ℕ, ◌+◌, ◌/◌, ◌^◌, ◌<◌, ◌≤◌, List, ◌∷◌};
+ghost use Rattle.std.specs.Prelude.{◌≡◌, ℕ, ◌+◌, ◌<◌, ◌≤◌, List, ◌∷◌};
 ghost use Rattle.trace.specs.Events.{Words, with_word};
 ghost use Rattle.hash_word.specs.Hash.{home_of, finger_of, probing_of};
 ghost use Rattle.bucket_meta.specs.Bucket.{overflow_count, record_slots};
+ghost use Rattle.bucket_meta.specs.Marks.{KeepsUpper};
 ghost use Rattle.bucket_meta.specs.Notes.{OverflowNote, AreExact};
 ghost use Rattle.image_layout.specs.Places.{Shape, bucket_at, homes, stash_buckets, buckets};
 ghost use Rattle.segment_table.specs.Records.{key_hash, word_in, notes_of, stashed_of, HasExactNotes};
@@ -20,7 +21,7 @@ pub fn notes_stay()
         → ((n : ℕ) → 1 ≤ n → n < 4 → other (bucket_at shape s b + n) ≡ word (bucket_at shape s b + n))
         → ((n : ℕ) → 1 ≤ n → n < 4 → other (bucket_at shape s (probing_of b) + n) ≡ word (bucket_at shape s (probing_of b) + n))
         → notes_of shape other s b ≡ notes_of shape word s b }
-    ensures metadata { (shape : Shape) (word : Words) (s b x : ℕ) → b < buckets → x / 2 ^ 28 ≡ word (bucket_at shape s b + 1) / 2 ^ 28
+    ensures metadata { (shape : Shape) (word : Words) (s b x : ℕ) → b < buckets → KeepsUpper (word (bucket_at shape s b + 1)) x
         → (q d : ℕ) → d < homes → (notes_of shape (with_word word (bucket_at shape s b + 1) x) q d ≡ notes_of shape word q d)
         × (overflow_count (word_in shape (with_word word (bucket_at shape s b + 1) x) q d 1) ≡ overflow_count (word_in shape word q d 1)) }
     ensures exact { (shape : Shape) (word other : Words) (s b : ℕ) → SameHomeNotes shape word other s b → HasExactNotes shape word s b → HasExactNotes shape other s b }

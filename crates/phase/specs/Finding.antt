@@ -1,7 +1,8 @@
 -- What the holder of the buckets of a key has found, by the words that it loaded: what the laws of `world` ask of a search,
 -- and of a draw.
-use Rattle.std.specs.Prelude.{◌≡◌, ℕ, ◌+◌, ◌*◌, ◌/◌, ◌^◌, ◌<◌, ◌≤◌, false, None, Some, [], ◌⊎◌, slice_index}
+use Rattle.std.specs.Prelude.{◌≡◌, ℕ, ◌+◌, ◌*◌, ◌<◌, ◌≤◌, false, None, Some, [], ◌⊎◌, slice_index}
 use Rattle.bucket_meta.specs.Bucket.{allocated, overflow_count}
+use Rattle.bucket_meta.specs.Marks.{KeepsUpper}
 use Rattle.bucket_meta.specs.Search.{lowest_with}
 use Rattle.hash_word.specs.Hash.{home_of, finger_of}
 use Rattle.trace.specs.Events.{Words, with_word}
@@ -122,8 +123,8 @@ PreparedStandsNowhere = (shape : Shape) (hash segment : ℕ) (held : Held) (word
 pub record PublishTells : Type 0 where
   pub taken : (shape : Shape) (word : Words) (s b r k x : ℕ) → IsReadyAt shape word s b r k → allocated r x ≡ 1 → Hit shape (with_word word (bucket_at shape s b + 1) x) s b r k
   pub valued : (shape : Shape) (word : Words) (s b r k x : ℕ) → Hit shape word s b r k → Hit shape (with_word word (bucket_at shape s b + 5 + 2 * r) x) s b r k
-  pub spared : (shape : Shape) (hash segment : ℕ) (held : Held) (word : Words) (s b x : ℕ) → b < buckets → x / 2 ^ 28 ≡ word (bucket_at shape s b + 1) / 2 ^ 28
+  pub spared : (shape : Shape) (hash segment : ℕ) (held : Held) (word : Words) (s b x : ℕ) → b < buckets → KeepsUpper (word (bucket_at shape s b + 1)) x
       → SparesStash shape hash segment held word → SparesStash shape hash segment held (with_word word (bucket_at shape s b + 1) x)
-  pub owed : (site : Ground) (v : View) (word : Words) (s b d x : ℕ) (o : Owed) → b < buckets → d < homes → x / 2 ^ 28 ≡ word (bucket_at site.shape s b + 1) / 2 ^ 28
+  pub owed : (site : Ground) (v : View) (word : Words) (s b d x : ℕ) (o : Owed) → b < buckets → d < homes → KeepsUpper (word (bucket_at site.shape s b + 1)) x
       → Has o v.owed → o.segment ≡ s → o.home ≡ d → o.added ≡ false → o.notes ≡ notes_of site.shape word s d → o.count ≡ overflow_count (word_in site.shape word s d 1)
       → OwesAsKnown site v (with_word word (bucket_at site.shape s b + 1) x) s d

@@ -1,7 +1,8 @@
 -- What is fixed from the end of a restart to the close: how the image is laid out, the words of its structure, what each key had at the start, and how many callers there are.
-use Rattle.std.specs.Prelude.{◌≡◌, ◌≢◌, ℕ, ◌+◌, ◌-◌, ◌%◌, ◌^◌, ◌<◌, Option}
+use Rattle.std.specs.Prelude.{◌≡◌, ◌≢◌, ℕ, ◌+◌, ◌-◌, ◌^◌, ◌<◌, Option}
 use Rattle.trace.specs.Events.{Words}
 use Rattle.image_layout.specs.Places.{Shape, IsShape, root_word, state_word, bucket_at, buckets, block}
+use Rattle.image_layout.specs.StateWord.{image_version_in}
 use Rattle.segment_table.specs.Claims.{HasSoundFrame}
 use Rattle.sound_image.specs.Segments.{frame_of}
 use Rattle.frame_facts.specs.Facts.{IsLiveSlot, IsCurrentSlot}
@@ -25,7 +26,7 @@ IsLockWord shape lock = (s : ℕ) × (b : ℕ) × (s < shape.segments) × (b < b
 
 -- the version of the image
 abbrev pub version_of : Ground → ℕ
-version_of site = site.front state_word % 2 ^ 8
+version_of site = image_version_in (site.front state_word)
 
 -- THE STRUCTURE of words is sound: headers, links, root and directory are, and the first words are those of the start but for the root
 pub record IsStructured (site : Ground) (word : Words) : Type 0 where

@@ -13,7 +13,7 @@ use Rattle.map_model.specs.declared.entry.Reply.{Reply}
 use Rattle.map_model.specs.Map.{key_of}
 use Rattle.world.specs.History.{MayReply}
 use Rattle.bucket_words.specs.Buckets.{IsTaken, value_in, finger_in}
-use Rattle.bucket_meta.specs.Marks.{SameButSlot}
+use Rattle.bucket_meta.specs.Marks.{SameButSlot, KeepsUpper}
 use Rattle.bucket_words.specs.HomeNotes.{IsUnnoted}
 use Rattle.bucket_words.specs.Hits.{Hit}
 use Rattle.bucket_words.specs.Standing.{StandsAt}
@@ -80,13 +80,13 @@ pub record TakesSlot (shape : Shape) (b r k w x : ℕ) : Type 0 where
   pub others : SameButSlot r w x
   pub taken : allocated r x ≡ 1
   pub stands : StandsAt shape b k (member r x)
-  pub overflow : x / 2 ^ 28 ≡ w / 2 ^ 28
+  pub overflow : KeepsUpper w x
 
 -- it says that slot r is free, and all else as w says it
 pub record FreesSlot (r w x : ℕ) : Type 0 where
   pub others : SameButSlot r w x
   pub free : allocated r x ≡ 0
-  pub overflow : x / 2 ^ 28 ≡ w / 2 ^ 28
+  pub overflow : KeepsUpper w x
 
 -- the stores by which a record appears whose key stood nowhere
 pub record MayPlace (site : Ground) (v : View) : Type 0 where
