@@ -1,6 +1,6 @@
 //! Overflow notes of home buckets, and whether they are exact.
 
-ghost use Rattle.std.specs.Prelude.{◌≡◌, ℕ, ◌<◌, ◌≤◌, ◌↔◌, IsTrue, length, slice_index};
+ghost use Rattle.std.specs.Prelude.{◌≡◌, ℕ, ◌*◌, ◌<◌, ◌≤◌, ◌↔◌, IsTrue, length, slice_index};
 ghost use Rattle.image_layout.specs.Places.{words_of, homes, stash_buckets, buckets, block};
 ghost use Rattle.bucket_meta.specs.Bucket.{note_used, note_member, note_index, note_finger, record_slots, note_slots};
 ghost use Rattle.sound_image.specs.Records.{word_in, notes_of, stashed_of, HasExactNotes};
@@ -164,7 +164,7 @@ fn count_notes(
     requires segment { s < geometry.now.segments }
     requires bucket { b < homes }
     ensures is { result ≡ how_many sought (notes_of geometry.now (slice_index words.now) s b) }
-    ensures most { result ≤ 8 }
+    ensures most { result ≤ 2 * note_slots }
 {
     let beside = hash_word::probing(b);
     let own = count_on(
@@ -193,7 +193,7 @@ fn count_stashed(
     requires whole { length words.now ≡ words_of geometry.now }
     requires segment { s < geometry.now.segments }
     ensures is { result ≡ how_many sought (stashed_of geometry.now (slice_index words.now) s b) }
-    ensures most { result ≤ 28 }
+    ensures most { result ≤ stash_buckets * record_slots }
 {
     count_in(geometry, words, s, b, 0, sought) + count_in(geometry, words, s, b, 1, sought)
 }
