@@ -1,7 +1,7 @@
 -- When bytes are the file of an image, and which fault they have else.
 use Rattle.std.specs.Prelude.{◌≡◌, ◌≢◌, ℕ, ◌*◌, ◌/◌, ◌%◌, ◌^◌, ◌<◌, ◌≤◌, ◌⊎◌, List, length, drop, ⊤}
 use Rattle.byteorder.specs.Endian.{little_number}
-use Rattle.image_layout.specs.Places.{Shape, IsShape, words_of}
+use Rattle.image_layout.specs.Places.{Shape, IsShape, block, words_of}
 use Rattle.sound_image.specs.Segments.{ImageWords}
 use Rattle.sound_image.specs.Image.{image_bytes, magic, IsSoundImage}
 use Rattle.image_file.specs.declared.fault.ImageFault.{ImageFault}
@@ -27,7 +27,7 @@ module _ (word : ImageWords) where
 
 -- all that is looked at before the rules is right
 pub record IsFramed (bytes : List ℕ) : Type 0 where
-  pub long : 256 ≤ length bytes
+  pub long : 8 * block ≤ length bytes
   pub magic_there : HasMagic (word_in_file bytes)
   pub format_there : HasFormat (word_in_file bytes)
   pub shape_there : IsShape (shape_in (word_in_file bytes))
@@ -35,16 +35,16 @@ pub record IsFramed (bytes : List ℕ) : Type 0 where
 
 -- the bytes have magic and format, and say this of their shape
 pub record HasFront (bytes : List ℕ) (Says : Shape → Type 0) : Type 0 where
-  pub long : 256 ≤ length bytes
+  pub long : 8 * block ≤ length bytes
   pub magic_there : HasMagic (word_in_file bytes)
   pub format_there : HasFormat (word_in_file bytes)
   pub says : Says (shape_in (word_in_file bytes))
 
 -- the bytes have this fault, and none that is looked at before it
 abbrev pub HasFault : List ℕ → ImageFault → Type 0
-HasFault bytes Length = (length bytes < 256) ⊎ HasFront bytes (λ shape. IsShape shape × (length bytes ≢ 8 * words_of shape))
-HasFault bytes Magic = (256 ≤ length bytes) × (HasMagic (word_in_file bytes) → ⊥)
-HasFault bytes Format = (256 ≤ length bytes) × HasMagic (word_in_file bytes) × (HasFormat (word_in_file bytes) → ⊥)
+HasFault bytes Length = (length bytes < 8 * block) ⊎ HasFront bytes (λ shape. IsShape shape × (length bytes ≢ 8 * words_of shape))
+HasFault bytes Magic = (8 * block ≤ length bytes) × (HasMagic (word_in_file bytes) → ⊥)
+HasFault bytes Format = (8 * block ≤ length bytes) × HasMagic (word_in_file bytes) × (HasFormat (word_in_file bytes) → ⊥)
 HasFault bytes Geometry = HasFront bytes (λ shape. IsShape shape → ⊥)
 HasFault bytes (Unsound broken word) = IsFramed bytes × IsFirstBreach (shape_in (word_in_file bytes)) (word_in_file bytes) broken word
 HasFault bytes NoMemory = ⊤

@@ -9,14 +9,14 @@ use crate::fault::ImageFault;
 use crate::formatted::{FORMAT, MAGIC};
 use crate::medium::Medium;
 use crate::words::{WORD_BYTES, Words, word_at};
-use image_layout::Geometry;
+use image_layout::{BLOCK, Geometry};
 use image_rules::first_breach;
 use map_model::NoMemory;
 use std::alloc::Global;
 use word_bits::each_fits;
 
 /// How many bytes the words in front of an image have, which are about the whole.
-const FRONT_BYTES: usize = 256;
+const FRONT_BYTES: usize = WORD_BYTES * BLOCK as usize;
 
 /// The words of a file.
 fn words_in(alloc: Global, bytes: &[u8]) -> Result<Words, NoMemory>
