@@ -1,9 +1,9 @@
 -- What the store and the source tell before a call and after it, and what was read of them.
-use Rattle.std.specs.Prelude.{◌≡◌, ◌≢◌, ℕ, ◌+◌, ◌≤◌, Bool, true, false, List, length, Option}
+use Rattle.std.specs.Prelude.{◌≡◌, ◌≢◌, ℕ, ◌+◌, ◌*◌, ◌≤◌, Bool, true, false, List, length, Option}
 use Rattle.std.specs.Io.KnownBytes.{Consumes, IsAtEnd}
 use Rattle.outside.specs.Causes.{Rose}
 use Rattle.outside.specs.Storing.{IsFront}
-use Rattle.image_layout.specs.Places.{Shape}
+use Rattle.image_layout.specs.Places.{Shape, most_words}
 use Rattle.sound_image.specs.Image.{image_bytes, IsSoundImage}
 use Rattle.image_file.specs.Fault.{HasFault}
 use Rattle.image_file.specs.declared.fault.ImageFault.{ImageFault}
@@ -37,7 +37,7 @@ bytes_told store_old store_new writes_old writes_new lost source_old source_new 
 
 -- the most bytes that an image can have, and a script
 abbrev pub image_limit : ℕ
-image_limit = 282067200
+image_limit = 8 * most_words
 
 abbrev pub script_limit : ℕ
 script_limit = 16777216
