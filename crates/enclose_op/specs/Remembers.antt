@@ -1,8 +1,8 @@
 -- What an enclosing remembers of what its attempt did, in each step: which words it changed, and which it loaded, as they are kept.
-use Rattle.std.specs.Prelude.{◌≡◌, ◌≢◌, ℕ, ◌+◌, ◌-◌, ◌%◌, ◌^◌, ◌<◌, ⊤, [], slice_index}
+use Rattle.std.specs.Prelude.{◌≡◌, ◌≢◌, ℕ, ◌+◌, ◌%◌, ◌<◌, ⊤, [], slice_index}
 use Rattle.image_layout.specs.Places.{bucket_at, buckets, block}
 use Rattle.image_layout.specs.Volatile.{segment_guard}
-use Rattle.world.specs.Ground.{Ground}
+use Rattle.world.specs.Ground.{Ground, spent_lock}
 use Rattle.world.specs.Views.{Has}
 use Rattle.part.specs.Doings.{Doings}
 use Rattle.phase.specs.Taking.{RemembersTake}
@@ -28,7 +28,7 @@ module _ (site : Ground) (e : Enclosed) (did : Doings) where
   pub record RemembersSpent (b : ℕ) : Type 0 where
     pub near : b < buckets
     pub guard : Has (segment_guard site.shape e.segment) did.changed
-    pub spent : Has (lock_of e b, 2 ^ 64 - 2) did.loads
+    pub spent : Has (lock_of e b, spent_lock) did.loads
 
   -- IN EACH STEP; once it is decided nothing has to be remembered
   abbrev pub RemembersAt : EncloseStep → Type 0

@@ -1,8 +1,8 @@
 -- A displacement as a part of a call: where no record can move it keeps its locks, and another part goes on.
-use Rattle.std.specs.Prelude.{◌≡◌, ◌-◌, ◌^◌, ⊤, true, false, None, slice_index}
+use Rattle.std.specs.Prelude.{◌≡◌, ⊤, true, false, None, slice_index}
 use Rattle.map_model.specs.declared.call.Call.{Call}
 use Rattle.world.specs.declared.site.Site.{Site}
-use Rattle.world.specs.Ground.{Ground}
+use Rattle.world.specs.Ground.{Ground, spent_lock}
 use Rattle.world.specs.Views.{View, Has}
 use Rattle.world.specs.StepKinds.{of_call}
 use Rattle.part.specs.Doings.{Doings}
@@ -38,7 +38,7 @@ module _ (site : Ground) (kept : Kept) (did : Doings) where
 
   -- the lock word of a third bucket was loaded as free with the last version, when it was tried
   abbrev pub LoadedSpent : Type 0
-  LoadedSpent = (direction : Direction) × HasTried direction × Has (lock_of kept (target_of direction), 2 ^ 64 - 2) did.loads
+  LoadedSpent = (direction : Direction) × HasTried direction × Has (lock_of kept (target_of direction), spent_lock) did.loads
 
   abbrev pub RemembersAt : MoveStep → Type 0
   RemembersAt (Lock direction take) = RemembersRoom site kept did.loads × ChangedLocks kept did.changed × RemembersTake (lock_of kept (target_of direction)) did.loads take × HasTried direction

@@ -1,5 +1,5 @@
 -- The causes of an attempt's end, one vocabulary for all machines: in the newest words, and in what the attempt did.
-use Rattle.std.specs.Prelude.{◌≡◌, ◌≢◌, ℕ, ◌+◌, ◌-◌, ◌*◌, ◌%◌, ◌^◌, ◌<◌, ◌≤◌, ⊤, true, false, None, Some, List, ◌⊎◌}
+use Rattle.std.specs.Prelude.{◌≡◌, ◌≢◌, ℕ, ◌+◌, ◌*◌, ◌%◌, ◌^◌, ◌<◌, ◌≤◌, ⊤, true, false, None, Some, List, ◌⊎◌}
 use Rattle.op_core.specs.declared.want.Want.{Want}
 use Rattle.op_core.specs.declared.want.Want.TheVariants.{Power, Done}
 use Rattle.op_core.specs.declared.want.Ans.{Ans}
@@ -23,7 +23,7 @@ use Rattle.map_model.specs.Map.{key_of}
 use Rattle.map_model.specs.Legal.{IsInsert}
 use Rattle.map_model.specs.Weave.{spent_count}
 use Rattle.world.specs.declared.site.Site.{Site}
-use Rattle.world.specs.Ground.{Ground, IsGround, IsStructured}
+use Rattle.world.specs.Ground.{Ground, IsGround, IsStructured, spent_lock}
 use Rattle.world.specs.Views.{View, At, Has, HasLock}
 use Rattle.world.specs.Invariant.{Holds}
 use Rattle.world.specs.Wants.{answer_to, word_of}
@@ -216,7 +216,7 @@ module _ (shape : Shape) (words : Words) (did : Doings) (call : Call) where
   -- ---- spent
   -- the commit counter has no place left, or the attempt loaded one of the lock words as free with its last version
   abbrev pub IsSpent : Type 0
-  IsSpent = (spent_count ≤ words (counter_word shape)) ⊎ ((lock : ℕ) × IsOwnLock lock × Has (lock, 2 ^ 64 - 2) did.loads)
+  IsSpent = (spent_count ≤ words (counter_word shape)) ⊎ ((lock : ℕ) × IsOwnLock lock × Has (lock, spent_lock) did.loads)
 
   -- THE CAUSE of each reply: that there is no room in the table who splits tells alone; the other replies are those of the plain map, and
   -- have no more

@@ -1,5 +1,5 @@
 -- The causes by which an attempt ends that splits a segment: in the newest words, and in what it did.
-use Rattle.std.specs.Prelude.{◌≡◌, ◌≢◌, ℕ, ◌+◌, ◌-◌, ◌%◌, ◌^◌, ◌<◌, ⊤, true, false, None, Some, List, ◌⊎◌}
+use Rattle.std.specs.Prelude.{◌≡◌, ◌≢◌, ℕ, ◌+◌, ◌%◌, ◌^◌, ◌<◌, ⊤, true, false, None, Some, List, ◌⊎◌}
 use Rattle.op_core.specs.declared.want.Want.{Want}
 use Rattle.op_core.specs.declared.want.Want.TheVariants.{Done}
 use Rattle.op_core.specs.declared.want.Ans.{Ans}
@@ -10,7 +10,7 @@ use Rattle.image_layout.specs.Volatile.{segment_guard, allocation_guard}
 use Rattle.map_model.specs.declared.call.Call.{Call}
 use Rattle.map_model.specs.declared.entry.Reply.TheVariants.{Full, Deep, Spent}
 use Rattle.world.specs.declared.site.Site.{Site}
-use Rattle.world.specs.Ground.{Ground}
+use Rattle.world.specs.Ground.{Ground, spent_lock}
 use Rattle.world.specs.Views.{View, Has, At, HasLock}
 use Rattle.world.specs.Wants.{answer_to}
 use Rattle.world.specs.Invariant.{Holds}
@@ -85,7 +85,7 @@ module _ (shape : Shape) (words : Words) (did : Doings) (call : Call) (segment :
   HasSplitCause event (replied Deep place) = HasEnclosed × FoundNoRoom × HasDepth shape words did call segment (λ depth. depth ≡ shape.depth)
   HasSplitCause event (replied Full place) =
       HasEnclosed × FoundNoRoom × HasDepth shape words did call segment (λ depth. depth < shape.depth) × HasTaken (allocation_guard shape) × NoSlotIsFree shape words did call
-  HasSplitCause event (replied Spent place) = (lock : ℕ) × IsNeededLock lock × Has (lock, 2 ^ 64 - 2) did.loads
+  HasSplitCause event (replied Spent place) = (lock : ℕ) × IsNeededLock lock × Has (lock, spent_lock) did.loads
   HasSplitCause event (replied reply place) = ⊥
   HasSplitCause event (again (Busy word value)) = Looked shape words did call event word value × IsTakenByOthers word value
   HasSplitCause event (again (Moved word before after)) = Looked shape words did call event word after × HasMovedLock word before after

@@ -1,11 +1,11 @@
 -- How the taking of a lock fits the world: the kind of each event, what the view is after it, and by what each end comes.
-use Rattle.std.specs.Prelude.{◌≡◌, ◌-◌, ℕ, ◌+◌, ◌%◌, ◌^◌, ◌<◌, ⊤, List, ◌∷◌, ◌++◌}
+use Rattle.std.specs.Prelude.{◌≡◌, ℕ, ◌+◌, ◌%◌, ◌^◌, ◌<◌, ⊤, List, ◌∷◌, ◌++◌}
 use Rattle.op_core.specs.declared.want.Ans.{Ans}
 use Rattle.op_core.specs.Answers.{IsAnswer, load_of}
 use Rattle.trace.specs.Events.{Words}
 use Rattle.image_layout.specs.Places.{Shape}
 use Rattle.map_model.specs.declared.call.Call.{Call}
-use Rattle.world.specs.Ground.{Ground}
+use Rattle.world.specs.Ground.{Ground, spent_lock}
 use Rattle.world.specs.Views.{View, Has}
 use Rattle.world.specs.Wants.{answer_to}
 use Rattle.world.specs.Kinds.{Kind, meets_lock, tries, wanted, view_after}
@@ -62,7 +62,7 @@ module _ (lock : ℕ) (loads : List (ℕ × ℕ)) where
   abbrev pub RemembersTaken : Taken → Type 0
   RemembersTaken (taken.On take) = RemembersTake take
   RemembersTaken (taken.Held free) = Has (lock, free) loads
-  RemembersTaken taken.Spent = Has (lock, 2 ^ 64 - 2) loads
+  RemembersTaken taken.Spent = Has (lock, spent_lock) loads
   RemembersTaken end = ⊤
 
 -- THE CAUSE of each end, for an attempt of this call that did this

@@ -1,9 +1,9 @@
 -- A record that comes to the stash, as a part of a call: where both stash buckets are full its locks are kept, and another part goes on.
-use Rattle.std.specs.Prelude.{◌≡◌, ◌-◌, ◌^◌, ◌<◌, ⊤, true, false, None}
+use Rattle.std.specs.Prelude.{◌≡◌, ◌^◌, ◌<◌, ⊤, true, false, None}
 use Rattle.map_model.specs.declared.call.Call.{Call}
 use Rattle.map_model.specs.Changes.{call_of}
 use Rattle.world.specs.declared.site.Site.{Site}
-use Rattle.world.specs.Ground.{Ground}
+use Rattle.world.specs.Ground.{Ground, spent_lock}
 use Rattle.world.specs.Views.{View, Has}
 use Rattle.world.specs.StepKinds.{of_call}
 use Rattle.part.specs.Doings.{Doings}
@@ -48,7 +48,7 @@ module _ (site : Ground) (kept : Kept) (seen : Seen) (did : Doings) where
 
   -- the lock word of a stash bucket was loaded as free with the last version, when it was tried
   abbrev pub LoadedSpent : Type 0
-  LoadedSpent = (bucket : StashBucket) × HasPassed bucket × Has (lock_of kept (place_of bucket), 2 ^ 64 - 2) did.loads
+  LoadedSpent = (bucket : StashBucket) × HasPassed bucket × Has (lock_of kept (place_of bucket), spent_lock) did.loads
 
   abbrev pub RemembersIn : StashStep → Type 0
   RemembersIn (Lock bucket take) = RemembersKept seen.held × RemembersTake (lock_of kept (place_of bucket)) did.loads take × HasPassed bucket

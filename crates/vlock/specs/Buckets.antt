@@ -1,9 +1,9 @@
 -- What reading, locking and unlocking a bucket ask and tell.
-use Rattle.std.specs.Prelude.{◌≡◌, ◌≢◌, ◌⊎◌, true, ℕ, zero, suc, ◌+◌, ◌*◌, ◌%◌, ◌^◌, ◌-◌, ◌<◌, ◌≤◌, List, [], ◌∷◌, slice_index, length}
+use Rattle.std.specs.Prelude.{◌≡◌, ◌≢◌, ◌⊎◌, true, ℕ, zero, suc, ◌+◌, ◌*◌, ◌%◌, ◌^◌, ◌<◌, ◌≤◌, List, [], ◌∷◌, slice_index, length}
 use Rattle.op_core.specs.declared.want.Want.{Want}
 use Rattle.op_core.specs.declared.want.Want.TheVariants.{Load, Store, Exchange}
 use Rattle.image_layout.specs.Places.{block}
-use Rattle.world.specs.Ground.{Ground}
+use Rattle.world.specs.Ground.{Ground, spent_lock}
 use Rattle.world.specs.Views.{Glance, View, Has, IsFirm}
 use Rattle.world.specs.Kinds.{unlocks}
 use Rattle.world.specs.StepKinds.{StepKind, of_call, view_by}
@@ -97,7 +97,7 @@ LockSays site lock v (locking.Locked version) w = (w ≡ record v { held = (lock
 LockSays site lock v (locking.Held seen) w = (w ≡ v) × (seen % 2 ≡ 1) × WasAt site v lock seen
 LockSays site lock v (locking.Moved before after) w =
     (w ≡ v) × (before ≢ after) × (before % 2 ≡ 0) × (after % 2 ≡ 0) × WasAt site v lock before × WasAt site v lock after
-LockSays site lock v locking.Spent w = (w ≡ record v { spent_locks = lock ∷ v.spent_locks }) × WasAt site v lock (2 ^ 64 - 2)
+LockSays site lock v locking.Spent w = (w ≡ record v { spent_locks = lock ∷ v.spent_locks }) × WasAt site v lock spent_lock
 
 -- WHICH EVENTS A TRY TAKES: a look at the lock word, and where that is free and not of the last version one exchange. It gives up a lock as held
 -- where the last of them found an odd value
@@ -105,9 +105,9 @@ abbrev pub LockTook : ℕ → List (Want × ℕ) → LockReply → List (Want ×
 LockTook lock took (locking.Locked version) later = later ≡ (Exchange lock (2 * version) (2 * version + 1), 2 * version) ∷ (Load lock, 2 * version) ∷ took
 LockTook lock took (locking.Held seen) later =
     (seen % 2 ≡ 1)
-    × ((later ≡ (Load lock, seen) ∷ took) ⊎ ((free : ℕ) × (free % 2 ≡ 0) × (free ≢ 2 ^ 64 - 2) × (later ≡ (Exchange lock free (free + 1), seen) ∷ (Load lock, free) ∷ took)))
+    × ((later ≡ (Load lock, seen) ∷ took) ⊎ ((free : ℕ) × (free % 2 ≡ 0) × (free ≢ spent_lock) × (later ≡ (Exchange lock free (free + 1), seen) ∷ (Load lock, free) ∷ took)))
 LockTook lock took (locking.Moved before after) later = later ≡ (Exchange lock before (before + 1), after) ∷ (Load lock, before) ∷ took
-LockTook lock took locking.Spent later = later ≡ (Load lock, 2 ^ 64 - 2) ∷ took
+LockTook lock took locking.Spent later = later ≡ (Load lock, spent_lock) ∷ took
 
 -- the same of the exchange alone, of a word that was found to be `free`
 abbrev pub TakeTook : ℕ → ℕ → List (Want × ℕ) → LockReply → List (Want × ℕ) → Type 0

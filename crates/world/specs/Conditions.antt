@@ -1,5 +1,5 @@
 -- What each kind of step asks of the stepping view alone.
-use Rattle.std.specs.Prelude.{◌≡◌, ◌≢◌, ◌-◌, ℕ, ◌+◌, ◌%◌, ◌^◌, ◌<◌, ◌≤◌, Bool, true, false, ⊤, Option, Some, List, [], ◌∷◌, ◌⊎◌}
+use Rattle.std.specs.Prelude.{◌≡◌, ◌≢◌, ℕ, ◌+◌, ◌%◌, ◌^◌, ◌<◌, ◌≤◌, Bool, true, false, ⊤, Option, Some, List, [], ◌∷◌, ◌⊎◌}
 use Rattle.trace.specs.Events.{Words, with_word}
 use Rattle.image_layout.specs.Places.{Shape, head_at, bucket_at, homes, stash_buckets, buckets}
 use Rattle.map_model.specs.declared.call.Call.{Call}
@@ -18,7 +18,7 @@ use Rattle.bucket_words.specs.Owners.{owner_of, home_at}
 use Rattle.bucket_words.specs.HomeNotes.{SameHomeNotes}
 use Rattle.bucket_words.specs.TableChanges.{KeepsTable, ChangesKey}
 use Rattle.frame_facts.specs.Facts.{Fact, Lives, Current, Rooted, Taken, HoldsFact}
-use Rattle.world.specs.Ground.{Ground, IsLockWord, IsUnder, version_of, IsStructured}
+use Rattle.world.specs.Ground.{Ground, IsLockWord, IsUnder, version_of, IsStructured, spent_lock}
 use Rattle.world.specs.Views.{Glance, Move, Owed, View, Has, HasLock, IsGuarded, IsLoose, IsFirm}
 use Rattle.world.specs.History.{result_of, reply_by, MayReply, HasRoomCause}
 use Rattle.world.specs.Kinds.{Kind, peeks, asks_power, meets_root, meets_entry, meets_head, pins, finds_room, refuses, places, looks, glances_word, validates, learns, meets_lock, tries, stores, copies, clears, repays, publishes, stashes, flushes, fences, draws_place, unlocks, cuts_power}
@@ -239,7 +239,7 @@ module _ (site : Ground) where
   May (validates lock) v = ⊤
   May (learns i) v = IsGuarded v.held i
   May (meets_lock lock) v = IsKnownLock v lock
-  May (tries lock free) v = IsKnownLock v lock × (free % 2 ≡ 0) × (free ≢ 2 ^ 64 - 2)
+  May (tries lock free) v = IsKnownLock v lock × (free % 2 ≡ 0) × (free ≢ spent_lock)
   May (stores i x) v = IsTidy v i x NoTwin Nowhere Nowhere × IsHarmless v i x
   May (copies i x m) v = IsTidy v i x (IsMoveOf m) Nowhere Nowhere × IsHarmless v i x
       × HoldsMove site.shape v.held m

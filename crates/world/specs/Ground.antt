@@ -45,9 +45,13 @@ IsCurrentLock site words lock = (s : ℕ) × (b : ℕ) × (s < site.shape.segmen
 abbrev pub IsLiveLock : Shape → Words → ℕ → Type 0
 IsLiveLock shape words lock = (s : ℕ) × (b : ℕ) × (s < shape.segments) × (b < buckets) × (lock ≡ bucket_at shape s b) × IsLiveSlot (frame_of shape words) s
 
--- such a word is free with the last version, so that nobody takes the lock any more
+-- a lock word that is free with the last version, so that nobody takes the lock any more
+abbrev pub spent_lock : ℕ
+spent_lock = 2 ^ 64 - 2
+
+-- such a word of a live segment
 abbrev pub IsSpentLock : Shape → Words → ℕ → Type 0
-IsSpentLock shape words lock = IsLiveLock shape words lock × (words lock ≡ 2 ^ 64 - 2)
+IsSpentLock shape words lock = IsLiveLock shape words lock × (words lock ≡ spent_lock)
 
 -- some lock word is
 abbrev pub HasSpentLock : Shape → Words → Type 0

@@ -11,6 +11,7 @@ use Rattle.map_model.specs.declared.call.Call.TheVariants.{Get}
 use Rattle.map_model.specs.declared.entry.Reply.{Reply}
 use Rattle.map_model.specs.declared.entry.Reply.TheVariants.{Done, Spent}
 use Rattle.map_model.specs.declared.entry.Entry.{Entry}
+use Rattle.world.specs.Ground.{spent_lock}
 use Rattle.map_model.specs.Map.{key_of, shown}
 use Rattle.map_model.specs.Legal.{seen_after}
 use Rattle.map_model.specs.Weave.{spent_count}
@@ -244,7 +245,7 @@ view_after shape (looks lock) n v = with_look (n % 2 == 0) lock n v
 view_after shape (glances_word lock i) n v = record v { notes = with_noted lock i n v.notes }
 view_after shape (validates i) n v = validated (record v { notes = marked i n v.notes })
 view_after shape (learns i) n v = record v { known = (i, n) ∷ v.known }
-view_after shape (meets_lock lock) n v = record v { spent_locks = with_spent (n == 2 ^ 64 - 2) lock v.spent_locks }
+view_after shape (meets_lock lock) n v = record v { spent_locks = with_spent (n == spent_lock) lock v.spent_locks }
 view_after shape (tries lock free) n v = with_lock (n == free) lock free v
 view_after shape (stores i x) n v = with_store shape i n x v.planned v.moving v.owed v
 view_after shape (copies i x m) n v = with_store shape i n x v.planned (m ∷ v.moving) v.owed v

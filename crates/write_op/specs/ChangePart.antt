@@ -1,10 +1,10 @@
 -- A change as a part of a call: where an insert finds no slot it keeps its locks, and another part goes on.
-use Rattle.std.specs.Prelude.{◌≡◌, ℕ, ◌-◌, ◌^◌, ◌<◌, ⊤, true, false, [], None}
+use Rattle.std.specs.Prelude.{◌≡◌, ℕ, ◌^◌, ◌<◌, ⊤, true, false, [], None}
 use Rattle.map_model.specs.declared.call.Call.{Call}
 use Rattle.map_model.specs.declared.change.Change.{Change}
 use Rattle.map_model.specs.Changes.{call_of}
 use Rattle.world.specs.declared.site.Site.{Site}
-use Rattle.world.specs.Ground.{Ground, IsGround, version_of}
+use Rattle.world.specs.Ground.{Ground, IsGround, version_of, spent_lock}
 use Rattle.world.specs.Views.{View, Has}
 use Rattle.world.specs.Attempts.{HoldsOnly}
 use Rattle.world.specs.StepKinds.{of_call}
@@ -73,7 +73,7 @@ module _ (task : Task) (seen : Seen) (did : Doings) where
 
   -- the lock word of such a bucket was loaded as free with the last version
   abbrev pub LoadedSpent : Type 0
-  LoadedSpent = (place : Role) × AsksFor place × Has (lock_of task seen place, 2 ^ 64 - 2) did.loads
+  LoadedSpent = (place : Role) × AsksFor place × Has (lock_of task seen place, spent_lock) did.loads
 
   abbrev pub RemembersIn : WriteStep → Type 0
   RemembersIn (Way walk) = RemembersWalk task.site task.hash did.loads walk × (did.changed ≡ [])

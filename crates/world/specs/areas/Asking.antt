@@ -1,5 +1,5 @@
 -- What each kind of step at the structure asks of the stepping view alone.
-use Rattle.std.specs.Prelude.{◌≡◌, ◌≢◌, ℕ, suc, ◌-◌, ◌%◌, ◌^◌, ◌<◌, ◌⊎◌, ⊤, Some, []}
+use Rattle.std.specs.Prelude.{◌≡◌, ◌≢◌, ℕ, suc, ◌%◌, ◌^◌, ◌<◌, ◌⊎◌, ⊤, Some, []}
 use Rattle.trace.specs.Events.{Words, with_word}
 use Rattle.hash_word.specs.Hash.{home_of}
 use Rattle.segment_head.specs.HeadWord.{state_in, depth_in, pattern_in, normal, splitting, HasLiveState}
@@ -14,7 +14,7 @@ use Rattle.bucket_words.specs.TableChanges.{KeepsTable}
 use Rattle.frame_facts.specs.Facts.{Fact, Lives, Taken, HoldsFact}
 use Rattle.frame_facts.specs.Keeping.{KeepsFact, ClaimsNoneOfSide}
 use Rattle.frame_facts.specs.DeadSlots.{IsInSlot}
-use Rattle.world.specs.Ground.{Ground, version_of, IsStructured, IsLockWord, IsSpentLock, IsUnder}
+use Rattle.world.specs.Ground.{Ground, version_of, IsStructured, IsLockWord, IsSpentLock, IsUnder, spent_lock}
 use Rattle.world.specs.Views.{Move, Owed, View, Has, HasLock, IsLoose}
 use Rattle.world.specs.Conditions.{IsOwed, IsMoveOf, OwesNone, Agrees}
 use Rattle.world.specs.Holders.{KnowsWord}
@@ -132,7 +132,7 @@ module _ (site : Ground) where
     pub planned : v.planned ≡ []
     pub owed : v.owed ≡ []
     pub even : IsLockWord site.shape i → x % 2 ≡ 0
-    pub spent : (words : Words) → MayBeNewest v words → IsSpentLock site.shape words i → x ≡ 2 ^ 64 - 2
+    pub spent : (words : Words) → MayBeNewest v words → IsSpentLock site.shape words i → x ≡ spent_lock
     pub harmless : IsHarmlessStore v EndsNothing i x
 
   -- what a row asks beside: a segment that others may lock from then on is in order, and its locks are free
