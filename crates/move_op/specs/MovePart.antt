@@ -14,6 +14,7 @@ use Rattle.phase.specs.Stands.{IsLoading}
 use Rattle.phase.specs.Taking.{RemembersTake}
 use Rattle.phase.specs.Keeps.{KeepsAll, HoldsThirds, HasNoThird, WasLoaded, ChangedLocks, RemembersRoom}
 use Rattle.phase.specs.Third.{NothingToMove}
+use Rattle.phase.specs.Making.{most_waiting}
 use Rattle.move_op.specs.declared.step.MoveEnd.TheVariants.{NoMove}
 use Rattle.phase.specs.declared.make.Make.{Make as MakeStep}
 use Rattle.move_op.specs.declared.step.Shift.{Shift}
@@ -26,7 +27,7 @@ use Rattle.move_op.specs.declared.op.MoveOp.{MoveOp}
 use Rattle.move_op.specs.Shifts.{target_of}
 use Rattle.move_op.specs.Order.{IsInOrder}
 use Rattle.move_op.specs.Steps.{begun, wanted, taken, lock_of, is_without_move}
-use Rattle.move_op.specs.Left.{most_events, left_at, most_waiting, waiting_at, HasMadeAt}
+use Rattle.move_op.specs.Left.{most_events, left_at, waiting_at, HasMadeAt}
 use Rattle.move_op.specs.Fits.{kind_at, MayMakeRoom, MoveStands, outcome_at}
 
 -- ---- what it remembers of what its attempt did

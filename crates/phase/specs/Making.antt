@@ -161,6 +161,10 @@ waiting_of FenceRecord = 2
 waiting_of FencePublished = 1
 waiting_of make = 0
 
+-- at most so many of them
+abbrev pub most_waiting : ℕ
+most_waiting = 2
+
 -- ---- the one store that makes the record count was done
 abbrev pub IsPublished : Make → Type 0
 IsPublished FlushPublished = ⊤

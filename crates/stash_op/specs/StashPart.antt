@@ -20,6 +20,7 @@ use Rattle.phase.specs.Keeps.{KeepsAll, HoldsThirds, KeepsFull, ChangedLocks, Lo
 use Rattle.phase.specs.AreWords.{AreWords}
 use Rattle.phase.specs.Third.{NothingToMove}
 use Rattle.phase.specs.Makes.{brought}
+use Rattle.phase.specs.Making.{most_waiting}
 use Rattle.stash_op.specs.declared.step.StashBucket.{StashBucket}
 use Rattle.stash_op.specs.declared.step.StashBucket.TheVariants.{First, Second}
 use Rattle.stash_op.specs.declared.step.StashEnd.TheVariants.{NeedSplit}
@@ -29,7 +30,7 @@ use Rattle.stash_op.specs.declared.step.StashStep.TheVariants.{Lock, Fill, Count
 use Rattle.stash_op.specs.declared.op.StashOp.{StashOp}
 use Rattle.stash_op.specs.Search.{place_of}
 use Rattle.stash_op.specs.Steps.{lock_of, begun, wanted, taken, end_at, needs_split, kept_in, kept_of}
-use Rattle.stash_op.specs.Left.{most_events, left_at, most_waiting, waiting_at, HasMadeAt}
+use Rattle.stash_op.specs.Left.{most_events, left_at, waiting_at, HasMadeAt}
 use Rattle.stash_op.specs.Fits.{kind_at, StashStands, outcome_at}
 
 -- ---- what it remembers of what its attempt did

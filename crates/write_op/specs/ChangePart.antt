@@ -22,6 +22,7 @@ use Rattle.phase.specs.Stands.{IsLoading}
 use Rattle.phase.specs.Causes.{WasFound, RemembersWalk}
 use Rattle.phase.specs.Taking.{RemembersTake}
 use Rattle.phase.specs.Makes.{brought}
+use Rattle.phase.specs.Making.{most_waiting}
 use Rattle.write_op.specs.declared.step.Task.{Task}
 use Rattle.write_op.specs.declared.step.Seen.{Seen}
 use Rattle.write_op.specs.declared.step.WriteEnd.TheVariants.{NoSlot}
@@ -30,7 +31,7 @@ use Rattle.write_op.specs.declared.step.WriteStep.TheVariants.{Way, Lock, Check,
 use Rattle.write_op.specs.declared.op.WriteOp.{WriteOp}
 use Rattle.write_op.specs.Search.{visits}
 use Rattle.write_op.specs.Steps.{begun, wanted, taken, lock_of, is_without_slot, kept_in, kept_of}
-use Rattle.write_op.specs.Left.{most_events, left_at, most_waiting, waiting_at, HasMadeAt}
+use Rattle.write_op.specs.Left.{most_events, left_at, waiting_at, HasMadeAt}
 use Rattle.write_op.specs.Fits.{Upto, kind_of, ChangeStands, outcome_at}
 
 -- ---- which buckets are asked for

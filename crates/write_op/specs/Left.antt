@@ -52,9 +52,6 @@ left_at (Give held end) = give_left held
 left_at (Ended end) = 0
 
 -- ---- lines that are flushed and not fenced
-abbrev pub most_waiting : ℕ
-most_waiting = 2
-
 abbrev pub waiting_at : WriteStep → ℕ
 waiting_at (step.Make make) = waiting_of make
 waiting_at more = 0

@@ -21,7 +21,7 @@ use Rattle.phase.specs.declared.make.Made.TheVariants as made
 use Rattle.phase.specs.declared.held.Held.{Held}
 use Rattle.phase.specs.declared.kept.Kept.{Kept}
 use Rattle.phase.specs.Helds.{give_next, given}
-use Rattle.phase.specs.Making.{waiting_of}
+use Rattle.phase.specs.Making.{waiting_of, most_waiting}
 use Rattle.phase.proofs.Wanting.{no, HasFlush, HasFence, take_no_flush, give_no_flush, few_waiting, Cuts, take_on, give_on, plain_take, plain_give}
 use Rattle.phase.proofs.locks.Giving.{give_stands}
 use Rattle.phase.proofs.locks.Choosing.{by_step}
@@ -38,7 +38,7 @@ use Rattle.move_op.specs.declared.step.MoveStep.TheVariants.{Lock, Fill, CountSp
 use Rattle.move_op.specs.declared.step.MoveStep.TheVariants as step
 use Rattle.move_op.specs.Shifts.{target_of, record_of}
 use Rattle.move_op.specs.Steps.{end_of, giving, made_to, lock_of, wanted_in, next_in, is_without_move}
-use Rattle.move_op.specs.Left.{waiting_at, most_waiting, IsPublished, HasMadeAt}
+use Rattle.move_op.specs.Left.{waiting_at, IsPublished, HasMadeAt}
 use Rattle.move_op.specs.Fits.{kind_at, planned_at, SuitsStep, outcome_of, outcome_at}
 use Rattle.move_op.proofs.Over.{over_done}
 

@@ -19,7 +19,7 @@ use Rattle.phase.specs.declared.make.Made.TheVariants as made
 use Rattle.phase.specs.declared.held.Held.{Held}
 use Rattle.phase.specs.declared.kept.Kept.{Kept}
 use Rattle.phase.specs.Helds.{give_next, given}
-use Rattle.phase.specs.Making.{waiting_of, IsPublished}
+use Rattle.phase.specs.Making.{waiting_of, most_waiting, IsPublished}
 use Rattle.phase.proofs.locks.Giving.{give_stands}
 use Rattle.phase.proofs.Handing.{done_is, done_then}
 use Rattle.phase.proofs.Wanting.{few_waiting, no, HasFlush, HasFence, take_no_flush, give_no_flush, IsPlain, plain_take, plain_give}
@@ -38,7 +38,7 @@ use Rattle.stash_op.specs.declared.step.StashStep.TheVariants as step
 use Rattle.stash_op.specs.declared.step.Stage.{Stage}
 use Rattle.stash_op.specs.Search.{place_of, note_place, noted, has_finger}
 use Rattle.stash_op.specs.Steps.{go, end_of, giving, made_to, lock_of, note_wanted, wanted_in, next_in, needs_split}
-use Rattle.stash_op.specs.Left.{waiting_at, most_waiting, HasMadeAt}
+use Rattle.stash_op.specs.Left.{waiting_at, HasMadeAt}
 use Rattle.stash_op.specs.Fits.{mark_kind, note_kind, kind_at, SuitsStep, outcome_of, outcome_at}
 use Rattle.stash_op.proofs.Over.{over_done}
 

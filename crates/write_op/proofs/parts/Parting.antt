@@ -31,7 +31,7 @@ use Rattle.phase.specs.declared.held.Held.{Held}
 use Rattle.phase.specs.Helds.{give_next, given}
 use Rattle.phase.specs.Walks.{walk_wanted}
 use Rattle.phase.specs.Stands.{walk_kind, back_kind}
-use Rattle.phase.specs.Making.{waiting_of, IsPublished}
+use Rattle.phase.specs.Making.{waiting_of, most_waiting, IsPublished}
 use Rattle.phase.proofs.Wanting.{no, HasFlush, HasFence, take_no_flush, give_no_flush, few_waiting, IsPlain, plain_take, plain_give}
 use Rattle.phase.proofs.locks.Giving.{give_stands}
 use Rattle.phase.proofs.Handing.{done_is, done_then}
@@ -52,7 +52,7 @@ use Rattle.write_op.specs.declared.step.WriteStep.TheVariants as step
 use Rattle.write_op.specs.declared.step.Stage.{Stage}
 use Rattle.write_op.specs.Search.{found, leaves_note, unnoted, has_finger}
 use Rattle.write_op.specs.Steps.{go, end_of, giving, answered, made_to, lock_of, note_wanted, wanted_in, next_in, is_without_slot}
-use Rattle.write_op.specs.Left.{waiting_at, most_waiting, HasMadeAt}
+use Rattle.write_op.specs.Left.{waiting_at, HasMadeAt}
 use Rattle.write_op.specs.Fits.{inserting_kind, changing_kind, deciding_kind, mark_kind, note_kind, kind_at, SuitsStep, outcome_of, outcome_at}
 use Rattle.write_op.proofs.Over.{over_done}
 
