@@ -1,5 +1,6 @@
 -- Where the parts of an image stand, by word number. An image is a list of 64-bit words.
 use Rattle.std.specs.Prelude.{ℕ, ◌+◌, ◌-◌, ◌*◌, ◌/◌, ◌^◌, ◌≤◌}
+use Rattle.bucket_meta.specs.Bucket.{record_slots}
 
 -- how many slots for segments an image may have at most, and how deep its directory may be
 abbrev pub most_segments : ℕ
@@ -22,6 +23,10 @@ stash_buckets = 2
 -- how many buckets a segment has
 abbrev pub buckets : ℕ
 buckets = homes + stash_buckets
+
+-- in how many record slots a key may stand: those of its home and its probing bucket, and of the stash buckets
+abbrev pub slots_of_key : ℕ
+slots_of_key = (2 + stash_buckets) * record_slots
 
 -- how many words a segment has: a header and its buckets
 abbrev pub segment_words : ℕ

@@ -1,5 +1,5 @@
 -- What a session is: a script run from one image to another, with what it prints.
-use Rattle.std.specs.Prelude.{◌≡◌, ◌≢◌, ℕ, ◌-◌, ◌*◌, ◌^◌, ◌<◌, ⊤, Bool, true, false, List, length, map, slice_index, IsSome, Contains}
+use Rattle.std.specs.Prelude.{◌≡◌, ◌≢◌, ℕ, ◌-◌, ◌^◌, ◌<◌, ⊤, Bool, true, false, List, length, map, slice_index, IsSome, Contains}
 use Rattle.std.specs.List.{AllByRecursion, AllZip}
 use Rattle.std.specs.List.Sorted.{IsStrictlyIncreasing}
 use Rattle.std.specs.FinMap.{get}
@@ -11,9 +11,9 @@ use Rattle.map_model.specs.Weave.{all_of, draws, spent_count, weave}
 use Rattle.map_model.specs.Legal.{IsLegal, replay}
 use Rattle.map_model.specs.ByPlaces.{map_at}
 use Rattle.hash_word.specs.Hash.{top}
-use Rattle.sound_image.specs.Bucket.{version_of, record_slots}
+use Rattle.sound_image.specs.Bucket.{version_of}
 use Rattle.sound_image.specs.HeadWord.{free}
-use Rattle.sound_image.specs.Places.{Shape, bucket_at, buckets}
+use Rattle.sound_image.specs.Places.{Shape, bucket_at, buckets, slots_of_key}
 use Rattle.sound_image.specs.Segments.{frame_of, IsClean, IsLive, state_at}
 use Rattle.sound_image.specs.Records.{key_hash}
 use Rattle.sound_image.specs.Image.{IsSoundImage}
@@ -34,16 +34,12 @@ pub record HasAtLeast (n : ℕ) (Passes : ℕ → Type 0) (m : Map) : Type 0 whe
   pub in_map : AllByRecursion (λ k. IsSome (get m k)) keys
   pub pass : AllByRecursion Passes keys
 
--- how many pairs there are at the least where a call finds no room: those of its home and its probing bucket, and of both stash buckets
-abbrev pub least_full : ℕ
-least_full = 4 * record_slots
-
 -- Full stands where the map has at least so many pairs; Deep where it has so many whose hashes have the same top
 -- bits as the call's, so many bits as the image's greatest depth
 pub record HadNoRoom (shape : Shape) (m : Map) (e : Entry) : Type 0 where
-  pub full : e.reply ≡ Full → HasAtLeast least_full (λ k. ⊤) m
+  pub full : e.reply ≡ Full → HasAtLeast slots_of_key (λ k. ⊤) m
   pub deep : e.reply ≡ Deep
-      → HasAtLeast least_full (λ k. top shape.depth (key_hash shape k) ≡ top shape.depth (key_hash shape (key_of e.call))) m
+      → HasAtLeast slots_of_key (λ k. top shape.depth (key_hash shape k) ≡ top shape.depth (key_hash shape (key_of e.call))) m
 
 -- some bucket of a live segment has the last version
 pub record HasSpentBucket (shape : Shape) (words : List ℕ) : Type 0 where

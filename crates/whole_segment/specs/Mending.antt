@@ -2,10 +2,10 @@
 use Rattle.std.specs.Prelude.{◌≡◌, ℕ, ◌<◌, ◌⊎◌, Bool, not, ◌==◌, ◌&&◌, ◌||◌}
 use Rattle.hash_word.specs.Hash.{Covers, top}
 use Rattle.bucket_meta.specs.Bucket.{allocated}
-use Rattle.image_layout.specs.Places.{buckets}
+use Rattle.image_layout.specs.Places.{buckets, slots_of_key}
 use Rattle.whole_segment.specs.Slots.{IsSetOf, set_of, cleared_mark}
 use Rattle.whole_segment.specs.Records.{Stands}
-use Rattle.whole_segment.specs.Order.{StandsBefore, stands_before, own_position, positions}
+use Rattle.whole_segment.specs.Order.{StandsBefore, stands_before, own_position}
 
 module _ (first : ℕ → ℕ) (key : ℕ → ℕ → ℕ) (hash : ℕ → ℕ) (depth pattern : ℕ) where
   -- slot r of bucket b is to be cleared: its record is of another segment, or its key stands before
@@ -22,7 +22,7 @@ module _ (first : ℕ → ℕ) (key : ℕ → ℕ → ℕ) (hash : ℕ → ℕ) 
 
   -- each record of the segment stands in a bucket where its key is looked for
   abbrev pub IsLookedFor : Type 0
-  IsLookedFor = (b r k : ℕ) → Stands first key b r k → Covers depth pattern (hash k) → own_position key hash b r < positions
+  IsLookedFor = (b r k : ℕ) → Stands first key b r k → Covers depth pattern (hash k) → own_position key hash b r < slots_of_key
 
   -- each bucket's spoiled slots, as sets
   abbrev pub AreSpoiled : (ℕ → ℕ) → Type 0

@@ -1,13 +1,9 @@
 -- The order in which a key is looked for in a segment: its home, its probing bucket, and the two stash buckets, slots ascending. So
--- there are 56 positions, of 14 slots each.
+-- there are as many positions as slots in which a key may stand.
 use Rattle.std.specs.Prelude.{◌≡◌, ℕ, zero, suc, ◌+◌, ◌*◌, ◌%◌, ◌<◌, nat_lt, Bool, false, ◌==◌, ◌&&◌, ◌||◌, if◌then◌else◌}
 use Rattle.hash_word.specs.Hash.{probing_of, home_of}
 use Rattle.bucket_meta.specs.Bucket.{allocated, record_slots}
-use Rattle.image_layout.specs.Places.{homes}
-
--- how many positions there are
-abbrev pub positions : ℕ
-positions = 4 * record_slots
+use Rattle.image_layout.specs.Places.{homes, slots_of_key}
 
 -- the bucket of a position, for a key of this home
 abbrev pub bucket_at : ℕ → ℕ → ℕ
@@ -20,7 +16,7 @@ slot_at p = p % record_slots
 -- the position of slot r of bucket b, which is behind all others where no key of this home is looked for
 abbrev pub position_of : ℕ → ℕ → ℕ → ℕ
 position_of home b r =
-    if b == home then r else if b == probing_of home then record_slots + r else if b == homes then 2 * record_slots + r else if b == homes + 1 then 3 * record_slots + r else positions
+    if b == home then r else if b == probing_of home then record_slots + r else if b == homes then 2 * record_slots + r else if b == homes + 1 then 3 * record_slots + r else slots_of_key
 
 module _ (key : ℕ → ℕ → ℕ) (hash : ℕ → ℕ) where
   -- where the key in slot r of bucket b is at home

@@ -2,9 +2,9 @@
 
 ghost use Rattle.std.specs.Prelude.{◌≡◌, ℕ, ◌≤◌, ◌<◌, ◌+◌, ◌↔◌, IsTrue};
 ghost use Rattle.bucket_meta.specs.Bucket.{record_slots};
-ghost use Rattle.image_layout.specs.Places.{homes, buckets};
+ghost use Rattle.image_layout.specs.Places.{homes, buckets, slots_of_key};
 ghost use Rattle.sound_image.specs.Records.{key_hash};
-ghost use Rattle.whole_segment.specs.Order.{bucket_at, position_of, positions};
+ghost use Rattle.whole_segment.specs.Order.{bucket_at, position_of};
 
 use crate::Loaded;
 use crate::marks::cleared_mark;
@@ -19,7 +19,7 @@ const POSITIONS: u8 = 4 * SLOTS;
 /// The bucket of a position, for a key of this home.
 fn bucket_at(home: u8, position: u8) -> u8
     requires home { home < homes }
-    requires position { position < positions }
+    requires position { position < slots_of_key }
     ensures is { result ≡ bucket_at home position }
     ensures bucket { result < buckets }
 {
@@ -39,7 +39,7 @@ fn position_of(home: u8, bucket: u8, slot: u8) -> u8
     requires home { home < homes }
     requires slot { slot < record_slots }
     ensures is { result ≡ position_of home bucket slot }
-    ensures most { result ≤ positions }
+    ensures most { result ≤ slots_of_key }
 {
     if bucket == home {
         slot
@@ -63,7 +63,7 @@ impl Loaded {
     /// Whether a record of this key stands at a position of this home.
     fn is_at(&self, home: u8, key: u64, position: u8) -> bool
         requires home { home < homes }
-        requires position { position < positions }
+        requires position { position < slots_of_key }
         ensures { IsTrue result ↔ IsAt (first_in self.now) (key_in self.now) home key position }
     {
         let bucket = bucket_at(home, position);

@@ -5,7 +5,7 @@ use Rattle.bucket_meta.specs.Bucket.{allocated, record_slots}
 use Rattle.hash_word.specs.Hash.{top, home_of, probing_of}
 use Rattle.segment_head.specs.HeadWord.{depth_in, pattern_in}
 use Rattle.trace.specs.Events.{Words}
-use Rattle.image_layout.specs.Places.{bucket_at, buckets, homes}
+use Rattle.image_layout.specs.Places.{bucket_at, buckets, homes, slots_of_key}
 use Rattle.sound_image.specs.Segments.{frame_of}
 use Rattle.sound_image.specs.Records.{key_hash}
 use Rattle.segment_table.proofs.frames.Owner.{found_owns}
@@ -14,7 +14,6 @@ use Rattle.way.proofs.Leading.{leading_is}
 use Rattle.bucket_words.specs.Buckets.{IsTaken, key_in}
 use Rattle.bucket_words.specs.Hits.{Hit}
 use Rattle.bucket_words.specs.Owners.{owner_of}
-use Rattle.session.specs.Session.{least_full}
 use Rattle.map_model.specs.declared.call.Call.{Call}
 use Rattle.map_model.specs.declared.entry.Reply.TheVariants.{Full, Deep}
 use Rattle.map_model.specs.Map.{key_of}
@@ -138,7 +137,7 @@ module _ (site : Ground) (e : Enclosed) (v : View) (crowd : IsCrowd site e v) wh
         let owns = found_owns (frame_of site.shape words) (key_hash site.shape (key_at a r)) e.segment (owned a r low) in
         subst (λ h1. top (depth_in h1) (key_hash site.shape (key_at a r)) ≡ pattern_in h1) (new.knows (header_word site.shape e.segment) e.head crowd.header) owns.own.covers
 
-    differ : (r t : ℕ) → r < least_full → t < least_full → key r ≡ key t → r ≡ t
+    differ : (r t : ℕ) → r < slots_of_key → t < slots_of_key → key r ≡ key t → r ≡ t
     differ r t r_low t_low same =
         let both = is.differ e.segment (number (r / 14)) (r % 14) (number (t / 14)) (t % 14) (key t) (lock (r / 14)) crowd.moving
         (hit (r / 14) (r % 14) (key t) (omega arith) same) (hit (t / 14) (t % 14) (key t) (omega arith) refl) in

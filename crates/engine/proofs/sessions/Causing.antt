@@ -8,7 +8,8 @@ use Rattle.map_model.specs.declared.entry.Entry.{Entry}
 use Rattle.map_model.specs.Map.{Map}
 use Rattle.map_model.specs.Weave.{draws}
 use Rattle.map_model.specs.ByPlaces.{map_at}
-use Rattle.session.specs.Session.{HasAtLeast, HadNoRoom, least_full}
+use Rattle.image_layout.specs.Places.{slots_of_key}
+use Rattle.session.specs.Session.{HasAtLeast, HadNoRoom}
 use Rattle.world.specs.Ground.{Ground}
 use Rattle.world.specs.Views.{View, Has, At}
 use Rattle.world.specs.History.{Log, map_when, HasFullKeys, HasRoomCause, IsRight}
@@ -26,13 +27,13 @@ module _ (site : Ground) (words : Words) (views : List View) (log : Log) (h : Hi
     abbrev there : Map
     there = map_at opening (all_own views) place
 
-    in_map : (r : ℕ) → r < least_full → IsSome (get there (f.key r))
+    in_map : (r : ℕ) → r < slots_of_key → IsSome (get there (f.key r))
     in_map r low = ap is_some (map_is site words views log h opening same place within (f.key r)) ∙ f.there r low
 
-    many : Different least_full (λ k. IsSome (get there k) × Passes k)
-    many = different_values f.key least_full (λ k. IsSome (get there k) × Passes k) (λ r t r_low t_low e. f.differ r t r_low t_low e) (λ r low. (in_map r low, f.pass r low))
+    many : Different slots_of_key (λ k. IsSome (get there k) × Passes k)
+    many = different_values f.key slots_of_key (λ k. IsSome (get there k) × Passes k) (λ r t r_low t_low e. f.differ r t r_low t_low e) (λ r low. (in_map r low, f.pass r low))
 
-    at_least : HasAtLeast least_full Passes there
+    at_least : HasAtLeast slots_of_key Passes there
     at_least = record {
       keys = many.numbers;
       count = many.count;

@@ -7,10 +7,10 @@ use Rattle.trace.specs.Events.{Words}
 use Rattle.hash_word.specs.Hash.{Covers, home_of, probing_of}
 use Rattle.bucket_meta.specs.Bucket.{allocated}
 use Rattle.segment_head.specs.HeadWord.{state_in, depth_in, pattern_in, free, normal, splitting}
-use Rattle.image_layout.specs.Places.{bucket_at, homes, buckets, block, words_of_buckets}
+use Rattle.image_layout.specs.Places.{bucket_at, homes, buckets, block, words_of_buckets, slots_of_key}
 use Rattle.sound_image.specs.Segments.{frame_of}
 use Rattle.sound_image.specs.Records.{key_hash}
-use Rattle.whole_segment.specs.Order.{position_of, positions}
+use Rattle.whole_segment.specs.Order.{position_of}
 use Rattle.whole_segment.specs.Records.{Stands}
 use Rattle.bucket_words.specs.Hits.{Hit}
 use Rattle.bucket_words.specs.Owners.{owner_of}
@@ -33,9 +33,9 @@ pub record IsInRange (head : ℕ) : Type 0 where
 
 -- ---- positions
 abbrev position_by : ℕ → (home probing first second : Bool) → ℕ
-position_by r home probing first second = if home then r else if probing then 14 + r else if first then 28 + r else if second then 42 + r else positions
+position_by r home probing first second = if home then r else if probing then 14 + r else if first then 28 + r else if second then 42 + r else slots_of_key
 
-position_low : (r : ℕ) (home probing first second : Bool) → r < 14 → (home ≡ true) ⊎ ((probing ≡ true) ⊎ ((first ≡ true) ⊎ (second ≡ true))) → position_by r home probing first second < positions
+position_low : (r : ℕ) (home probing first second : Bool) → r < 14 → (home ≡ true) ⊎ ((probing ≡ true) ⊎ ((first ≡ true) ⊎ (second ≡ true))) → position_by r home probing first second < slots_of_key
 position_low r true probing first second low some = omega (arith, low)
 position_low r false true first second low some = omega (arith, low)
 position_low r false false true second low some = omega (arith, low)
@@ -49,7 +49,7 @@ position_low r false false false false low some = absurd (elim some [
 ])
 
 -- a record that stands in a bucket where a key of this home may stand has a position
-near_position : (home b r : ℕ) → r < 14 → b < buckets → (b ≡ home) ⊎ ((b ≡ probing_of home) ⊎ (homes ≤ b)) → position_of home b r < positions
+near_position : (home b r : ℕ) → r < 14 → b < buckets → (b ≡ home) ⊎ ((b ≡ probing_of home) ⊎ (homes ≤ b)) → position_of home b r < slots_of_key
 near_position home b r low near some = position_low r (b == home) (b == probing_of home) (b == homes) (b == homes + 1) low (elim some [
   | inl own ↦ inl (eq-eqb b home own)
   | inr more ↦ elim more [
@@ -119,8 +119,8 @@ module _ (site : Ground) (ground : IsGround site) (guarded : Guarded) (old : IsO
       buckets_are : (bit : ℕ) → StandsAt site.shape b k bit → (b ≡ home_of (key_hash site.shape k)) ⊎ ((b ≡ probing_of (home_of (key_hash site.shape k))) ⊎ (homes ≤ b))
       buckets_are bit some = elim some [ inl own ↦ inl own.0 | inr more ↦ elim more [ inl probing ↦ inr (inl probing.0) | inr stash ↦ inr (inr stash) ] ]
 
-      positioned : position_of (home_of (key_hash site.shape (key_of kept b r))) b r < positions
-      positioned = subst (λ z. position_of (home_of (key_hash site.shape z)) b r < positions) (sym stands.has_key)
+      positioned : position_of (home_of (key_hash site.shape (key_of kept b r))) b r < slots_of_key
+      positioned = subst (λ z. position_of (home_of (key_hash site.shape z)) b r < slots_of_key) (sym stands.has_key)
           (near_position (home_of (key_hash site.shape k)) b r stands.slot stands.bucket (buckets_are _ (new.table.stands s b r k hit owned).bucket))
 
     pub looked_for : AreLookedFor site guarded kept
