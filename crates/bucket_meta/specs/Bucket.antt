@@ -1,5 +1,5 @@
 -- The fields of a bucket's words. Word 0 is the lock word and words 1 to 3 are the metadata, here w0 to w3; record slot s has its key in word 4 + 2s and its value in word 5 + 2s. Bits are counted from 0, the lowest.
-use Rattle.std.specs.Prelude.{ℕ, ◌+◌, ◌-◌, ◌*◌, ◌/◌, nat_lt, if◌then◌else◌}
+use Rattle.std.specs.Prelude.{ℕ, ◌+◌, ◌-◌, ◌*◌, ◌/◌, ◌%◌, ◌^◌, nat_lt, if◌then◌else◌}
 use Rattle.word_bits.specs.Bits.{bits, bit}
 
 -- how many record slots a bucket has
@@ -49,3 +49,14 @@ note_finger i w1 w3 = if nat_lt i 2 then bits (48 + 8 * i) 8 w3 else bits (45 + 
 -- how many records of this bucket stand in the stash without a note
 abbrev pub overflow_count : ℕ → ℕ
 overflow_count w1 = bits 40 5 w1
+
+-- what w1 says of the record slots: which have a record, and which of these stand in their probing bucket
+abbrev pub slots_part : ℕ → ℕ
+slots_part w1 = w1 % 2 ^ 28
+
+-- what w3 says of them, the fingerprints of slots 8 to 13; and the fingerprints of two notes that stand above these
+abbrev pub slot_fingers_part : ℕ → ℕ
+slot_fingers_part w3 = w3 % 2 ^ 48
+
+abbrev pub note_fingers_part : ℕ → ℕ
+note_fingers_part w3 = w3 / 2 ^ 48 % 2 ^ 16

@@ -2,7 +2,7 @@
 use Rattle.std.specs.Prelude.{◌≡◌, ◌≢◌, ℕ, ◌+◌, ◌-◌, ◌*◌, ◌%◌, ◌^◌, ◌<◌, ◌==◌, Bool, not, Option, None, Some, bit_and, bit_or, if◌then◌else◌}
 use Rattle.std.specs.Int.{bit_not, w64}
 use Rattle.word_bits.specs.Bits.{mask}
-use Rattle.bucket_meta.specs.Bucket.{note_used, note_member, note_index, note_finger, overflow_count, note_slots}
+use Rattle.bucket_meta.specs.Bucket.{note_used, note_member, note_index, note_finger, overflow_count, note_slots, slots_part, slot_fingers_part}
 use Rattle.bucket_meta.specs.Marks.{with_finger}
 use Rattle.bucket_meta.specs.Visits.{is_note}
 
@@ -40,8 +40,8 @@ pub record FreesPlace (w1 w3 x1 x3 i : ℕ) : Type 0 where
   pub indexes : (j : ℕ) → j < note_slots → j ≢ i → note_index j x1 ≡ note_index j w1
   pub fingers : (j : ℕ) → j < note_slots → j ≢ i → note_finger j x1 x3 ≡ note_finger j w1 w3
   pub count : overflow_count x1 ≡ overflow_count w1
-  pub slots : x1 % 2 ^ 28 ≡ w1 % 2 ^ 28
-  pub records : x3 % 2 ^ 48 ≡ w3 % 2 ^ 48
+  pub slots : slots_part x1 ≡ slots_part w1
+  pub records : slot_fingers_part x3 ≡ slot_fingers_part w3
 
 -- ---- a note that is put in
 -- no note stands on note slot i
@@ -87,8 +87,8 @@ pub record KeepsOtherPlaces (w1 w3 x1 x3 i : ℕ) : Type 0 where
   pub indexes : (j : ℕ) → j < note_slots → j ≢ i → note_index j x1 ≡ note_index j w1
   pub fingers : (j : ℕ) → j < note_slots → j ≢ i → note_finger j x1 x3 ≡ note_finger j w1 w3
   pub count : overflow_count x1 ≡ overflow_count w1
-  pub slots : x1 % 2 ^ 28 ≡ w1 % 2 ^ 28
-  pub records : x3 % 2 ^ 48 ≡ w3 % 2 ^ 48
+  pub slots : slots_part x1 ≡ slots_part w1
+  pub records : slot_fingers_part x3 ≡ slot_fingers_part w3
 
 -- they have note slot i used for a note of this side and stash bucket, and say of the others what w1 and w3 say
 pub record FillsPlace (w1 w3 x1 x3 i side index : ℕ) : Type 0 where
@@ -96,3 +96,18 @@ pub record FillsPlace (w1 w3 x1 x3 i side index : ℕ) : Type 0 where
   pub on_side : note_member i x1 ≡ side
   pub of_index : note_index i x1 ≡ index
   pub others : KeepsOtherPlaces w1 w3 x1 x3 i
+
+-- ---- words 1 and 3 that are made anew
+-- four bits as a number, the lowest first
+abbrev pub four : (ℕ → ℕ) → ℕ
+four bit_of = bit_of 0 + 2 * bit_of 1 + 4 * bit_of 2 + 8 * bit_of 3
+
+-- the metadata word that says of the record slots what w1 says, and has of each note slot whether it is used, for which side and for which stash
+-- bucket, the count, and the fingerprints of note slots 2 and 3
+abbrev pub first_made : ℕ → (used side index : ℕ → ℕ) → (count third fourth : ℕ) → ℕ
+first_made w1 used side index count third fourth =
+    slots_part w1 + 2 ^ 28 * four used + 2 ^ 32 * four side + 2 ^ 36 * four index + 2 ^ 40 * count + 2 ^ 45 * third + 2 ^ 53 * fourth
+
+-- word 3 that says of the record slots what w3 says, and has the fingerprints of note slots 0 and 1
+abbrev pub third_made : ℕ → (first second : ℕ) → ℕ
+third_made w3 first second = slot_fingers_part w3 + 2 ^ 48 * first + 2 ^ 56 * second

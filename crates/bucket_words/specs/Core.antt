@@ -1,15 +1,16 @@
 -- The core of a word: what of it a rule or a pair depends on between a restart and a close. Of a lock word that is
 -- nothing, and of a bucket's metadata all but the overflow parts.
-use Rattle.std.specs.Prelude.{◌≡◌, ℕ, zero, suc, ◌+◌, ◌-◌, ◌/◌, ◌%◌, ◌^◌, ◌<◌, ◌≤◌, nat_lt, ◌==◌, ◌||◌, if◌then◌else◌}
+use Rattle.std.specs.Prelude.{◌≡◌, ℕ, zero, suc, ◌+◌, ◌-◌, ◌/◌, ◌%◌, ◌<◌, ◌≤◌, nat_lt, ◌==◌, ◌||◌, if◌then◌else◌}
 use Rattle.trace.specs.Events.{Words}
+use Rattle.bucket_meta.specs.Bucket.{slots_part, slot_fingers_part}
 use Rattle.image_layout.specs.Places.{Shape, first_segment, words_of, bucket_at, block, buckets}
 
 -- of word n of a bucket
 abbrev pub core_in_bucket : ℕ → ℕ → ℕ
 core_in_bucket zero x = 0
-core_in_bucket (suc zero) x = x % 2 ^ 28
+core_in_bucket (suc zero) x = slots_part x
 core_in_bucket (suc (suc zero)) x = x
-core_in_bucket (suc (suc (suc zero))) x = x % 2 ^ 48
+core_in_bucket (suc (suc (suc zero))) x = slot_fingers_part x
 core_in_bucket (suc (suc (suc (suc n)))) x = x
 
 module _ (shape : Shape) where

@@ -1,8 +1,8 @@
 -- The records in the stash of a segment, and exact overflow data of its homes, by words 1 and 3 of each bucket.
-use Rattle.std.specs.Prelude.{◌≡◌, ℕ, ◌+◌, ◌%◌, ◌^◌, ◌==◌, ◌&&◌, List, [], ◌∷◌, ◌++◌, if◌then◌else◌}
+use Rattle.std.specs.Prelude.{◌≡◌, ℕ, ◌+◌, ◌==◌, ◌&&◌, List, [], ◌∷◌, ◌++◌, if◌then◌else◌}
 use Rattle.std.specs.List.{flat_map}
 use Rattle.hash_word.specs.Hash.{home_of, finger_of, probing_of}
-use Rattle.bucket_meta.specs.Bucket.{allocated, overflow_count, record_slots}
+use Rattle.bucket_meta.specs.Bucket.{allocated, overflow_count, record_slots, slots_part, slot_fingers_part}
 use Rattle.bucket_meta.specs.Notes.{OverflowNote, numbers_below, AreExact, notes_by}
 use Rattle.image_layout.specs.Places.{homes}
 use Rattle.stash.specs.Segment.{Stashed}
@@ -38,5 +38,5 @@ HasExactNotes first third b stashed = AreExact (notes_by (first b) (third b) 0 +
 
 -- words 1 and 3 of a bucket say of its record slots what they said
 pub record KeepsRecords (w1 w3 x1 x3 : ℕ) : Type 0 where
-  pub slots : x1 % 2 ^ 28 ≡ w1 % 2 ^ 28
-  pub fingers : x3 % 2 ^ 48 ≡ w3 % 2 ^ 48
+  pub slots : slots_part x1 ≡ slots_part w1
+  pub fingers : slot_fingers_part x3 ≡ slot_fingers_part w3

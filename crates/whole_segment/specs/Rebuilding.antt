@@ -1,7 +1,8 @@
 -- What rebuilt overflow notes are, as a value: records of the stash are noted one after the other, each in the lowest unused note slot of
 -- its home, else of its probing bucket, else in the count of its home; and words 1 and 3 of a bucket are made of that.
-use Rattle.std.specs.Prelude.{ℕ, ◌+◌, ◌*◌, ◌%◌, ◌^◌, ◌==◌, Option, None, Some, List, [], ◌∷◌, if◌then◌else◌}
+use Rattle.std.specs.Prelude.{ℕ, ◌+◌, ◌==◌, Option, None, Some, List, [], ◌∷◌, if◌then◌else◌}
 use Rattle.hash_word.specs.Hash.{probing_of}
+use Rattle.bucket_meta.specs.NoteWords.{first_made, third_made}
 use Rattle.stash.specs.NoteSlots.{NoteSlot, filled_note_slot, freed_note_slot}
 use Rattle.stash.specs.Segment.{Stashed}
 use Rattle.whole_segment.specs.Notes.{stash_entries}
@@ -50,16 +51,12 @@ all_noted [] all = all
 all_noted (entry ∷ entries) all = all_noted entries (noted all entry)
 
 -- ---- words 1 and 3 of a bucket that say so, and of the record slots what others say
-abbrev pub four : (ℕ → ℕ) → ℕ
-four bit_of = bit_of 0 + 2 * bit_of 1 + 4 * bit_of 2 + 8 * bit_of 3
-
 abbrev pub first_with : ℕ → Overflow → ℕ
 first_with w1 o =
-    w1 % 2 ^ 28 + 2 ^ 28 * four (λ i. (o.slots i).used) + 2 ^ 32 * four (λ i. (o.slots i).side) + 2 ^ 36 * four (λ i. (o.slots i).index)
-    + 2 ^ 40 * o.count + 2 ^ 45 * (o.slots 2).finger + 2 ^ 53 * (o.slots 3).finger
+    first_made w1 (λ i. (o.slots i).used) (λ i. (o.slots i).side) (λ i. (o.slots i).index) o.count (o.slots 2).finger (o.slots 3).finger
 
 abbrev pub third_with : ℕ → Overflow → ℕ
-third_with w3 o = w3 % 2 ^ 48 + 2 ^ 48 * (o.slots 0).finger + 2 ^ 56 * (o.slots 1).finger
+third_with w3 o = third_made w3 (o.slots 0).finger (o.slots 1).finger
 
 -- THE REBUILT NOTES of a segment
 abbrev pub rebuilt : (first : ℕ → ℕ) (key : ℕ → ℕ → ℕ) (hash : ℕ → ℕ) → ℕ → Overflow

@@ -1,6 +1,6 @@
 -- What the holder of locks has to know of buckets to make a store there, said over the words that it knows.
-use Rattle.std.specs.Prelude.{◌≡◌, ◌≢◌, ◌≤◌, ℕ, ◌+◌, ◌*◌, ◌/◌, ◌%◌, ◌^◌, ◌<◌, ◌⊎◌, [], true, false, None, Some, List}
-use Rattle.bucket_meta.specs.Bucket.{allocated, member, overflow_count, record_slots}
+use Rattle.std.specs.Prelude.{◌≡◌, ◌≢◌, ◌≤◌, ℕ, ◌+◌, ◌*◌, ◌<◌, ◌⊎◌, [], true, false, None, Some, List}
+use Rattle.bucket_meta.specs.Bucket.{allocated, member, overflow_count, record_slots, note_fingers_part}
 use Rattle.bucket_meta.specs.Notes.{AreExact}
 use Rattle.bucket_words.specs.Core.{core_of}
 use Rattle.hash_word.specs.Hash.{home_of, probing_of, finger_of}
@@ -45,7 +45,7 @@ pub record SparesTaken (word : Words) (at m x : ℕ) : Type 0 where
   pub keys : (t : ℕ) → t < record_slots → IsTaken word at t → 4 + 2 * t ≢ m
   pub values : (t : ℕ) → t < record_slots → IsTaken word at t → 5 + 2 * t ≢ m
   pub fingers : (t : ℕ) → t < record_slots → IsTaken word at t → finger_in (with_word word (at + m) x) at t ≡ finger_in word at t
-  pub overflow : m ≡ 3 → x / 2 ^ 48 % 2 ^ 16 ≡ word (at + 3) / 2 ^ 48 % 2 ^ 16
+  pub overflow : m ≡ 3 → note_fingers_part x ≡ note_fingers_part (word (at + 3))
 
 -- the stores that change no pair: to the key, the value and the fingerprint of a free slot. The words of the slot itself may be
 -- loose: it is enough that the words of metadata are not

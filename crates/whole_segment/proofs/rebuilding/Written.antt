@@ -15,7 +15,8 @@ use Rattle.stash.proofs.Counts.{same_pieces}
 use Rattle.stash.proofs.Pieces.{piece}
 use Rattle.stash.proofs.Buckets.{of_home_at_most}
 use Rattle.whole_segment.specs.Notes.{entry_of, entries_below, stash_entries, stashed_of, HasExactNotes, KeepsRecords}
-use Rattle.whole_segment.specs.Rebuilding.{Overflow, no_overflow, four, first_with, third_with, rebuilt}
+use Rattle.bucket_meta.specs.NoteWords.{four}
+use Rattle.whole_segment.specs.Rebuilding.{Overflow, no_overflow, first_with, third_with, rebuilt}
 use Rattle.whole_segment.proofs.StashLists.{entries_of_home}
 use Rattle.whole_segment.proofs.rebuilding.Noting.{said, IsExactAt, IsInRange, IsEntry, all_exact, all_in_range, none_exact, none_in_range}
 
