@@ -4,7 +4,7 @@ ghost use Rattle.std.specs.Prelude.{◌≡◌, length, IfOk};
 
 use image_file::format;
 use image_layout::Geometry;
-use map_model::{Call, Entry, Lists, NoMemory, Reply};
+use map_model::{Call, Entry, Lists, MOST_CALLERS, NoMemory, Reply};
 use reply_text::Session;
 use std::alloc::{AllocError, Global};
 
@@ -79,7 +79,7 @@ pub(crate) fn session_of(alloc: Global, lines: u32, longest: bool) -> Result<Ses
     let medium = format(alloc, geometry)?;
     Ok(Session {
         lists: lists_of(alloc, lines, longest)?,
-        stops: [None; 64],
+        stops: [None; MOST_CALLERS as usize],
         medium,
         cut: false,
     })

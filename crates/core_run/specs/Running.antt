@@ -9,6 +9,7 @@ use Rattle.image_layout.specs.Places.{Shape, state_word, words_of}
 use Rattle.image_layout.specs.Volatile.{all_words_of}
 use Rattle.map_model.specs.declared.call.Call.{Call}
 use Rattle.map_model.specs.declared.entry.Entry.{Entry}
+use Rattle.map_model.specs.Weave.{most_callers}
 use Rattle.world.specs.Ground.{Ground}
 use Rattle.world.specs.Wants.{word_of}
 use Rattle.restart_op.specs.declared.restart.RestartOp.{RestartOp}
@@ -35,7 +36,7 @@ pub record Setup : Type 0 where
 
 pub record IsSetup (t : Setup) : Type 0 where
   pub served : IsServedImage t.shape t.first
-  pub few : length t.scripts ≤ 64
+  pub few : length t.scripts ≤ most_callers
   pub words : AllByRecursion (AllByRecursion IsWordCall) t.scripts
 
 -- where the callers run

@@ -1,5 +1,6 @@
 // A run of a script on an image, in the script's mode.
 ghost use Rattle.std.specs.Prelude.{◌≤◌, All, length, IfOk};
+ghost use Rattle.map_model.specs.Weave.{most_callers};
 ghost use Rattle.sound_image.specs.Image.{IsSoundImage};
 ghost use Rattle.script_text.specs.Calls.{IsLineSoFar};
 ghost use Rattle.dash_top.specs.Ran.{HasRun};
@@ -26,7 +27,7 @@ pub fn run<R: Threads + Wait + Sync>(
     requires few { length script.now ≤ 1000000 }
     requires so_far { All IsLineSoFar script.now }
     ensures ran { IfOk result (HasRun mode medium.geometry medium.words script.now) }
-    ensures few_lists { IfOk result (λ left. length left.lists ≤ 64) }
+    ensures few_lists { IfOk result (λ left. length left.lists ≤ most_callers) }
 {
     match mode {
         Mode::Play => play(alloc, medium, script),

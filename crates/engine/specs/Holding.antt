@@ -10,7 +10,7 @@ use Rattle.image_layout.specs.Volatile.{power_word}
 use Rattle.map_model.specs.declared.call.Call.{Call}
 use Rattle.map_model.specs.declared.entry.Entry.{Entry}
 use Rattle.map_model.specs.Map.{Map}
-use Rattle.map_model.specs.Weave.{all_of, draws, spent_count}
+use Rattle.map_model.specs.Weave.{most_callers, all_of, draws, spent_count}
 use Rattle.map_model.specs.declared.entry.Reply.TheVariants.{Full, Spent}
 use Rattle.map_model.specs.ByPlaces.{map_at}
 use Rattle.session.specs.Session.{HadNoRoom}
@@ -144,5 +144,5 @@ RunKeeps = (site : Ground) (start : Words) (core : Core) (turns : List ℕ) → 
 abbrev pub CoreBegins : Type 0
 CoreBegins = (site : Ground) (start : Words) (core : Core) (version : ℕ) (scripts : List (List Call))
     → AllAreQuiet site start (world_of core (replicate (length scripts) (fresh_view 1))) → core.words ≡ site.front → core.words (power_word site.shape) ≡ 0 → version ≡ version_of site
-    → KeepsFree site start → length scripts ≤ 64 → AllByRecursion (AllByRecursion IsWordCall) scripts
+    → KeepsFree site start → length scripts ≤ most_callers → AllByRecursion (AllByRecursion IsWordCall) scripts
     → core.callers ≡ callers_from site.shape version 1 scripts → CoreHolds site start core

@@ -6,7 +6,7 @@ use Rattle.std.specs.FinMap.{get}
 use Rattle.map_model.specs.declared.call.Call.{Call}
 use Rattle.map_model.specs.declared.entry.Entry.{Entry}
 use Rattle.map_model.specs.Map.{Map}
-use Rattle.map_model.specs.Weave.{weave}
+use Rattle.map_model.specs.Weave.{most_callers, weave}
 use Rattle.map_model.specs.Legal.{AreReplies, replay}
 use Rattle.image_layout.specs.Places.{Shape, state_word, homes}
 use Rattle.sound_image.specs.Records.{key_hash, HasExactNotes}
@@ -37,7 +37,7 @@ IsServedImage = IsSoundImage
 
 -- up to 64 callers, whose keys and values are words
 pub record AreScripts (scripts : List (List Call)) : Type 0 where
-  pub few : length scripts ≤ 64
+  pub few : length scripts ≤ most_callers
   pub words : AllByRecursion (AllByRecursion IsWordCall) scripts
 
 -- the core after a restart holds

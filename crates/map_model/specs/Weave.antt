@@ -11,6 +11,10 @@ loaded_at n e = not e.drew && (e.place == n)
 abbrev pub drew_at : ℕ → Entry → Bool
 drew_at n e = e.drew && (e.place == n)
 
+-- how many callers a run has at most; what is said here is said of any number of them
+abbrev pub most_callers : ℕ
+most_callers = 64
+
 -- the entries of all callers, by caller number and then in each caller's order
 abbrev pub all_of : List (List Entry) → List Entry
 all_of lists = flat_map (λ list. list) lists

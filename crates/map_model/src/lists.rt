@@ -7,6 +7,9 @@ use crate::no_memory::NoMemory;
 use std::alloc::Global;
 use std::marker::Model;
 
+/// How many callers a run has at most; they are counted from 1. Lists have any number of them.
+pub const MOST_CALLERS: u64 = 64;
+
 /// The entries of each caller in its own order, with room for a number of more that is set at the
 /// start. Callers are numbered from 1.
 #[derive(Drop)]

@@ -2,6 +2,7 @@
 use Rattle.std.specs.Prelude.{◌≡◌, ℕ, ◌-◌, Option, None, is_some, List, ◌++◌, length, map, replicate, slice_index}
 use Rattle.std.specs.List.{range_with_len}
 use Rattle.map_model.specs.Roomed.{lists_of}
+use Rattle.map_model.specs.Weave.{most_callers}
 use Rattle.map_model.specs.declared.call.Call.{Call}
 use Rattle.map_model.specs.declared.entry.Stop.{Stop}
 use Rattle.image_layout.specs.Places.{Shape}
@@ -31,7 +32,7 @@ end_of_run shape first lines = core_run shape (slice_index first) (scripts_of li
 
 -- where the callers stopped, among those of all 64
 abbrev pub stops_of : List Caller → List (Option Stop)
-stops_of callers = map stop_of callers ++ replicate (64 - length callers) None
+stops_of callers = map stop_of callers ++ replicate (most_callers - length callers) None
 
 -- what is left is what the run leaves: the callers' entries, where they stopped, the medium, and whether it was cut
 pub record IsOfRun (shape : Shape) (first : List ℕ) (lines : List Line) (left : Session) : Type 0 where

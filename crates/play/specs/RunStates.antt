@@ -1,6 +1,7 @@
 -- What the program's run state is to a state of a run as it is defined, and what an event makes of it.
 use Rattle.std.specs.Prelude.{◌≡◌, ℕ, suc, Option, None, Some}
 use Rattle.trace.specs.Events.{value}
+use Rattle.map_model.specs.Weave.{most_callers}
 use Rattle.image_layout.specs.Places.{Shape}
 use Rattle.pm_trace.specs.TraceOf.{IsTraceOf}
 use Rattle.core_run.specs.declared.deed.Deed.{Deed as ToldDeed}
@@ -14,7 +15,7 @@ use Rattle.play.specs.Callers.{callers_of, HaveRoom}
 -- THE RUN STATE stands for this state: its memory came from the state's events, and its callers, with their lists, are the state's
 pub record IsOf (t : Setup) (run_state : RunState) (s : State) : Type 0 where
   pub shape : run_state.device.shape ≡ t.shape
-  pub callers : run_state.device.callers ≡ 64
+  pub callers : run_state.device.callers ≡ most_callers
   pub traced : IsTraceOf (start_of t) s.core.trace run_state.device
   pub words : s.core.words ≡ value (start_of t) s.core.trace
   pub keeper : run_state.keeper ≡ s.keeper

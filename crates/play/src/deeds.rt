@@ -2,6 +2,7 @@
 
 ghost use Rattle.std.specs.Prelude.{◌≡◌, ◌≢◌, ℕ, ◌+◌, ◌-◌, ◌<◌, List, [], Some, All, length, slice_get, map};
 ghost use Rattle.map_model.specs.Roomed.{Roomed};
+ghost use Rattle.map_model.specs.Weave.{most_callers};
 ghost use Rattle.core_run.specs.declared.keeper.Keeper.TheVariants.{Restarting, Open, Closing};
 ghost use Rattle.restart_op.specs.Restart.{wanted as restart_wanted};
 ghost use Rattle.restart_op.specs.Close.{wanted as close_wanted};
@@ -118,7 +119,7 @@ impl RunState {
     /// Does an event of the engine of the caller at an index, in its call.
     fn do_call_deed(&mut self, index: usize, call: Call, want: Want) -> Deed
         requires runs { MayGo index call want self.old }
-        requires few { index < 64 }
+        requires few { index < most_callers }
         requires may { MayBeAsked (index + 1) want self.old.device }
         ensures { (runs : MayGo index call want self.old) → FollowsCall index call runs.engine self.old result self.new }
     {

@@ -3,6 +3,7 @@
 ghost use Rattle.std.specs.Prelude.{◌≡◌, ◌≤◌, List, length};
 ghost use Rattle.trace.specs.Events.{Words, value};
 ghost use Rattle.map_model.specs.Roomed.{Roomed};
+ghost use Rattle.map_model.specs.Weave.{most_callers};
 ghost use Rattle.core_run.specs.Engines.{Core};
 ghost use Rattle.pm_trace.specs.TraceOf.{IsTraceOf};
 ghost use Rattle.core_run.specs.Run.{medium_words};
@@ -15,7 +16,7 @@ ghost use Rattle.play.specs.Played.{stops_of, IsLeftOf};
 use crate::caller::Caller;
 use crate::run_state::RunState;
 use image_file::Medium;
-use map_model::Stop;
+use map_model::{MOST_CALLERS, Stop};
 use pm_trace::Device;
 use reply_text::Session;
 
@@ -36,11 +37,11 @@ fn medium_of(device: Device, cut: Option<u64>) -> Medium
 }
 
 /// Where the callers stopped, among those of all 64.
-fn stops_of(callers: &[Caller]) -> [Option<Stop>; 64]
-    requires { length callers.now ≤ 64 }
+fn stops_of(callers: &[Caller]) -> [Option<Stop>; MOST_CALLERS as usize]
+    requires { length callers.now ≤ most_callers }
     ensures { (lists : List Roomed) → HaveRoom callers.now lists → result ≡ stops_of (callers_of callers.now lists) }
 {
-    let mut stops = [None; 64];
+    let mut stops = [None; MOST_CALLERS as usize];
     for index in 0..callers.len() {
         stops[index] = callers[index].stop();
     }
@@ -50,7 +51,7 @@ fn stops_of(callers: &[Caller]) -> [Option<Stop>; 64]
 impl RunState {
     /// What it leaves at a cut with this choice, or where it was closed.
     pub(crate) fn into_session(self, cut: Option<u64>) -> Session
-        requires { length self.callers.items ≤ 64 }
+        requires { length self.callers.items ≤ most_callers }
         ensures left { (t : Setup) (s : State) → IsOf t self s → IsLeftOf t s cut result }
         ensures lists { length result.lists ≡ length self.lists }
     {

@@ -1,6 +1,7 @@
 //! A script from its start to its end.
 
 ghost use Rattle.std.specs.Prelude.{◌≡◌, ◌≤◌, All, length, IfOk};
+ghost use Rattle.map_model.specs.Weave.{most_callers};
 ghost use Rattle.script_text.specs.Calls.{IsLineSoFar};
 ghost use Rattle.sound_image.specs.Image.{IsSoundImage};
 ghost use Rattle.core_run.specs.Run.{cut_of, most_with, most_events};
@@ -47,7 +48,7 @@ pub fn play(alloc: Global, medium: Medium, script: &Script) -> Result<Session, N
     requires few { length script.now ≤ 1000000 }
     requires so_far { All IsLineSoFar script.now }
     ensures played { IfOk result (IsPlay medium.geometry medium.words script.now) }
-    ensures few_lists { IfOk result (λ left. length left.lists ≤ 64) }
+    ensures few_lists { IfOk result (λ left. length left.lists ≤ most_callers) }
 {
     core_run::run_begins();
     core_run::lines_are_well();

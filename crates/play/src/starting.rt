@@ -15,7 +15,7 @@ use crate::run_state::RunState;
 use core_run::Keeper;
 use image_file::Medium;
 use image_layout::Geometry;
-use map_model::{Call, Lists, NoMemory};
+use map_model::{Call, Lists, MOST_CALLERS, NoMemory};
 use pm_trace::Device;
 use restart_op::RestartOp;
 use script_text::Line;
@@ -23,7 +23,7 @@ use std::alloc::{AllocError, Global};
 use world::Site;
 
 /// The greatest number of a caller.
-const CALLERS: u8 = 64;
+const CALLERS: u8 = MOST_CALLERS as u8;
 
 /// A caller, before the restart has ended.
 fn waiting_caller(geometry: Geometry, number: u8, calls: Vec<Call>) -> Caller

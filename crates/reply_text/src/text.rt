@@ -2,6 +2,7 @@
 
 ghost use Rattle.std.specs.Prelude.{◌≡◌, ◌≤◌, ◌++◌, length, string_bytes, IfOk, OnOk, Some};
 ghost use Rattle.map_model.specs.Roomed.{lists_of};
+ghost use Rattle.map_model.specs.Weave.{most_callers};
 ghost use Rattle.session.specs.Transcript.{line, placed_text, entry_lines, open_text, caller_lines, transcript_of};
 ghost use Rattle.reply_text.specs.Told.{told_by, tolds_of};
 
@@ -76,7 +77,7 @@ fn push_caller(
 ///
 /// `NoMemory` if memory runs out.
 pub fn transcript(alloc: Global, session: &Session) -> Result<Vec<u8>, NoMemory>
-    requires callers { length session.now.lists ≤ 64 }
+    requires callers { length session.now.lists ≤ most_callers }
     ensures { IfOk result (λ text. text.items ≡ transcript_of (tolds_of (lists_of session.now.lists) session.now.stops)) }
 {
     let mut text = String::new(alloc);

@@ -2,8 +2,7 @@
 ghost use Rattle.std.specs.Prelude.{◌≡◌};
 ghost use Rattle.script_text.specs.Readings.{is_caller, may_have_runs};
 
-/// The last caller; callers are counted from 1.
-pub const MOST_CALLERS: u64 = 64;
+use map_model::MOST_CALLERS;
 
 // Whether this caller may have calls.
 pub(crate) fn may_have_calls(caller: u64) -> bool

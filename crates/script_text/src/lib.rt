@@ -20,9 +20,9 @@ mod run_form;
 pub mod script;
 mod word;
 
-pub use callers::MOST_CALLERS;
 pub use fault::ScriptFault;
 pub use line::{Counted, Line, Mode};
+pub use map_model::MOST_CALLERS;
 pub use number::number_of;
 pub use parsing::{MOST_BYTES, MOST_LINES, parse};
 pub use phase::Phase;

@@ -10,7 +10,7 @@ ghost use Rattle.serve.specs.declared.job.Job.{Job};
 ghost use Rattle.serve.specs.Jobs.{HasMade, IsReadyJob, ServesJob};
 
 use crate::job::Job;
-use map_model::{Call, Entry, Reply};
+use map_model::{Call, Entry, MOST_CALLERS, Reply};
 use outside::Fuse;
 use shared_image::{Caller, Pass, SharedImage};
 use std::marker::Sync;
@@ -77,8 +77,8 @@ fn serve_one<R: Wait>(rt: &R, image: &SharedImage, job: &mut Job)
     }
 }
 
-/// How many threads there are at the most.
-const MOST_THREADS: usize = 64;
+/// How many threads there are at the most: one for each caller.
+const MOST_THREADS: usize = MOST_CALLERS as usize;
 
 /// Makes the calls of all jobs, each on a thread of its own where one can be made.
 pub(crate) fn serve_all<R: Threads + Wait + Sync>(rt: &R, image: &SharedImage, jobs: &mut [Job])

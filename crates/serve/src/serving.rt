@@ -3,6 +3,7 @@
 ghost use Rattle.std.specs.Prelude.{◌≡◌, ℕ, ◌+◌, ◌-◌, ◌<◌, ◌≤◌, All, IfOk, IsTrue, [], length, map, vec_capacity};
 ghost use Rattle.script_text.specs.Calls.{IsLineSoFar};
 ghost use Rattle.map_model.specs.Roomed.{with_room};
+ghost use Rattle.map_model.specs.Weave.{most_callers};
 ghost use Rattle.sound_image.specs.Image.{IsSoundImage};
 ghost use Rattle.play.specs.Played.{scripts_to};
 ghost use Rattle.shared_image.specs.Powered.{IsOn, IsKeeperOf, callers_left};
@@ -12,7 +13,7 @@ ghost use Rattle.serve.specs.Served.{IsServe};
 use crate::job::Job;
 use crate::making::serve_all;
 use image_file::{Medium, Words};
-use map_model::{Entry, Lists, NoMemory};
+use map_model::{Entry, Lists, MOST_CALLERS, NoMemory};
 use play::{calls_of_caller, last_caller, runs_are_sessions};
 use reply_text::Session;
 use script_text::{Line, Script};
@@ -32,7 +33,7 @@ fn jobs_of(
 ) -> Result<Vec<Job>, NoMemory>
     requires on { IsOn image.now }
     requires keeper { IsKeeperOf image.now keeper.old }
-    requires callers { (callers_left keeper.old ≡ last + 1) × (last ≤ 64) }
+    requires callers { (callers_left keeper.old ≡ last + 1) × (last ≤ most_callers) }
     requires words { All IsLineSoFar lines.now }
     ensures keeper { IfOk result (λ jobs. IsKeeperOf image.now keeper.new × (callers_left keeper.new ≡ 1)) }
     ensures ready { IfOk result (λ jobs. All (IsReadyJob image.now) jobs.items) }
@@ -79,7 +80,7 @@ fn list_entries(lists: &mut Lists, number: u8, told: &[Entry])
 /// Takes the passes and the entries of jobs whose calls are made; whether each call has its entry.
 fn collect(image: &SharedImage, jobs: Vec<Job>, passes: &mut Vec<Pass>, lists: &mut Lists) -> bool
     requires jobs { All (IsLeftJob image.now) jobs.items }
-    requires few { length jobs.items ≤ 64 }
+    requires few { length jobs.items ≤ most_callers }
     requires passes { (passes.old.items ≡ []) × (length jobs.items ≤ vec_capacity passes.old) }
     requires lists { lists.old ≡ map (λ j. with_room (length j.calls.items)) jobs.items }
     ensures { IsTrue result → AreCollected image.now jobs.items passes.new.items lists.new }
@@ -121,7 +122,7 @@ pub fn serve<R: Threads + Wait + Sync>(
     requires few { length script.now ≤ 1000000 }
     requires so_far { All IsLineSoFar script.now }
     ensures served { IfOk result (IsServe medium.geometry medium.words script.now) }
-    ensures few_lists { IfOk result (λ left. length left.lists ≤ 64) }
+    ensures few_lists { IfOk result (λ left. length left.lists ≤ most_callers) }
 {
     runs_are_sessions();
     let lines = script.as_slice();
@@ -139,7 +140,7 @@ pub fn serve<R: Threads + Wait + Sync>(
     let words = close(image, keeper, passes);
     Ok(Session {
         lists,
-        stops: [None; 64],
+        stops: [None; MOST_CALLERS as usize],
         medium: Medium {
             geometry,
             words: Words::new(words),
