@@ -9,12 +9,13 @@ ghost use Rattle.dash_top.specs.Reading.{HasScriptCause, HasImageCause};
 
 use crate::work::Refused;
 use image_file::{ImageFault, Medium, from_bytes};
+use image_layout::MOST_WORDS;
 use outside::{Source, Store, StoreFault, take_all};
 use script_text::{MOST_BYTES, Mode, Script, ScriptFault, parse};
 use std::alloc::Global;
 
-/// The most bytes that an image has.
-pub const MOST_IMAGE_BYTES: u64 = 282_067_200;
+/// The most bytes that an image has: eight for each of its words.
+pub const MOST_IMAGE_BYTES: u64 = 8 * MOST_WORDS;
 
 /// Reads a script of this mode, to its end.
 pub fn read_script<S: Source>(alloc: Global, input: &mut S, mode: Mode) -> Result<Script, Refused>

@@ -3,7 +3,7 @@
 //! stash has a red edge.
 
 ghost use Rattle.std.specs.Prelude.{◌≡◌, ◌+◌, ◌^◌, ◌<◌, ◌≤◌, length};
-ghost use Rattle.image_layout.specs.Places.{buckets, words_of};
+ghost use Rattle.image_layout.specs.Places.{buckets, most_depth, words_of};
 ghost use Rattle.sound_image.specs.Image.{IsSoundImage};
 
 use anyhow::Result;
@@ -27,7 +27,7 @@ fn hue_of(slot: u64) -> u64 {
 
 /// The square of an entry.
 fn print_entry<R: Print>(rt: &R, i: u64, slot: u64) -> Result<()>
-    requires { i < 65536 }
+    requires { i < 2 ^ most_depth }
 {
     let left = EDGE + EDGE * (i % BESIDE);
     let top = EDGE * (i / BESIDE) + 8;

@@ -40,10 +40,6 @@ words_of_buckets = block * buckets
 abbrev pub last_of_buckets : ℕ
 last_of_buckets = words_of_buckets - 1
 
--- how many words an image has at most
-abbrev pub most_words : ℕ
-most_words = 35258400
-
 -- the three numbers that say how an image is laid out
 pub record Shape : Type 0 where
   -- how many slots for segments there are
@@ -58,6 +54,10 @@ pub record IsShape (shape : Shape) : Type 0 where
   pub segments : shape.segments ≤ most_segments
   pub depth : shape.depth ≤ most_depth
   pub kind : shape.kind ≤ 1
+
+-- the shape of the largest image
+abbrev pub largest_shape : Shape
+largest_shape = record { segments = most_segments; depth = most_depth; kind = 0 }
 
 -- the word of the root depth g
 abbrev pub root_word : ℕ
@@ -82,6 +82,10 @@ head_at shape s = first_segment shape + segment_words * s
 -- how many words the image has
 abbrev pub words_of : Shape → ℕ
 words_of shape = head_at shape shape.segments
+
+-- how many words an image has at most
+abbrev pub most_words : ℕ
+most_words = words_of largest_shape
 
 -- the first word of bucket b of segment s; the stash buckets stand behind the homes
 abbrev pub bucket_at : Shape → ℕ → ℕ → ℕ

@@ -11,5 +11,5 @@ pub mod state;
 pub use laws::{parts_apart, parts_within, shape_in_range};
 pub use shape::{
     BLOCK, BUCKETS, GeoFault, Geometry, HOMES, LAST_OF_BUCKETS, MOST_DEPTH, MOST_SEGMENTS,
-    ROOT_WORD, SEGMENT_WORDS, STASH_BUCKETS, STATE_WORD, WORDS_OF_BUCKETS,
+    MOST_WORDS, ROOT_WORD, SEGMENT_WORDS, STASH_BUCKETS, STATE_WORD, WORDS_OF_BUCKETS,
 };

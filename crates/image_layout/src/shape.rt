@@ -2,7 +2,7 @@
 
 ghost use Rattle.std.specs.Prelude.{◌≡◌, ◌<◌, ◌≤◌, ◌+◌, ◌*◌, ◌%◌, ◌^◌, IfOk, IfErr};
 ghost use Rattle.image_layout.specs.Volatile.{counter_word, power_word, allocation_guard, directory_guard, segment_guard, all_words_of};
-ghost use Rattle.image_layout.specs.Places.{IsShape, first_segment, words_of, entry_at, head_at, bucket_at, block, homes, stash_buckets, buckets, segment_words, most_words, most_segments, most_depth};
+ghost use Rattle.image_layout.specs.Places.{IsShape, largest_shape, first_segment, words_of, entry_at, head_at, bucket_at, block, homes, stash_buckets, buckets, segment_words, most_words, most_segments, most_depth};
 
 use bucket_meta::words::BUCKET_WORDS;
 use std::error::Error;
@@ -31,6 +31,11 @@ pub const LAST_OF_BUCKETS: u64 = WORDS_OF_BUCKETS - 1;
 pub const MOST_SEGMENTS: u64 = 16384;
 /// The greatest depth that a directory may have.
 pub const MOST_DEPTH: u64 = 16;
+/// The word where the segments of the largest image begin.
+const FIRST_SEGMENT_OF_LARGEST: u64 =
+    (BLOCK + (1u64 << (MOST_DEPTH + 1)) - 1 + (BLOCK - 1)) / BLOCK * BLOCK;
+/// The most words that an image may have: those of the largest one.
+pub const MOST_WORDS: u64 = FIRST_SEGMENT_OF_LARGEST + SEGMENT_WORDS * MOST_SEGMENTS;
 
 /// The first of the three numbers that is out of range.
 #[derive(Clone, Copy, Debug, PartialEq, Eq)]
@@ -65,7 +70,7 @@ fn power(e: u64) -> u64
     requires { e ≤ most_depth + 1 }
     ensures is { result ≡ 2 ^ e }
     ensures some { 1 ≤ result }
-    ensures most { result ≤ 131072 }
+    ensures most { result ≤ 2 ^ (most_depth + 1) }
 {
     1 << e
 }
@@ -154,7 +159,7 @@ impl Geometry {
     /// The word where the segments begin: the next multiple of 32 behind the directory's areas.
     fn first_segment(&self) -> u64
         ensures is { result ≡ first_segment self.now }
-        ensures most { result ≤ 131104 }
+        ensures most { result ≤ first_segment largest_shape }
     {
         (BLOCK + power(self.depth + 1) - 1).next_multiple_of(BLOCK)
     }
@@ -167,7 +172,7 @@ impl Geometry {
         ensures from { block ≤ result }
         ensures within { result < first_segment self.now }
         ensures below { result < words_of self.now }
-        ensures most { result < 131104 }
+        ensures most { result < first_segment largest_shape }
     {
         let _ = &self.depth;
         BLOCK + power(e) - 1 + i

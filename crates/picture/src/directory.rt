@@ -21,7 +21,7 @@ pub fn root_depth(geometry: &Geometry, words: &[u64]) -> u64
 pub fn entries(depth: u64) -> u64
     requires { depth ≤ most_depth }
     ensures is { result ≡ 2 ^ depth }
-    ensures most { result ≤ 65536 }
+    ensures most { result ≤ 2 ^ most_depth }
 {
     1 << depth
 }
