@@ -18,6 +18,14 @@ lock_of w0 = bit 0 w0
 abbrev pub version_of : ℕ → ℕ
 version_of w0 = w0 / 2
 
+-- the last version that a lock may have
+abbrev pub last_lock_version : ℕ
+last_lock_version = 2 ^ 63 - 1
+
+-- the lock word that is free with the last version, so that nobody takes the lock any more
+abbrev pub spent_lock : ℕ
+spent_lock = 2 * last_lock_version
+
 -- 1 where record slot s, of 14, has a record
 abbrev pub allocated : ℕ → ℕ → ℕ
 allocated s w1 = bit s w1

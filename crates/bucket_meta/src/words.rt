@@ -23,6 +23,9 @@ pub(crate) const SET_BITS: u32 = SLOTS as u32;
 /// How many note slots a bucket has.
 pub const NOTE_SLOTS: u8 = 4;
 
+/// The lock word that is free with the last version, so that nobody takes the lock any more.
+pub const SPENT_LOCK: u64 = u64::MAX - 1;
+
 /// Whether a lock word says that its bucket is locked.
 pub fn is_locked(w0: u64) -> bool
     ensures { result ≡ (lock_of w0 == 1) }

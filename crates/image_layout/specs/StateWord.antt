@@ -1,13 +1,21 @@
 -- The state word of an image: its version and the clean marker.
-use Rattle.std.specs.Prelude.{◌≡◌, ℕ, ◌+◌, ◌/◌, ◌%◌, ◌^◌, ◌==◌, if◌then◌else◌}
+use Rattle.std.specs.Prelude.{◌≡◌, ℕ, ◌+◌, ◌-◌, ◌/◌, ◌%◌, ◌^◌, ◌==◌, if◌then◌else◌}
 
 -- bits 0 to 7: the version of the image
 abbrev pub image_version_in : ℕ → ℕ
 image_version_in state = state % 2 ^ 8
 
--- bit 8: 1 where the image is marked clean
+-- the last version that an image may have
+abbrev pub last_image_version : ℕ
+last_image_version = 2 ^ 8 - 1
+
+-- the clean marker: bit 8
+abbrev pub marker : ℕ
+marker = 2 ^ 8
+
+-- 1 where the image is marked clean
 abbrev pub marker_in : ℕ → ℕ
-marker_in state = state / 2 ^ 8 % 2
+marker_in state = state / marker % 2
 
 -- the image is marked clean
 abbrev pub IsMarked : ℕ → Type 0
@@ -15,4 +23,4 @@ IsMarked state = marker_in state ≡ 1
 
 -- the state word with the marker set
 abbrev pub with_marker : ℕ → ℕ
-with_marker state = if marker_in state == 1 then state else state + 2 ^ 8
+with_marker state = if marker_in state == 1 then state else state + marker

@@ -6,6 +6,9 @@ ghost use Rattle.image_layout.specs.StateWord.{image_version_in, with_marker, Is
 /// The clean marker, bit 8 of the state word.
 pub const MARKER: u64 = 0x100;
 
+/// The last version that an image may have; the first is 1.
+pub const LAST_VERSION: u8 = 255;
+
 /// The version of the image, 1 to 255 in a sound one.
 pub fn version_of(state: u64) -> u8
     ensures { result ≡ image_version_in state }

@@ -3,10 +3,8 @@
 ghost use Rattle.std.specs.Prelude.{◌≡◌};
 ghost use Rattle.phase.specs.Takes.{take_wanted, take_looked, take_lost, take_taken};
 
+use bucket_meta::words::SPENT_LOCK;
 use op_core::{Ans, Want};
-
-/// The lock word that is free with the last version, so that nobody takes the lock any more.
-const SPENT_LOCK: u64 = u64::MAX - 1;
 
 /// What is to be done with a lock word.
 #[derive(Clone, Copy)]

@@ -8,6 +8,7 @@ use Rattle.trace.specs.Progress.{pending}
 use Rattle.trace.specs.Steps.{Writes}
 use Rattle.trace.specs.Media.{IsPossible}
 use Rattle.image_layout.specs.Places.{Shape, IsShape, state_word, words_of}
+use Rattle.image_layout.specs.StateWord.{marker}
 use Rattle.sound_image.specs.Segments.{frame_of, IsClean}
 use Rattle.sound_image.specs.Image.{magic, format_word, IsSoundImage}
 use Rattle.sound_image.specs.Left.{HasPairsOf}
@@ -125,7 +126,7 @@ CloseSettles = (site : Ground) (start : Words) (world : World) → AllAreQuiet s
 abbrev pub CloseMarks : Type 0
 CloseMarks = (site : Ground) (start : Words) (world : World) → AllAreQuiet site start world → (n : ℕ)
     → wanted (close_after site.shape world.words world.trace n).op ≡ Done
-    → (close_after site.shape world.words world.trace n).words ≡ with_word world.words state_word (world.words state_word + 2 ^ 8)
+    → (close_after site.shape world.words world.trace n).words ≡ with_word world.words state_word (world.words state_word + marker)
 
 -- and leaves the structure as it was, but for the marker
 abbrev pub CloseKeepsStructure : Type 0

@@ -6,6 +6,7 @@ use Rattle.trace.specs.Events.{Words, Trace, HasLine, most_unfenced}
 use Rattle.trace.specs.Progress.{pending}
 use Rattle.trace.specs.Media.{IsPossible}
 use Rattle.image_layout.specs.Places.{Shape, IsShape, state_word, words_of}
+use Rattle.image_layout.specs.StateWord.{last_image_version}
 use Rattle.image_layout.specs.Volatile.{all_words_of}
 use Rattle.map_model.specs.Map.{Map}
 use Rattle.sound_image.specs.Segments.{frame_of, IsLive}
@@ -92,7 +93,7 @@ pub record IsStarted (shape : Shape) (words : List ℕ) : Type 0 where
   pub wants_no_more : wanted (restarted_wholly shape words).op ≡ Done
   pub left : HasStarted shape (started_for (slice_index words state_word)) (slice_index words) (words_at_end shape words)
   pub some : 1 ≤ (started_for (slice_index words state_word)).version
-  pub fits : (started_for (slice_index words state_word)).version < 2 ^ 8
+  pub fits : (started_for (slice_index words state_word)).version ≤ last_image_version
 
 abbrev pub EndsStarted : Type 0
 EndsStarted = (shape : Shape) (words : List ℕ) → IsSoundImage shape words → IsStarted shape words

@@ -6,7 +6,7 @@ ghost use Rattle.op_core.specs.declared.want.Want.TheVariants as want;
 ghost use Rattle.restart_op.specs.declared.restart.RestartStep.TheVariants.{Ended};
 ghost use Rattle.restart_op.specs.Restart.{started_for, swept_through, head_word, begun, state_seen, head_stored, head_flushed, heads_fenced, wanted, taken, next_of};
 
-use image_layout::state::{is_marked, version_of};
+use image_layout::state::{LAST_VERSION, is_marked, version_of};
 use image_layout::{Geometry, STATE_WORD};
 use op_core::{Ans, Machine, Want};
 use segment_head::version::unversioned;
@@ -97,7 +97,7 @@ fn started_for(state: u64) -> Started
             version,
             swept: false,
         }
-    } else if version == 255 {
+    } else if version == LAST_VERSION {
         swept_through()
     } else {
         Started {

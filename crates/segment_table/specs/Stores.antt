@@ -1,9 +1,10 @@
 -- The stores to headers, links, the root and the directory: for each what it must find in a sound frame, and what it leaves.
-use Rattle.std.specs.Prelude.{◌≡◌, ◌≢◌, ℕ, suc, ◌+◌, ◌*◌, ◌/◌, ◌%◌, ◌^◌, ◌<◌, ◌≤◌, ◌⊎◌}
+use Rattle.std.specs.Prelude.{◌≡◌, ◌≢◌, ℕ, suc, ◌+◌, ◌*◌, ◌/◌, ◌^◌, ◌<◌, ◌≤◌, ◌⊎◌}
 use Rattle.trace.specs.Events.{with_word}
 use Rattle.hash_word.specs.Hash.{index_of}
 use Rattle.segment_head.specs.HeadWord.{version_in, state_in, depth_in, pattern_in, free, normal, splitting, fresh}
 use Rattle.sound_image.specs.Places.{Shape, root_word, state_word, entry_at, head_at}
+use Rattle.sound_image.specs.StateWord.{image_version_in}
 use Rattle.sound_image.specs.Segments.{ImageWords, Frame, frame_of, image_version, state_at, depth_at, pattern_at, InOneSide, IsReadySide, HasReadySide}
 use Rattle.segment_table.specs.Claims.{Claims, named_for, IsSoundFrame}
 use Rattle.segment_table.specs.Media.{IsSteady}
@@ -127,8 +128,8 @@ module _ (frame : Frame) where
 
   -- THE STATE WORD of the image: its version is not 0, and no version byte is above it
   pub record Opens (x : ℕ) : Type 0 where
-    pub some : 1 ≤ x % 2 ^ 8
-    pub past : (s : ℕ) → s < frame.segments → version_in (frame.header s) ≤ x % 2 ^ 8
+    pub some : 1 ≤ image_version_in x
+    pub past : (s : ℕ) → s < frame.segments → version_in (frame.header s) ≤ image_version_in x
 
 module _ (shape : Shape) (word : ImageWords) where
   -- THE ROOT, one deeper: there is room, and each entry of the area that is one deeper names what the entry above it names

@@ -1,5 +1,5 @@
 -- What a session is: a script run from one image to another, with what it prints.
-use Rattle.std.specs.Prelude.{◌≡◌, ◌≢◌, ℕ, ◌-◌, ◌^◌, ◌<◌, ⊤, Bool, true, false, List, length, map, slice_index, IsSome, Contains}
+use Rattle.std.specs.Prelude.{◌≡◌, ◌≢◌, ℕ, ◌<◌, ⊤, Bool, true, false, List, length, map, slice_index, IsSome, Contains}
 use Rattle.std.specs.List.{AllByRecursion, AllZip}
 use Rattle.std.specs.List.Sorted.{IsStrictlyIncreasing}
 use Rattle.std.specs.FinMap.{get}
@@ -11,7 +11,7 @@ use Rattle.map_model.specs.Weave.{all_of, draws, spent_count, weave}
 use Rattle.map_model.specs.Legal.{IsLegal, replay}
 use Rattle.map_model.specs.ByPlaces.{map_at}
 use Rattle.hash_word.specs.Hash.{top}
-use Rattle.sound_image.specs.Bucket.{version_of}
+use Rattle.sound_image.specs.Bucket.{version_of, last_lock_version}
 use Rattle.sound_image.specs.HeadWord.{free}
 use Rattle.sound_image.specs.Places.{Shape, bucket_at, buckets, slots_of_key}
 use Rattle.sound_image.specs.Segments.{frame_of, IsClean, IsLive, state_at}
@@ -48,7 +48,7 @@ pub record HasSpentBucket (shape : Shape) (words : List ℕ) : Type 0 where
   pub slot : s < shape.segments
   pub bucket : b < buckets
   pub live : IsLive (frame_of shape (slice_index words)) s
-  pub spent : version_of (slice_index words (bucket_at shape s b)) ≡ 2 ^ 63 - 1
+  pub spent : version_of (slice_index words (bucket_at shape s b)) ≡ last_lock_version
 
 -- what a close leaves: every call of the script has its reply, the marker is set, and the pairs are the map's
 pub record IsClosed (shape : Shape) (words : List ℕ) (scripts : List (List Call)) (tolds : List Told) (m : Map) : Type 0 where

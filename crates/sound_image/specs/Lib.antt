@@ -8,4 +8,5 @@ pub mod Agreement
 pub use Rattle.image_layout.specs.Bucket
 pub use Rattle.image_layout.specs.Parts
 pub use Rattle.image_layout.specs.Places
+pub use Rattle.image_layout.specs.StateWord
 pub use Rattle.segment_head.specs.HeadWord

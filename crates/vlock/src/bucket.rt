@@ -16,6 +16,7 @@ ghost use Rattle.vlock.specs.Buckets.{MayCall, Loads, IsBesideNotes, ReadSays, L
 
 use crate::steps::event;
 use crate::table::{Acting, Image, ImageSeat};
+use bucket_meta::words::SPENT_LOCK;
 use image_layout::{BLOCK, Geometry};
 use op_core::{Ans, Want};
 use std::marker::Brand;
@@ -215,7 +216,7 @@ pub fn try_lock(image: &Image, geometry: &Geometry, seat: &mut ImageSeat, lock: 
     let free = meet(image, geometry, seat, lock);
     if free % 2 == 1 {
         LockReply::Held { seen: free }
-    } else if free == u64::MAX - 1 {
+    } else if free == SPENT_LOCK {
         LockReply::Spent
     } else {
         take(image, geometry, seat, lock, free)

@@ -1,6 +1,7 @@
 -- What is fixed from the end of a restart to the close: how the image is laid out, the words of its structure, what each key had at the start, and how many callers there are.
-use Rattle.std.specs.Prelude.{◌≡◌, ◌≢◌, ℕ, ◌+◌, ◌-◌, ◌^◌, ◌<◌, Option}
+use Rattle.std.specs.Prelude.{◌≡◌, ◌≢◌, ℕ, ◌+◌, ◌^◌, ◌<◌, Option}
 use Rattle.trace.specs.Events.{Words}
+pub use Rattle.bucket_meta.specs.Bucket.{spent_lock}
 use Rattle.image_layout.specs.Places.{Shape, IsShape, root_word, state_word, bucket_at, buckets, block}
 use Rattle.image_layout.specs.StateWord.{image_version_in}
 use Rattle.segment_table.specs.Claims.{HasSoundFrame}
@@ -45,11 +46,7 @@ IsCurrentLock site words lock = (s : ℕ) × (b : ℕ) × (s < site.shape.segmen
 abbrev pub IsLiveLock : Shape → Words → ℕ → Type 0
 IsLiveLock shape words lock = (s : ℕ) × (b : ℕ) × (s < shape.segments) × (b < buckets) × (lock ≡ bucket_at shape s b) × IsLiveSlot (frame_of shape words) s
 
--- a lock word that is free with the last version, so that nobody takes the lock any more
-abbrev pub spent_lock : ℕ
-spent_lock = 2 ^ 64 - 2
-
--- such a word of a live segment
+-- a lock word of a live segment that is free with the last version
 abbrev pub IsSpentLock : Shape → Words → ℕ → Type 0
 IsSpentLock shape words lock = IsLiveLock shape words lock × (words lock ≡ spent_lock)
 

@@ -7,7 +7,7 @@ use Rattle.trace.specs.Events.{Words, Trace, value}
 use Rattle.trace.specs.Progress.{pending}
 use Rattle.trace.specs.Steps.{HadSinceSettled}
 use Rattle.image_layout.specs.Places.{Shape, state_word, words_of}
-use Rattle.image_layout.specs.StateWord.{marker_in}
+use Rattle.image_layout.specs.StateWord.{marker_in, last_image_version}
 use Rattle.sound_image.specs.Image.{IsSoundImage}
 use Rattle.bucket_words.specs.Hits.{find}
 use Rattle.op_core.specs.declared.want.Want.TheVariants.{Done}
@@ -131,6 +131,10 @@ module _ (shape : Shape) (words : List ℕ) (image : IsSoundImage shape words) w
   same_now : (k : ℕ) → find shape end.words k ≡ find shape word k
   same_now k = same_find shape words image end.words alike k
 
+-- a byte is at most the last version
+upto_last : (v : ℕ) → v < 2 ^ 8 → v ≤ last_image_version
+upto_last v low = omega (arith, low)
+
 pub ends_started : EndsStarted
 ends_started shape words image =
     let version = some_and_fits shape words image (words_at_end shape words) (left shape words image) in
@@ -139,7 +143,7 @@ ends_started shape words image =
       wants_no_more = wants_no_more shape words image;
       left = left shape words image;
       some = version.0;
-      fits = version.1;
+      fits = upto_last (started_for (slice_index words state_word)).version version.1;
     }
 
 pub is_restart : IsRestart
