@@ -20,21 +20,25 @@ hash_of Mix key = mixed key
 abbrev pub finger_of : ℕ → ℕ
 finger_of h = h % 2 ^ 8
 
+-- how many home buckets a segment has
+abbrev pub homes : ℕ
+homes = 64
+
 -- bits 8 to 13 are the number of the home bucket
 abbrev pub home_of : ℕ → ℕ
-home_of h = h / 2 ^ 8 % 2 ^ 6
+home_of h = h / 2 ^ 8 % homes
 
 -- the probing bucket of a home bucket is the next one, and the first after the last
 abbrev pub probing_of : ℕ → ℕ
-probing_of home = (home + 1) % 64
+probing_of home = (home + 1) % homes
 
 -- the bucket after the probing bucket of a home bucket
 abbrev pub next_of : ℕ → ℕ
-next_of home = (home + 2) % 64
+next_of home = (home + 2) % homes
 
 -- the bucket before a home bucket, and the last before the first
 abbrev pub previous_of : ℕ → ℕ
-previous_of home = (home + 63) % 64
+previous_of home = (home + (homes - 1)) % homes
 
 -- the top d of the 64 bits
 abbrev pub top : ℕ → ℕ → ℕ

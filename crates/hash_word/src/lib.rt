@@ -5,7 +5,13 @@
 #![tactic(auto)]
 
 ghost use Rattle.std.specs.Prelude.{◌≡◌, ◌<◌, ◌≤◌, ◌^◌, ◌↔◌, IsTrue};
-ghost use Rattle.hash_word.specs.Hash.{hash_of, home_of, probing_of, next_of, previous_of, finger_of, index_of, Covers};
+ghost use Rattle.hash_word.specs.Hash.{homes, hash_of, home_of, probing_of, next_of, previous_of, finger_of, index_of, Covers};
+
+/// How many home buckets a segment has.
+pub const HOMES: u8 = 64;
+
+/// The bits of a home bucket's number.
+const HOME_BITS: u64 = HOMES as u64 - 1;
 
 /// How a key is hashed.
 #[derive(Clone, Copy, Debug, PartialEq, Eq)]
@@ -33,36 +39,36 @@ pub fn hash(kind: Kind, key: u64) -> u64
 /// The number of the home bucket, from 0 to 63.
 pub fn home(h: u64) -> u8
     ensures of { result ≡ home_of h }
-    ensures range { result < 64 }
+    ensures range { result < homes }
 {
-    (h >> 8 & 63) as u8
+    (h >> 8 & HOME_BITS) as u8
 }
 
 /// The number of the probing bucket of a home bucket: the next one, and the first after the last.
 pub fn probing(home: u8) -> u8
-    requires { home < 64 }
+    requires { home < homes }
     ensures of { result ≡ probing_of home }
-    ensures range { result < 64 }
+    ensures range { result < homes }
 {
-    (home + 1) % 64
+    (home + 1) % HOMES
 }
 
 /// The number of the bucket after the probing bucket of a home bucket; the two last ones are followed by the first two.
 pub fn next(home: u8) -> u8
-    requires { home < 64 }
+    requires { home < homes }
     ensures of { result ≡ next_of home }
-    ensures range { result < 64 }
+    ensures range { result < homes }
 {
-    (home + 2) % 64
+    (home + 2) % HOMES
 }
 
 /// The number of the bucket before a home bucket: the last one before the first.
 pub fn previous(home: u8) -> u8
-    requires { home < 64 }
+    requires { home < homes }
     ensures of { result ≡ previous_of home }
-    ensures range { result < 64 }
+    ensures range { result < homes }
 {
-    (home + 63) % 64
+    (home + (HOMES - 1)) % HOMES
 }
 
 /// The fingerprint of a record with this hash: its lowest byte.

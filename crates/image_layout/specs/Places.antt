@@ -1,6 +1,7 @@
 -- Where the parts of an image stand, by word number. An image is a list of 64-bit words.
 use Rattle.std.specs.Prelude.{ℕ, ◌+◌, ◌-◌, ◌*◌, ◌/◌, ◌^◌, ◌≤◌}
 use Rattle.bucket_meta.specs.Bucket.{record_slots}
+pub use Rattle.hash_word.specs.Hash.{homes}
 
 -- how many slots for segments an image may have at most, and how deep its directory may be
 abbrev pub most_segments : ℕ
@@ -13,10 +14,7 @@ most_depth = 16
 abbrev pub block : ℕ
 block = 32
 
--- how many buckets of a segment are homes, and how many stash buckets stand behind them
-abbrev pub homes : ℕ
-homes = 64
-
+-- how many stash buckets a segment has, behind its homes
 abbrev pub stash_buckets : ℕ
 stash_buckets = 2
 

@@ -8,8 +8,9 @@ mod laws;
 mod shape;
 pub mod state;
 
+pub use hash_word::HOMES;
 pub use laws::{parts_apart, parts_within, shape_in_range};
 pub use shape::{
-    BLOCK, BUCKETS, GeoFault, Geometry, HOMES, LAST_OF_BUCKETS, MOST_DEPTH, MOST_SEGMENTS,
-    MOST_WORDS, ROOT_WORD, SEGMENT_WORDS, STASH_BUCKETS, STATE_WORD, WORDS_OF_BUCKETS,
+    BLOCK, BUCKETS, GeoFault, Geometry, LAST_OF_BUCKETS, MOST_DEPTH, MOST_SEGMENTS, MOST_WORDS,
+    ROOT_WORD, SEGMENT_WORDS, STASH_BUCKETS, STATE_WORD, WORDS_OF_BUCKETS,
 };

@@ -5,6 +5,7 @@ ghost use Rattle.image_layout.specs.Volatile.{counter_word, power_word, allocati
 ghost use Rattle.image_layout.specs.Places.{IsShape, largest_shape, first_segment, words_of, entry_at, head_at, bucket_at, block, homes, stash_buckets, buckets, segment_words, most_words, most_segments, most_depth};
 
 use bucket_meta::words::BUCKET_WORDS;
+use hash_word::HOMES;
 use std::error::Error;
 use std::fmt;
 use std::marker::Model;
@@ -15,8 +16,6 @@ pub const ROOT_WORD: u64 = 8;
 pub const STATE_WORD: u64 = 16;
 /// How many words the front of an image, a header and a bucket have.
 pub const BLOCK: u64 = BUCKET_WORDS as u64;
-/// How many buckets of a segment are homes.
-pub const HOMES: u8 = 64;
 /// How many stash buckets a segment has, behind its homes.
 pub const STASH_BUCKETS: u8 = 2;
 /// How many buckets a segment has.

@@ -66,8 +66,8 @@ impl Memory {
     /// How many locks of the segment in slot 0 are taken.
     pub fn locks(&self) -> u64 {
         let mut taken = 0u64;
-        for bucket in 0..66u64 {
-            if self.word(96 + 32 * bucket) % 2 == 1 {
+        for bucket in 0..BUCKETS {
+            if self.word(96 + 32 * u64::from(bucket)) % 2 == 1 {
                 taken = taken.wrapping_add(1);
             }
         }

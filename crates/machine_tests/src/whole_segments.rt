@@ -1,7 +1,7 @@
 //! The file format's own examples: a stash full of notes, a key that stands twice after a cut, and segments without room.
 use crate::memory::Memory;
 use crate::rows::{Deeds, numbers};
-use image_layout::Geometry;
+use image_layout::{BUCKETS, Geometry, HOMES};
 use op_core::{Ans, Want};
 use std::alloc::Global;
 use std::test::Fail;
@@ -30,13 +30,13 @@ fn full_home(halves: bool) -> Loaded {
     for slot in 0..14u8 {
         loaded.set_key(0, slot, key_of(2 * slot, halves));
         loaded.set_key(1, slot, key_of(2 * slot + 1, halves));
-        loaded.set_key(64, slot, key_of(28 + slot, halves));
-        loaded.set_key(65, slot, key_of(42 + slot, halves));
+        loaded.set_key(HOMES, slot, key_of(28 + slot, halves));
+        loaded.set_key(HOMES + 1, slot, key_of(42 + slot, halves));
     }
     loaded.set_first(0, 0x3FFF);
     loaded.set_first(1, 0x0FFF_FFFF);
-    loaded.set_first(64, 0x3FFF);
-    loaded.set_first(65, 0x3FFF);
+    loaded.set_first(HOMES, 0x3FFF);
+    loaded.set_first(HOMES + 1, 0x3FFF);
     loaded
 }
 
@@ -51,7 +51,7 @@ impl Segments {
 
     /// Lays what a word tells of a bucket, a slot and a key, or of a bucket and a word of it, and says whether it is such a word.
     fn lays(&mut self, word: &str, told: &[u64; 4]) -> bool {
-        let bucket = (told[0] % 66) as u8;
+        let bucket = (told[0] % BUCKETS as u64) as u8;
         match word {
             "blank" => self.loaded = Loaded::blank(),
             "full" => self.loaded = full_home(false),
@@ -67,7 +67,7 @@ impl Segments {
     /// What is answered of a bucket, a depth and a pattern, of a hash, or of a word and some slots.
     fn answered(&self, geometry: &Geometry, word: &str, told: &[u64; 4]) -> [u64; 3] {
         let loaded = &self.loaded;
-        let bucket = (told[0] % 66) as u8;
+        let bucket = (told[0] % BUCKETS as u64) as u8;
         let depth = (told[1] % 65) as u8;
         let pattern = (told[2] % 2) as u32;
         let slots = told[1] % 16384;
@@ -76,15 +76,15 @@ impl Segments {
             "spoiled" => [loaded.spoiled_slots(geometry, bucket, depth, pattern), 0, 0],
             "half" => {
                 let first = loaded.half(geometry, depth, pattern).first;
-                [first[0], first[1], first[64]]
+                [first[0], first[1], first[HOMES as usize]]
             }
             "rest" => {
                 let first = loaded.without_half(geometry, depth, pattern).first;
-                [first[0], first[1], first[64]]
+                [first[0], first[1], first[HOMES as usize]]
             }
             "mended" => {
                 let first = loaded.mended(geometry, depth, pattern).first;
-                [first[1], first[2], first[65]]
+                [first[1], first[2], first[HOMES as usize + 1]]
             }
             "room" => [u64::from(loaded.has_no_room(told[0])), 0, 0],
             "copied" => [copied_mark(told[0], slots), 0, 0],
@@ -92,7 +92,11 @@ impl Segments {
             _ => {
                 let notes = rebuilt_notes(loaded, geometry);
                 if told[0] == 1 {
-                    [notes.first[0], notes.first[1], notes.first[63]]
+                    [
+                        notes.first[0],
+                        notes.first[1],
+                        notes.first[HOMES as usize - 1],
+                    ]
                 } else {
                     [notes.third[0], notes.third[1], 0]
                 }

@@ -65,7 +65,7 @@ impl Notes {
         }
         self.home = metas[0];
         self.probe = metas[1];
-        metas[63].write()
+        metas[HOMES as usize - 1].write()
     }
 
     /// The stash buckets to be visited for a record of this home, of the home before, and of the next home.

@@ -1,7 +1,7 @@
 //! Words of the file format and numbers of words, from outside: the first number of the SplitMix64 stream from state 0 is one of the hashes.
 use crate::rows::{TellsOfNumbers, hex, said, shown, walk_numbers};
 use hash_word::{covers, dir_index, finger, home, next, previous, probing};
-use image_layout::Geometry;
+use image_layout::{BUCKETS, Geometry, HOMES};
 use segment_head::{Head, version, word};
 use std::alloc::Global;
 use std::test::Fail;
@@ -26,7 +26,7 @@ impl TellsOfNumbers for Hashes {
                 let pattern = u32::try_from(*pattern)?;
                 shown(alloc, &covers(*depth as u8, pattern, *hash))
             }
-            ("around", [bucket]) if *bucket < 64 => {
+            ("around", [bucket]) if *bucket < HOMES as u64 => {
                 let bucket = *bucket as u8;
                 shown(alloc, &(previous(bucket), probing(bucket), next(bucket)))
             }
@@ -69,7 +69,7 @@ fn shape_told(alloc: Global, geometry: &Geometry) -> Result<String, Fail> {
     let words = [
         geometry.words(),
         geometry.head_at(last),
-        geometry.bucket_at(last, 63),
+        geometry.bucket_at(last, HOMES - 1),
         geometry.stash_at(last, 1),
         geometry.entry_at(geometry.depth(), (1 << geometry.depth()) - 1),
     ];
@@ -108,7 +108,7 @@ impl TellsOfNumbers for Places {
             ("guards", []) => guards_told(alloc, &geometry),
             ("entry", [hash, root]) => shown(alloc, &entry_word(&geometry, *hash, *root)),
             ("head", [segment]) => shown(alloc, &head_word(&geometry, *segment)),
-            ("bucket", [segment, bucket]) if *bucket < 66 => {
+            ("bucket", [segment, bucket]) if *bucket < BUCKETS as u64 => {
                 shown(alloc, &bucket_word(&geometry, *segment, *bucket as u8))
             }
             _ => Err(Fail::new(name)),

@@ -9,7 +9,7 @@ use Rattle.world.specs.Ground.{IsLockWord, IsUnder}
 
 -- a home is one of the buckets before the stash
 pub home_near : (shape : Shape) (k : ℕ) → home_of (key_hash shape k) < homes
-home_near shape k = let h = key_hash shape k in let r : h / 2 ^ 8 % 2 ^ 6 < 64 = omega arith in r
+home_near shape k = let h = key_hash shape k in let r : h / 2 ^ 8 % 64 < 64 = omega arith in r
 
 one_start : (f s q b c lock other i : ℕ) → b < 66 → c < 66 → lock ≡ f + 2144 * s + 32 + 32 * b → other ≡ f + 2144 * q + 32 + 32 * c
     → lock < i → i < lock + 32 → other < i → i < other + 32 → lock ≡ other

@@ -27,7 +27,7 @@ module _ (site : Ground) (v : View) (call : Call) (s : ℕ) (word : Words) (d : 
   b = home_of (key_hash site.shape k)
 
   near : b < 64
-  near = let h = key_hash site.shape k in let r : h / 2 ^ 8 % 2 ^ 6 < 64 = omega arith in r
+  near = let h = key_hash site.shape k in let r : h / 2 ^ 8 % 64 < 64 = omega arith in r
 
   -- what was exact before a record left does not name another that is there
   not_left : (added : Bool) (note : OverflowNote) (notes : List OverflowNote) (count : ℕ) (stashed : List OverflowNote) (sought : OverflowNote) → added ≡ false → IsOwedOf added note notes count stashed → how_often sought notes ≡ 0 → count ≡ 0

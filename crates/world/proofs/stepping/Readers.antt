@@ -22,7 +22,7 @@ module _ (site : Ground) (v : View) where
   home k = home_of (key_hash site.shape k)
 
   home_near : (k : ℕ) → home k < 64
-  home_near k = let h = key_hash site.shape k in let r : h / 2 ^ 8 % 2 ^ 6 < 64 = omega arith in r
+  home_near k = let h = key_hash site.shape k in let r : h / 2 ^ 8 % 64 < 64 = omega arith in r
 
   stash_of : (b : ℕ) → b < 66 → 64 ≤ b → (c : ℕ) × (c < 2) × (b ≡ 64 + c)
   stash_of b near above = (b - 64, omega (arith, near, above), omega (arith, above))
