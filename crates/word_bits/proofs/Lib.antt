@@ -1,2 +1,1 @@
 pub mod OneBit
-pub mod Fits

@@ -1,10 +1,9 @@
 -- The marks of a slot leave the upper part of the metadata word, which has the overflow notes, and are words.
-use Rattle.std.proofs.Common.{◌≡◌, ℕ, ◌+◌, ◌-◌, ◌/◌, ◌%◌, ◌^◌, ◌<◌, cond, ◌∙◌, ap, sym, subst, arith, bit_and, bit_or}
+use Rattle.std.proofs.Common.{◌≡◌, ℕ, ◌+◌, ◌-◌, ◌/◌, ◌%◌, ◌^◌, ◌<◌, cond, ◌∙◌, ap, sym, subst, lt_of_le_of_lt, arith, bit_and, bit_or}
 use Rattle.std.specs.Int.{bit_not, w64}
 use Rattle.std.proofs.lemmas.Bool.{lt-ltb}
-use Rattle.std.proofs.lemmas.Nat.{and_shr, or_shr, and_mask, and_le_r, or_lt, or_disjoint, pow_below}
+use Rattle.std.proofs.lemmas.Nat.{and_shr, or_shr, and_mask, and_le_l, and_le_r, or_lt, or_disjoint, pow_below}
 use Rattle.word_bits.specs.Bits.{mask}
-use Rattle.word_bits.proofs.Fits.{and_fits}
 use Rattle.bucket_meta.specs.Marks.{inserted_mark, member_mark, removed_mark}
 
 mask_is : (i : ℕ) → i < 64 → mask i ≡ 2 ^ i
@@ -41,13 +40,13 @@ module _ (w s : ℕ) (fits : w < 2 ^ 64) (slot : s < 14) where
   member_upper = set_upper (bit_or w (mask s)) (14 + s) (omega (arith, slot)) ∙ set_upper w s (omega (arith, slot))
 
   pub removed_upper : removed_mark w s / 2 ^ 28 ≡ w / 2 ^ 28
-  removed_upper = clear_upper (bit_and w (bit_not w64 (mask s))) (14 + s) (and_fits w (bit_not w64 (mask s)) fits) (omega (arith, slot)) ∙ clear_upper w s fits (omega (arith, slot))
+  removed_upper = clear_upper (bit_and w (bit_not w64 (mask s))) (14 + s) (lt_of_le_of_lt (and_le_l w (bit_not w64 (mask s))) fits) (omega (arith, slot)) ∙ clear_upper w s fits (omega (arith, slot))
 
   pub inserted_fits : inserted_mark w s < 2 ^ 64
-  inserted_fits = and_fits (bit_or w (mask s)) (bit_not w64 (mask (14 + s))) (set_fits w s fits (omega (arith, slot)))
+  inserted_fits = lt_of_le_of_lt (and_le_l (bit_or w (mask s)) (bit_not w64 (mask (14 + s)))) (set_fits w s fits (omega (arith, slot)))
 
   pub member_fits : member_mark w s < 2 ^ 64
   member_fits = set_fits (bit_or w (mask s)) (14 + s) (set_fits w s fits (omega (arith, slot))) (omega (arith, slot))
 
   pub removed_fits : removed_mark w s < 2 ^ 64
-  removed_fits = and_fits (bit_and w (bit_not w64 (mask s))) (bit_not w64 (mask (14 + s))) (and_fits w (bit_not w64 (mask s)) fits)
+  removed_fits = lt_of_le_of_lt (and_le_l (bit_and w (bit_not w64 (mask s))) (bit_not w64 (mask (14 + s)))) (lt_of_le_of_lt (and_le_l w (bit_not w64 (mask s))) fits)

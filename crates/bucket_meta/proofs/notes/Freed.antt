@@ -1,10 +1,9 @@
 -- An note slot is freed in the words of its bucket: its own bits alone change.
-use Rattle.std.proofs.Common.{◌≡◌, ◌≢◌, ℕ, zero, suc, ◌+◌, ◌-◌, ◌*◌, ◌/◌, ◌%◌, ◌^◌, ◌<◌, refl, ap, ◌∙◌, arith, bit_and}
+use Rattle.std.proofs.Common.{◌≡◌, ◌≢◌, ℕ, zero, suc, ◌+◌, ◌-◌, ◌*◌, ◌/◌, ◌%◌, ◌^◌, ◌<◌, refl, ap, ◌∙◌, lt_of_le_of_lt, arith, bit_and}
 use Rattle.std.specs.Int.{bit_not, w64}
 use Rattle.std.proofs.lemmas.Nat.{and_shr, and_mod, and_mask, and_le_l}
 use Rattle.word_bits.specs.Bits.{bits, bit, mask}
 use Rattle.word_bits.proofs.OneBit.{clear_same, clear_other}
-use Rattle.word_bits.proofs.Fits.{and_fits}
 use Rattle.bucket_meta.specs.Bucket.{note_used, note_member, note_index, note_finger, overflow_count}
 use Rattle.bucket_meta.specs.NoteWords.{finger_bits, freed_mark, freed_fingers, FreesPlace}
 use Rattle.bucket_meta.proofs.Fingers.{byte_there}
@@ -48,8 +47,8 @@ module _ (w : ℕ) (fits : w < 2 ^ 64) where
   above_by : (a b c : ℕ) → (2 ^ 64 - 1 - a) / 2 ^ 40 ≡ 2 ^ 24 - 1 → (2 ^ 64 - 1 - b) / 2 ^ 40 ≡ 2 ^ 24 - 1 → (2 ^ 64 - 1 - c) / 2 ^ 40 ≡ 2 ^ 24 - 1
       → bit_and (bit_and (bit_and w (2 ^ 64 - 1 - a)) (2 ^ 64 - 1 - b)) (2 ^ 64 - 1 - c) / 2 ^ 40 ≡ w / 2 ^ 40
   above_by a b c p q r =
-      above (bit_and (bit_and w (2 ^ 64 - 1 - a)) (2 ^ 64 - 1 - b)) c (and_fits (bit_and w (2 ^ 64 - 1 - a)) (2 ^ 64 - 1 - b) (and_fits w (2 ^ 64 - 1 - a) fits)) r
-      ∙ above (bit_and w (2 ^ 64 - 1 - a)) b (and_fits w (2 ^ 64 - 1 - a) fits) q ∙ above w a fits p
+      above (bit_and (bit_and w (2 ^ 64 - 1 - a)) (2 ^ 64 - 1 - b)) c (lt_of_le_of_lt (and_le_l (bit_and w (2 ^ 64 - 1 - a)) (2 ^ 64 - 1 - b)) (lt_of_le_of_lt (and_le_l w (2 ^ 64 - 1 - a)) fits)) r
+      ∙ above (bit_and w (2 ^ 64 - 1 - a)) b (lt_of_le_of_lt (and_le_l w (2 ^ 64 - 1 - a)) fits) q ∙ above w a fits p
 
   below_by : (a b c : ℕ) → (2 ^ 64 - 1 - a) % 2 ^ 28 ≡ 2 ^ 28 - 1 → (2 ^ 64 - 1 - b) % 2 ^ 28 ≡ 2 ^ 28 - 1 → (2 ^ 64 - 1 - c) % 2 ^ 28 ≡ 2 ^ 28 - 1
       → bit_and (bit_and (bit_and w (2 ^ 64 - 1 - a)) (2 ^ 64 - 1 - b)) (2 ^ 64 - 1 - c) % 2 ^ 28 ≡ w % 2 ^ 28

@@ -1,11 +1,10 @@
 -- A note is put on a note slot in the words of its bucket: its own bits alone change.
-use Rattle.std.proofs.Common.{◌≡◌, ◌≢◌, ℕ, zero, suc, ◌+◌, ◌-◌, ◌*◌, ◌/◌, ◌%◌, ◌^◌, ◌<◌, Bool, true, false, refl, ap, ◌∙◌, arith, bit_and, bit_or}
+use Rattle.std.proofs.Common.{◌≡◌, ◌≢◌, ℕ, zero, suc, ◌+◌, ◌-◌, ◌*◌, ◌/◌, ◌%◌, ◌^◌, ◌<◌, Bool, true, false, refl, ap, ◌∙◌, lt_of_le_of_lt, arith, bit_and, bit_or}
 use Rattle.std.specs.Prelude.{◌==◌, if◌then◌else◌}
 use Rattle.std.specs.Int.{bit_not, w64}
 use Rattle.std.proofs.lemmas.Nat.{and_shr, and_mod, and_mask, and_le_l, and_le_r, or_shr, or_mod, or_lt, or_disjoint}
 use Rattle.word_bits.specs.Bits.{bits, bit, mask}
 use Rattle.word_bits.proofs.OneBit.{set_same, set_other, clear_same, clear_other}
-use Rattle.word_bits.proofs.Fits.{and_fits}
 use Rattle.bucket_meta.specs.Bucket.{note_finger}
 use Rattle.bucket_meta.specs.NoteWords.{with_bit, with_note_finger, noted_mark, noted_fingers, KeepsOtherPlaces, FillsPlace}
 use Rattle.bucket_meta.proofs.Fingers.{byte_there, sets_low}
@@ -50,7 +49,7 @@ module _ (m : ℕ) (is : IsMiddle m) where
 
   put_fits : (b : Bool) (w : ℕ) → w < 2 ^ 64 → put b w m < 2 ^ 64
   put_fits true w fits = or_lt 64 w m fits is.small
-  put_fits false w fits = and_fits w (2 ^ 64 - 1 - m) fits
+  put_fits false w fits = lt_of_le_of_lt (and_le_l w (2 ^ 64 - 1 - m)) fits
 
 -- three of them
 module _ (a b c : ℕ) (p : IsMiddle a) (q : IsMiddle b) (r : IsMiddle c) (x y z : Bool) (w : ℕ) (fits : w < 2 ^ 64) where
@@ -257,7 +256,7 @@ pub noted_fits : (w i side finger index : ℕ) → w < 2 ^ 64 → i < 4 → fing
 noted_fits w zero side finger index fits l small = (flagged_leaves w side index fits 0 l).small
 noted_fits w (suc zero) side finger index fits l small = (flagged_leaves w side index fits 1 l).small
 noted_fits w (suc (suc zero)) side finger index fits l small =
-    or_lt 64 (bit_and (flagged w 2 side index) (2 ^ 64 - 1 - 255 * 2 ^ 45)) (finger * 2 ^ 45) (and_fits (flagged w 2 side index) (2 ^ 64 - 1 - 255 * 2 ^ 45) (flagged_leaves w side index fits 2 l).small) (omega (arith, small))
+    or_lt 64 (bit_and (flagged w 2 side index) (2 ^ 64 - 1 - 255 * 2 ^ 45)) (finger * 2 ^ 45) (lt_of_le_of_lt (and_le_l (flagged w 2 side index) (2 ^ 64 - 1 - 255 * 2 ^ 45)) (flagged_leaves w side index fits 2 l).small) (omega (arith, small))
 noted_fits w (suc (suc (suc zero))) side finger index fits l small =
-    or_lt 64 (bit_and (flagged w 3 side index) (2 ^ 64 - 1 - 255 * 2 ^ 53)) (finger * 2 ^ 53) (and_fits (flagged w 3 side index) (2 ^ 64 - 1 - 255 * 2 ^ 53) (flagged_leaves w side index fits 3 l).small) (omega (arith, small))
+    or_lt 64 (bit_and (flagged w 3 side index) (2 ^ 64 - 1 - 255 * 2 ^ 53)) (finger * 2 ^ 53) (lt_of_le_of_lt (and_le_l (flagged w 3 side index) (2 ^ 64 - 1 - 255 * 2 ^ 53)) (flagged_leaves w side index fits 3 l).small) (omega (arith, small))
 noted_fits w (suc (suc (suc (suc i)))) side finger index fits l small = absurd (omega (arith, l))

@@ -1,10 +1,10 @@
 -- A change puts words alone into the memory, and asks for words of the image and those right behind it.
-use Rattle.std.proofs.Common.{◌≡◌, ℕ, ◌+◌, ◌*◌, ◌%◌, ◌^◌, ◌<◌, ◌≤◌, Option, Some, None, List, refl, sym, subst, arith, slice_index}
+use Rattle.std.proofs.Common.{◌≡◌, ℕ, ◌+◌, ◌*◌, ◌%◌, ◌^◌, ◌<◌, ◌≤◌, Option, Some, None, List, refl, sym, subst, lt_of_le_of_lt, arith, slice_index, bit_and}
 use Rattle.std.specs.Prelude.{⊤, ◌==◌}
 use Rattle.std.specs.Int.{bit_not, w64}
+use Rattle.std.proofs.lemmas.Nat.{and_le_l}
 use Rattle.hash_word.specs.Hash.{finger_of}
 use Rattle.word_bits.specs.Bits.{mask}
-use Rattle.word_bits.proofs.Fits.{and_fits}
 use Rattle.bucket_meta.specs.Bucket.{record_slots}
 use Rattle.bucket_meta.specs.Marks.{finger_place}
 use Rattle.bucket_meta.specs.NoteWords.{note_place, freed_mark, freed_fingers, lowered_count, finger_bits}
@@ -58,7 +58,11 @@ use Rattle.write_op.proofs.permitting.Publishing.{located_all, key_is, value_is,
 
 -- ---- marks
 freed_small : (w i : ℕ) → w < 2 ^ 64 → freed_mark w i < 2 ^ 64
-freed_small w i fits = and_fits _ (bit_not w64 (finger_bits i)) (and_fits _ (bit_not w64 (mask (36 + i))) (and_fits _ (bit_not w64 (mask (32 + i))) (and_fits w (bit_not w64 (mask (28 + i))) fits)))
+freed_small w i fits =
+    let a = lt_of_le_of_lt (and_le_l w (bit_not w64 (mask (28 + i)))) fits in
+    let b = lt_of_le_of_lt (and_le_l (bit_and w (bit_not w64 (mask (28 + i)))) (bit_not w64 (mask (32 + i)))) a in
+    let c = lt_of_le_of_lt (and_le_l (bit_and (bit_and w (bit_not w64 (mask (28 + i)))) (bit_not w64 (mask (32 + i)))) (bit_not w64 (mask (36 + i)))) b in
+    lt_of_le_of_lt (and_le_l (bit_and (bit_and (bit_and w (bit_not w64 (mask (28 + i)))) (bit_not w64 (mask (32 + i)))) (bit_not w64 (mask (36 + i)))) (bit_not w64 (finger_bits i))) c
 
 fingers_small : (w i : ℕ) → w < 2 ^ 64 → freed_fingers w i < 2 ^ 64
 fingers_small w i fits = either_small (i == 0) _ _ (finger_below w 6 0 (omega arith)) (either_small (i == 1) _ w (finger_below w 7 0 (omega arith)) fits)
