@@ -116,7 +116,7 @@ on 97=0x10000000000
 other 107 2176 4
 do insert 7 -> (Some(Again(Moved { word: 2176, before: 0, after: 4 })), None)
 has 2176=4 96=2 128=2 2144=2
-# Each of the four locks has its last version; and the counter has its last value.
+# Each of the four locks has its last version; and the counter is 2^63.
 on 97=0x10000000000 96=0xFFFFFFFFFFFFFFFE 2208=6
 do insert 7 -> (Some(Replied(Spent, 6)), None)
 has 96=0xFFFFFFFFFFFFFFFE

@@ -23,7 +23,7 @@ all_of lists = flat_map (λ list. list) lists
 abbrev pub draws : List Entry → ℕ
 draws all = length (filter (λ e. e.drew) all)
 
--- who finds so many places drawn draws none
+-- who finds so many places drawn, or more, is answered as spent and draws none; who found fewer may draw behind them
 abbrev pub spent_count : ℕ
 spent_count = 2 ^ 63
 

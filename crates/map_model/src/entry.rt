@@ -18,7 +18,7 @@ pub enum Reply {
     Full,
     /// An `insert` found no room, and its segment is as deep as the image allows.
     Deep,
-    /// A change needed a version or a place beyond the last one.
+    /// A change needed a lock of the last version, or found 2^63 places drawn or more.
     Spent,
 }
 

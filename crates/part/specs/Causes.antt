@@ -214,7 +214,7 @@ module _ (shape : Shape) (words : Words) (did : Doings) (call : Call) where
   NoSlotIsFree = (slot : ℕ) → slot < shape.segments → (head : ℕ) × WasHead slot head × (state_in head ≢ free)
 
   -- ---- spent
-  -- the commit counter has no place left, or the attempt loaded one of the lock words as free with its last version
+  -- the commit counter is 2^63 or more, or the attempt loaded one of the lock words as free with its last version
   abbrev pub IsSpent : Type 0
   IsSpent = (spent_count ≤ words (counter_word shape)) ⊎ ((lock : ℕ) × IsOwnLock lock × Has (lock, spent_lock) did.loads)
 

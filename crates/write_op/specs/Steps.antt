@@ -157,7 +157,7 @@ decided task seen count (Insert value) = inserting task seen count (found seen t
 decided task seen count (Update value) = changing task seen count (found seen task.change.key)
 decided task seen count Remove = changing task seen count (found seen task.change.key)
 
--- the commit counter gives no place from 2^63 on
+-- who finds the commit counter at 2^63 or above is answered as spent, and draws nothing
 abbrev pub counted : Task → Seen → ℕ → Stage
 counted task seen count = if nat_le spent_count count then answered seen count reply.Spent else decided task seen count task.change.effect
 

@@ -15,7 +15,7 @@ use phase::{
     back_next, give_next, given, load_put, make_next, take_next, walk_next,
 };
 
-/// From this many changes on, the commit counter gives no place.
+/// A change that finds the commit counter at this number or above is answered as spent, and draws nothing.
 const SPENT_COUNT: u64 = 1 << 63;
 
 // ---- ends
