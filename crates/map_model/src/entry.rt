@@ -3,6 +3,9 @@
 use crate::call::Call;
 use std::fmt;
 
+/// A change that finds so many places drawn, or more, is answered [`Reply::Spent`] and draws none.
+pub const SPENT_COUNT: u64 = 1 << 63;
+
 /// The answer to a call.
 #[derive(Clone, Copy, Debug, PartialEq, Eq)]
 pub enum Reply {
@@ -18,7 +21,7 @@ pub enum Reply {
     Full,
     /// An `insert` found no room, and its segment is as deep as the image allows.
     Deep,
-    /// A change needed a lock of the last version, or found 2^63 places drawn or more.
+    /// A change needed a lock of the last version, or found [`SPENT_COUNT`] places drawn or more.
     Spent,
 }
 

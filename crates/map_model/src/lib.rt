@@ -16,7 +16,7 @@ mod plain_map;
 
 pub use call::Call;
 pub use change::{Change, Effect};
-pub use entry::{Entry, Reply, Stop};
+pub use entry::{Entry, Reply, SPENT_COUNT, Stop};
 pub use laws::{
     drawn_keeps_legal, later_entries_keep, legal_by_places, loaded_keeps_legal, weave_leaves_draws,
 };

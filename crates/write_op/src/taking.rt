@@ -8,15 +8,12 @@ use crate::asking::lock_of;
 use crate::search::{found, has_finger, leaves_note, record_at, room_in, unnoted, visits};
 use crate::step::{Seen, Spot, Stage, Task, WriteEnd, WriteStep};
 use bucket_meta::words::BUCKET_WORDS;
-use map_model::{Effect, Reply};
+use map_model::{Effect, Reply, SPENT_COUNT};
 use op_core::{Ans, Why};
 use phase::{
     Back, Backed, Ending, Held, Load, Made, Make, NoteWord, Path, Role, Take, Taken, Walked,
     back_next, give_next, given, load_put, make_next, take_next, walk_next,
 };
-
-/// A change that finds the commit counter at this number or above is answered as spent, and draws nothing.
-const SPENT_COUNT: u64 = 1 << 63;
 
 // ---- ends
 
