@@ -107,7 +107,7 @@ module _ (kept : Kept) where
   kind_at (Ended end) = peeks root_word
 
 -- ---- what is held and known
--- the next bucket was tried, and is held
+-- the first direction was tried: the next bucket is held, and by the words that are kept no record can move on
 pub record HasTriedNext (kept : Kept) : Type 0 where
   pub held : IsHeld kept.held Next
   pub stays : StaysForward kept

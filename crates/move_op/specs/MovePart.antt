@@ -37,7 +37,7 @@ module _ (site : Ground) (kept : Kept) (did : Doings) where
   HasTried Forward = ⊤
   HasTried Backward = WasLoaded kept did.loads Next × NothingMovesOn (slice_index kept.buckets.probing 1) (slice_index kept.buckets.next 1)
 
-  -- the lock word of a third bucket was loaded as free with the last version, when it was tried
+  -- the lock word of a third bucket that had its turn was loaded as free with the last version
   abbrev pub LoadedSpent : Type 0
   LoadedSpent = (direction : Direction) × HasTried direction × Has (lock_of kept (target_of direction), spent_lock) did.loads
 

@@ -11,7 +11,7 @@ use Rattle.move_op.specs.declared.step.Direction.TheVariants.{Forward, Backward}
 use Rattle.move_op.specs.declared.step.Shift.{Shift}
 use Rattle.move_op.specs.Shifts.{source_of, target_of, bit_of}
 
--- by the words of the next bucket no record can move on to it
+-- by the metadata words of the probing and the next bucket no record can move on
 abbrev pub StaysForward : Kept → Type 0
 StaysForward kept = HasOnlyMembers (slice_index kept.buckets.probing 1) ⊎ IsFull (slice_index kept.buckets.next 1)
 

@@ -41,7 +41,7 @@ use Rattle.move_op.specs.Shifts.{target_of, shift_in, place_of, record_of}
 use Rattle.image_layout.specs.Places.{block}
 
 -- ---- ends
--- what is kept, and the next event
+-- what is kept, and the next step
 abbrev pub go : Kept → MoveStep → MoveOp
 go kept next = record { kept = kept; step = next }
 
@@ -125,7 +125,7 @@ module _ (kept : Kept) where
   next_in (Give held end) Passed = go kept (giving (given held) end)
   next_in same ans = go kept same
 
--- no word of a bucket is loaded
+-- any step but the load of a bucket's words
 abbrev pub IsElsewhere : MoveStep → Type 0
 IsElsewhere (Fill direction load) = ⊥
 IsElsewhere more = ⊤
@@ -140,7 +140,7 @@ wanted op = wanted_in op.kept op.step
 abbrev pub taken : MoveOp → Ans → MoveOp
 taken op ans = next_in op.kept op.step ans
 
--- how it ended
+-- how it ended, or will once its locks are given back; before that it counts as one with the power off
 abbrev pub end_at : MoveStep → MoveEnd
 end_at (Ended end) = end
 end_at (Give held end) = end_of end

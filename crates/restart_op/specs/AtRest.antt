@@ -1,5 +1,5 @@
--- A table at rest, as a close leaves it and a restart finds it, and the structure on which callers run in between. Of stale segments, which live
--- and have not the version of the image, nothing is said but what the structure says.
+-- A segment at rest, and the structure behind a restart and in front of a close. Of stale segments, which live and have not the version of the
+-- image, nothing is said but what the structure says.
 use Rattle.std.specs.Prelude.{◌≡◌, ℕ, ◌<◌, Some}
 use Rattle.bucket_meta.specs.Bucket.{lock_of}
 use Rattle.segment_head.specs.HeadWord.{normal}
@@ -24,7 +24,8 @@ module _ (shape : Shape) (word : Words) where
   abbrev pub IsCurrent : ℕ → Type 0
   IsCurrent s = IsCurrentSlot (frame_of shape word) (image_version (frame_of shape word)) s
 
-  -- THE STRUCTURE between a restart and a close: a sound one, the marker clear, where each current segment is normal, so that it takes calls
+  -- THE STRUCTURE behind a restart and in front of a close: a sound one, the marker clear, where each current segment is normal, so that it takes
+  -- calls
   pub record IsOpenStructure : Type 0 where
     pub frame : HasSoundFrame shape word
     pub not_clean : marker_in (word state_word) ≡ 0

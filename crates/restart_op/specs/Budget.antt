@@ -62,7 +62,7 @@ EndsAtNone = (op : RestartOp) → (left op ≡ 0 → wanted op ≡ want.Done) ×
 abbrev pub IsStateOrHead : Shape → ℕ → Type 0
 IsStateOrHead shape i = (i ≡ state_word) ⊎ ((s : ℕ) × (s < shape.segments) × (i ≡ header_word shape s))
 
--- an event on such a word or its line alone, or a wait
+-- an event on such a word or its line alone, or a fence, or nothing more
 abbrev pub IsOnStateOrHead : Shape → Want → Type 0
 IsOnStateOrHead shape (want.Load i) = IsStateOrHead shape i
 IsOnStateOrHead shape (want.Store i x) = IsStateOrHead shape i

@@ -59,7 +59,7 @@ abbrev pub EndsInTime : Type 0
 EndsInTime = (shape : Shape) → IsShape shape → (words : Words) (trace : Trace) (n : ℕ) → events_of shape ≤ n
     → wanted (close_after shape words trace n).op ≡ Done
 
--- never do more than eight flushed lines wait for a fence
+-- where no line waits before, never do more than eight flushed lines wait for a fence
 abbrev pub FewWait : Type 0
 FewWait = (shape : Shape) (words : Words) (trace : Trace) → pending 0 trace ≡ [] → (n : ℕ)
     → length (pending 0 (close_after shape words trace n).trace) ≤ most_unfenced
@@ -76,7 +76,7 @@ pub record SaysShapeInFront (shape : Shape) (front : Words) : Type 0 where
 abbrev pub HaveFit : Words → Trace → Type 0
 HaveFit start es = (i t : ℕ) → value_at start es t i < 2 ^ 64
 
--- the world is well, and all callers are done: nobody holds or owes anything. Its structure is one on which callers run
+-- the world is well, nobody holds or owes anything, and no line of caller 0 waits for a fence. Its structure is one on which callers run
 pub record AllAreQuiet (site : Ground) (start : Words) (world : World) : Type 0 where
   pub well : IsWell site start world
   pub nothing : (j : ℕ) (v : View) → At world.views j v → OwesNothing v
@@ -96,7 +96,7 @@ QuietAfterRestart = (shape : Shape) (words : List ℕ) (callers : ℕ) → IsSou
     → AllAreQuiet (site_of shape words callers) (slice_index words) (world_of shape words callers)
 
 -- ---- what it keeps
--- a medium is a sound image with the pairs of these words, and says its shape as they do
+-- a medium is a sound image with the pairs of these words, and its first four words are those of the ground
 pub record IsKept (site : Ground) (words : Words) (medium : List ℕ) : Type 0 where
   pub sound : IsSoundImage site.shape medium
   pub same : (k : ℕ) → find site.shape (slice_index medium) k ≡ find site.shape words k
@@ -110,25 +110,26 @@ CloseKeeps = (site : Ground) (start : Words) (world : World) → AllAreQuiet sit
     → IsPossible (words_of site.shape) start (close_after site.shape world.words world.trace n).trace (slice_index medium)
     → IsKept site world.words medium
 
--- what a close leaves: one medium, which has these words, and is a sound image with the marker set. Segments that were stale are so still
+-- a medium that a close leaves has these words, and is a sound image with the marker set; it may have stale segments
 pub record IsClosed (shape : Shape) (words : Words) (medium : List ℕ) : Type 0 where
   pub settled : (i : ℕ) → i < words_of shape → slice_index medium i ≡ words i
   pub clean : IsClean (frame_of shape (slice_index medium))
   pub sound : IsSoundImage shape medium
 
--- THE END OF A CLOSE: one medium alone may be left, the newest words, which are those of before with the marker set
+-- THE END OF A CLOSE: one medium alone may be left, the newest words
 abbrev pub CloseSettles : Type 0
 CloseSettles = (site : Ground) (start : Words) (world : World) → AllAreQuiet site start world → (n : ℕ)
     → wanted (close_after site.shape world.words world.trace n).op ≡ Done → (medium : List ℕ) → length medium ≡ words_of site.shape
     → IsPossible (words_of site.shape) start (close_after site.shape world.words world.trace n).trace (slice_index medium)
     → IsClosed site.shape (close_after site.shape world.words world.trace n).words medium
 
+-- which are those of before with the marker set
 abbrev pub CloseMarks : Type 0
 CloseMarks = (site : Ground) (start : Words) (world : World) → AllAreQuiet site start world → (n : ℕ)
     → wanted (close_after site.shape world.words world.trace n).op ≡ Done
     → (close_after site.shape world.words world.trace n).words ≡ with_word world.words state_word (world.words state_word + marker)
 
--- and leaves the structure as it was, but for the marker
+-- and the structure is as it was, but for the state word
 abbrev pub CloseKeepsStructure : Type 0
 CloseKeepsStructure = (site : Ground) (start : Words) (world : World) → AllAreQuiet site start world → (n : ℕ)
     → wanted (close_after site.shape world.words world.trace n).op ≡ Done → (i : ℕ) → IsStructure site.shape i → i ≢ state_word

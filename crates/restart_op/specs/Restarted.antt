@@ -75,7 +75,7 @@ pub record HasTheSame (shape : Shape) (words medium : List ℕ) : Type 0 where
   pub pairs : (m : Map) → HasPairsOf shape (slice_index words) m → HasPairsOf shape (slice_index medium) m
   pub front : (i : ℕ) → i < 4 → slice_index medium i ≡ slice_index words i
 
--- A CUT after any number of events, also in a sweep, leaves what was there
+-- A CUT after any number of events, also in a sweep, leaves the same pairs in a sound image
 abbrev pub RestartKeeps : Type 0
 RestartKeeps = (shape : Shape) (words medium : List ℕ) (n : ℕ) → IsSoundImage shape words → length medium ≡ words_of shape
     → IsPossible (words_of shape) (slice_index words) (restarted shape words n).trace (slice_index medium) → HasTheSame shape words medium
@@ -111,7 +111,7 @@ views_of callers = fresh_view 0 ∷ replicate callers (fresh_view 1)
 abbrev pub world_of : Shape → List ℕ → ℕ → World
 world_of shape words callers = record { words = words_at_end shape words; trace = (restarted_wholly shape words).trace; views = views_of callers }
 
--- THE WORLD IS THAT OF A RESTART of the image, for any callers
+-- THE WORLD IS THAT OF A RESTART of the image, for fewer than 2^32 callers
 abbrev pub IsRestart : Type 0
 IsRestart = (shape : Shape) (words : List ℕ) (callers : ℕ) → IsSoundImage shape words → callers < 2 ^ 32
     → IsRestartOf (site_of shape words callers) words (world_of shape words callers)

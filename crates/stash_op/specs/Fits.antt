@@ -195,7 +195,7 @@ module _ (site : Ground) (kept : Kept) (seen : Seen) where
     pub planned : v.planned ≡ call_of kept.change ∷ []
     pub owes : v.owed ≡ owed kept seen ∷ []
 
-  -- the record stands in its slot, by the words that are known, and its note is stored
+  -- the record stands in its slot, by the words that are known, and no note is owed any more
   pub record IsDrawing (v : View) : Type 0 where
     pub all : HasAll v
     pub word : Words

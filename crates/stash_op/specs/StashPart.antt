@@ -47,7 +47,7 @@ module _ (site : Ground) (kept : Kept) (seen : Seen) (did : Doings) where
   HasPassed First = ⊤
   HasPassed Second = LoadedFull (kept_in kept seen) did.loads place.First
 
-  -- the lock word of a stash bucket was loaded as free with the last version, when it was tried
+  -- the lock word of a stash bucket that had its turn was loaded as free with the last version
   abbrev pub LoadedSpent : Type 0
   LoadedSpent = (bucket : StashBucket) × HasPassed bucket × Has (lock_of kept (place_of bucket), spent_lock) did.loads
 
@@ -101,7 +101,7 @@ BeginsRemembering = (site : Ground) (kept : Kept) (did : Doings) → RemembersRo
 abbrev pub BeginsUndecided : Type 0
 BeginsUndecided = (kept : Kept) → outcome_at (begun kept).stage.step ≡ None
 
--- WHERE IT HANDS ON, both stash buckets are held and full too, and all else is as where it began; and it tells the segment that was kept
+-- WHERE IT HANDS ON, both stash buckets are held and full too, and what was so where it began is so still; and it tells the segment that was kept
 pub record HandsOnFull (site : Ground) (here : Site) (call : Call) (op : StashOp) (v : View) : Type 0 where
   pub may : MayBeStashed site here call (kept_of op)
   pub full : KeepsFull site (kept_of op) v
@@ -110,7 +110,7 @@ pub record HandsOnFull (site : Ground) (here : Site) (call : Call) (op : StashOp
 abbrev pub HandsOnAll : Type 0
 HandsOnAll = (site : Ground) (here : Site) (call : Call) (op : StashOp) (v : View) → StashStands site here call op v → needs_split op.stage.step ≡ true → HandsOnFull site here call op v
 
--- and it remembers as much, with the words of both stash buckets
+-- and it remembers as much, of each bucket that is held then
 pub record RemembersFull (site : Ground) (kept : Kept) (did : Doings) : Type 0 where
   pub room : RemembersRoom site kept did.loads
   pub nothing : NothingToMove kept did.loads

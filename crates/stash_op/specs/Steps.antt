@@ -44,7 +44,7 @@ use Rattle.stash_op.specs.Search.{place_of, note_place, free_slot, record_in, no
 use Rattle.image_layout.specs.Places.{block}
 
 -- ---- ends
--- what was seen, and the next event
+-- what was seen, and the next step
 abbrev pub go : Seen → StashStep → Stage
 go seen next = record { seen = seen; step = next }
 
@@ -151,7 +151,7 @@ module _ (kept : Kept) where
     next_in (Give held end) Passed = go seen (giving (given held) end)
     next_in same ans = go seen same
 
--- no word of a bucket is loaded
+-- any step but the load of a bucket's words
 abbrev pub IsElsewhere : StashStep → Type 0
 IsElsewhere (Fill bucket load) = ⊥
 IsElsewhere more = ⊤
@@ -174,7 +174,7 @@ wanted op = wanted_in op.kept op.stage.seen op.stage.step
 abbrev pub taken : StashOp → Ans → StashOp
 taken op ans = record { kept = op.kept; stage = next_in op.kept op.stage.seen op.stage.step ans }
 
--- how it ended; one that has not ended counts as one with the power off
+-- how it ended, or will once its locks are given back; before that it counts as one with the power off
 abbrev pub end_at : StashStep → StashEnd
 end_at (Ended end) = end
 end_at (Give held end) = end_of end

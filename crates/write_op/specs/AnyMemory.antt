@@ -1,5 +1,6 @@
--- WHATEVER VALUES ITS EVENTS FIND: what a change keeps was loaded, its events are of their kinds and ask for words of the image, a lock is
--- tried with a free value, and what moved or was taken is another's doing. No world, and no other caller, is named.
+-- WHATEVER VALUES ITS EVENTS FIND: what a change keeps was loaded, its events are of their kinds and ask for words of the image or right
+-- behind it, a lock is tried with a free value, and a word by which it is told to try again is none that it changed itself. No world, and no
+-- other caller, is named.
 use Rattle.std.specs.Prelude.{◌≡◌, ◌≢◌, ℕ, ◌^◌, ◌<◌, None, Some, List, [], ◌∷◌}
 use Rattle.op_core.specs.declared.want.Want.TheVariants.{Done}
 use Rattle.op_core.specs.declared.want.Ans.{Ans}
@@ -62,7 +63,7 @@ abbrev pub told_word : Why → ℕ
 told_word (Busy word value) = word
 told_word (Moved word before after) = word
 
--- WHAT MOVED, OR WAS TAKEN, IS ANOTHER'S DOING: an attempt that is told to try again has not changed the word that it is told, however
+-- WHAT MOVED, OR WAS TAKEN, IS NOT ITS OWN DOING: an attempt that is told to try again has not changed the word that it is told, however
 -- the event is answered that decides it
 abbrev pub AgainByOthers : Type 0
 AgainByOthers = (change : Change) (here : Site) (found : List ℕ) (a : Ans) (why : Why) → IsShape here.geometry → change.key < 2 ^ 64

@@ -159,7 +159,7 @@ IsInserting (Insert value) = ⊤
 IsInserting (Update value) = ⊥
 IsInserting Remove = ⊥
 
--- THE HEADER that was found on the way is pinned, and leads to the hash, so that the segment owns the key
+-- THE HEADER that was found on the way is pinned, and leads to the hash; so, by a law of `phase`, the segment owns the key
 pub record IsPinned (site : Ground) (hash : ℕ) (path : Path) (pinned : List (ℕ × ℕ)) : Type 0 where
   pub leads : Leads site hash path.segment pinned
   pub same : leads.head ≡ path.head
@@ -187,7 +187,7 @@ module _ (site : Ground) (task : Task) (seen : Seen) where
   VisitsAt Second = IsVisiting task seen × (seen.second ≡ true)
   VisitsAt third = ⊥
 
-  -- all locks are held, and all words of their buckets are known or are to be as they were stored
+  -- all locks are held, in a segment whose header is pinned; the stash buckets are visited that are to be; and no record is under way
   pub record HasAll (v : View) : Type 0 where
     pub there : IsThere site seen.path.segment v.facts
     pub pinned : IsPinned site task.hash seen.path v.pinned
@@ -196,7 +196,7 @@ module _ (site : Ground) (task : Task) (seen : Seen) where
     pub visits : IsVisiting task seen
     pub still : v.moving ≡ []
 
-  -- THE SPOT IS RIGHT: an insert whose key stands nowhere takes a free slot of the bucket, and the others change the slot with the key
+  -- THE SPOT IS RIGHT: an insert whose key was found nowhere takes the free slot that is chosen, and the others change the slot with the key
   abbrev pub IsSpot : Effect → Option Spot → Type 0
   IsSpot (Insert value) there = (there ≡ None) × (room_in seen.buckets ≡ Some (record { place = seen.place; slot = seen.written.slot }))
   IsSpot (Update value) there = there ≡ Some (record { place = seen.place; slot = seen.written.slot })

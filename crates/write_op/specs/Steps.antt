@@ -61,7 +61,7 @@ use Rattle.write_op.specs.Search.{found, room_in, visits, record_at, leaves_note
 use Rattle.image_layout.specs.Places.{block}
 
 -- ---- ends
--- what was seen, and the next event
+-- what was seen, and the next step
 abbrev pub go : Seen → WriteStep → Stage
 go seen next = record { seen = seen; step = next }
 
@@ -84,7 +84,7 @@ answered seen place answer = give seen (ending.Replied answer place)
 abbrev pub amiss : ℕ → ℕ → WriteStep
 amiss word value = Ended (ends.Again (Moved word value value))
 
--- a segment is locked whatever its header is; that it leads to the hash is asked under the locks
+-- a segment is locked whether or not its header leads to the hash, which is asked under the locks
 abbrev pub arrived : Seen → Path → Stage
 arrived seen path = go (record seen { path = path }) (Lock Home Look)
 
@@ -210,7 +210,7 @@ module _ (task : Task) (seen : Seen) where
   next_in (Give held end) Passed = go seen (giving (given held) end)
   next_in same ans = go seen same
 
--- no word of a bucket is loaded
+-- any step but the load of a bucket's words
 abbrev pub IsElsewhere : WriteStep → Type 0
 IsElsewhere (Fill place load) = ⊥
 IsElsewhere more = ⊤
@@ -239,7 +239,7 @@ wanted op = wanted_in op.task op.stage.seen op.stage.step
 abbrev pub taken : WriteOp → Ans → WriteOp
 taken op ans = record { task = op.task; stage = next_in op.task op.stage.seen op.stage.step ans }
 
--- how it ended; one that has not ended counts as one with the power off
+-- how it ended, or will once its locks are given back; before that it counts as one with the power off
 abbrev pub end_at : WriteStep → WriteEnd
 end_at (Ended end) = end
 end_at (Give held end) = end_of end
