@@ -1,9 +1,10 @@
 //! Changes of key 5 on the words of a new image with one segment, and on such words that another caller changes. Each is told by its call.
 use crate::memory::Memory;
-use crate::rows::{Follows, number};
+use crate::rows::Follows;
 use map_model::{Change, Effect};
 use op_core::{Machine, Want};
 use phase::Held;
+use row_file::number_of;
 use std::test::Fail;
 use write_op::{WriteEnd, WriteOp};
 
@@ -14,8 +15,8 @@ impl Follows for WriteOp {
 
     fn begun(memory: &mut Memory, case: &str) -> Result<WriteOp, Fail> {
         let effect = match case.split_once(' ') {
-            Some(("insert", value)) => Effect::Insert(number(value)?),
-            Some((_, value)) => Effect::Update(number(value)?),
+            Some(("insert", value)) => Effect::Insert(number_of(value)?),
+            Some((_, value)) => Effect::Update(number_of(value)?),
             None => Effect::Remove,
         };
         Ok(WriteOp::new(Change { key: 5, effect }, memory.site))

@@ -1,10 +1,11 @@
 //! Attempts on the words of a table of one segment in which `1 insert 5 7` was done, and calls that split or repair a segment of an image of two
 //! slots.
 use crate::memory::Memory;
-use crate::rows::{Deeds, number};
+use crate::rows::Deeds;
 use engine::{End, Engine};
 use map_model::Call;
 use op_core::{Ans, Want};
+use row_file::number_of;
 use std::alloc::Global;
 use std::test::Fail;
 
@@ -32,10 +33,10 @@ fn call_of(text: &str) -> Result<Call, Fail> {
         return Err(Fail::new("no call"));
     };
     match (word, numbers.split_once(' ')) {
-        ("get", None) => Ok(Call::Get(number(numbers)?)),
-        ("remove", None) => Ok(Call::Remove(number(numbers)?)),
-        ("insert", Some((key, value))) => Ok(Call::Insert(number(key)?, number(value)?)),
-        ("update", Some((key, value))) => Ok(Call::Update(number(key)?, number(value)?)),
+        ("get", None) => Ok(Call::Get(number_of(numbers)?)),
+        ("remove", None) => Ok(Call::Remove(number_of(numbers)?)),
+        ("insert", Some((key, value))) => Ok(Call::Insert(number_of(key)?, number_of(value)?)),
+        ("update", Some((key, value))) => Ok(Call::Update(number_of(key)?, number_of(value)?)),
         _ => Err(Fail::new("no call")),
     }
 }

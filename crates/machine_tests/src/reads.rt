@@ -1,9 +1,10 @@
 //! Gets over the words of a table of one segment in which key 5 stands in its home bucket with value 7, and key 6 in the first
 //! stash bucket with value 9. Each is told by its key.
 use crate::memory::Memory;
-use crate::rows::{Follows, number};
+use crate::rows::Follows;
 use op_core::{Machine, Want};
 use read_op::{ReadEnd, ReadOp};
+use row_file::number_of;
 use std::test::Fail;
 
 impl Follows for ReadOp {
@@ -11,7 +12,7 @@ impl Follows for ReadOp {
     type Stand = Option<ReadEnd>;
 
     fn begun(memory: &mut Memory, case: &str) -> Result<ReadOp, Fail> {
-        Ok(ReadOp::new(number(case)?, memory.site))
+        Ok(ReadOp::new(number_of(case)?, memory.site))
     }
 
     fn stands(&self) -> Self::Stand {

@@ -23,6 +23,7 @@
 use crate::memory::Memory;
 use image_layout::Geometry;
 use op_core::{Ans, Machine, Want};
+use row_file::number_of;
 use std::alloc::Global;
 use std::fmt::Debug;
 use std::test::Fail;
@@ -102,20 +103,12 @@ impl<M: Follows + Drop> Deeds for Followed<M> {
     }
 }
 
-/// A number in decimal digits, or in hexadecimal ones behind `0x`.
-pub fn number(text: &str) -> Result<u64, Fail> {
-    match text.strip_prefix("0x") {
-        Some(digits) => Ok(u64::from_str_radix(digits, 16)?),
-        None => Ok(text.parse()?),
-    }
-}
-
 /// Four numbers with spaces between them, of which the last ones may be left out, and are 0 then.
 pub fn numbers(text: &str) -> Result<[u64; 4], Fail> {
     let mut numbers = [0; 4];
     for (place, word) in text.split_ascii_whitespace().enumerate() {
         if place < 4 {
-            numbers[place] = number(word)?;
+            numbers[place] = number_of(word)?;
         }
     }
     Ok(numbers)
@@ -124,7 +117,7 @@ pub fn numbers(text: &str) -> Result<[u64; 4], Fail> {
 /// A word and its value, with a `=` between them.
 fn pair(text: &str) -> Result<(u64, u64), Fail> {
     match text.split_once('=') {
-        Some((at, value)) => Ok((number(at)?, number(value)?)),
+        Some((at, value)) => Ok((number_of(at)?, number_of(value)?)),
         None => Err(Fail::new("a pair has no =")),
     }
 }
@@ -163,8 +156,8 @@ fn memory_of(text: &str) -> Result<Memory, Fail> {
 /// The answer of these words, as `Value 5` or `Passed`.
 fn answer(text: &str) -> Result<Ans, Fail> {
     match text.split_once(' ') {
-        Some(("Value", value)) => Ok(Ans::Value(number(value)?)),
-        Some(("Lost", value)) => Ok(Ans::Lost(number(value)?)),
+        Some(("Value", value)) => Ok(Ans::Value(number_of(value)?)),
+        Some(("Lost", value)) => Ok(Ans::Lost(number_of(value)?)),
         None if text == "Won" => Ok(Ans::Won),
         None if text == "Passed" => Ok(Ans::Passed),
         _ => Err(Fail::new("no answer")),
@@ -268,7 +261,7 @@ fn ends(
     run(deeds, memory);
     let told = deeds.told(alloc, "end")?;
     match wanted.split_once(" in ") {
-        Some((end, events)) => Ok(told.as_str() == end && memory.events == number(events)?),
+        Some((end, events)) => Ok(told.as_str() == end && memory.events == number_of(events)?),
         None => Ok(told.as_str() == wanted),
     }
 }
@@ -318,7 +311,7 @@ fn holds(
         "for" => events(alloc, deeds, memory, rest),
         "keeps" => deeds.keeps(alloc, answer(rest)?),
         "has" => has(memory, rest),
-        "locks" => Ok(memory.locks() == number(rest)?),
+        "locks" => Ok(memory.locks() == number_of(rest)?),
         "stands" | "reply" => Ok(deeds.told(alloc, word)?.as_str() == rest),
         _ => event(alloc, deeds, memory, line),
     }

@@ -1,11 +1,12 @@
 //! Records that come to the stash of a new image with one segment, on words that another caller may change. Each is told by its key.
 use crate::memory::Memory;
-use crate::rows::{Follows, number};
+use crate::rows::Follows;
 use bucket_meta::words::must_visit;
 use hash_word::finger;
 use map_model::{Change, Effect};
 use op_core::{Machine, Want};
 use phase::{Buckets, Held, Kept, Role};
+use row_file::number_of;
 use stash_op::{StashEnd, StashOp};
 use std::test::Fail;
 
@@ -44,7 +45,7 @@ impl Follows for StashOp {
     type Stand = (Option<StashEnd>, Option<(Held, u64)>);
 
     fn begun(memory: &mut Memory, case: &str) -> Result<StashOp, Fail> {
-        Ok(StashOp::new(kept_in(memory, number(case)?)))
+        Ok(StashOp::new(kept_in(memory, number_of(case)?)))
     }
 
     fn stands(&self) -> Self::Stand {

@@ -1,6 +1,7 @@
 //! Cases as rows of a text, and the loop that walks them: every test function is proved, and to that a row adds nothing.
 //!
 //! A row is what is asked, ` -> `, and what has to be told then. What is meant stands behind `# `.
+use row_file::number_of;
 use std::alloc::Global;
 use std::fmt::Debug;
 use std::test::Fail;
@@ -88,19 +89,11 @@ pub fn first_word(asked: &str) -> (&str, &str) {
     }
 }
 
-/// A number in decimal digits, or in hexadecimal ones behind `0x`.
-pub fn number(text: &str) -> Result<u64, Fail> {
-    match text.strip_prefix("0x") {
-        Some(digits) => Ok(u64::from_str_radix(digits, 16)?),
-        None => Ok(text.parse()?),
-    }
-}
-
 /// Numbers with spaces between them.
 pub fn numbers(alloc: Global, text: &str) -> Result<Vec<u64>, Fail> {
     let mut numbers = Vec::new(alloc);
     for word in text.split_ascii_whitespace() {
-        numbers.push(number(word)?)?;
+        numbers.push(number_of(word)?)?;
     }
     Ok(numbers)
 }
@@ -108,7 +101,7 @@ pub fn numbers(alloc: Global, text: &str) -> Result<Vec<u64>, Fail> {
 /// A script that is written in one line, with a `;` for each of its line feeds; or so many line feeds behind `lines`.
 pub fn script_of(alloc: Global, text: &str) -> Result<Vec<u8>, Fail> {
     if let Some(count) = text.strip_prefix("lines ") {
-        return Ok(vec![in alloc; b'\n'; usize::try_from(number(count)?)?]?);
+        return Ok(vec![in alloc; b'\n'; usize::try_from(number_of(count)?)?]?);
     }
     let mut script = text.as_bytes().to_vec(alloc)?;
     for byte in script.iter_mut() {

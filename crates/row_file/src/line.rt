@@ -1,5 +1,7 @@
 //! The lines of a file of rows.
 
+use crate::number::number_of;
+
 /// A word of an image by its number, and a value for it.
 #[derive(Clone, Copy)]
 pub struct Word {
@@ -80,27 +82,19 @@ pub enum Line<'a> {
     LeftBytes(u64),
 }
 
-/// The number that is written so: decimal, or hexadecimal behind `0x`.
-fn number_of(text: &str) -> Option<u64> {
-    match text.strip_prefix("0x") {
-        Some(digits) => u64::from_str_radix(digits, 16).ok(),
-        None => text.parse::<u64>().ok(),
-    }
-}
-
 /// `N = X`.
 fn word_of(text: &str) -> Option<Word> {
     let (left, right) = text.split_once(" = ")?;
     Some(Word {
-        number: number_of(left)?,
-        value: number_of(right)?,
+        number: number_of(left).ok()?,
+        value: number_of(right).ok()?,
     })
 }
 
 /// What stands behind `fails`.
 fn fails_of(text: &str) -> Option<Line<'_>> {
     let (part, call) = text.split_once(' ')?;
-    let call = number_of(call)?;
+    let call = number_of(call).ok()?;
     match part {
         "store" => Some(Line::Fails(Part::Store, call)),
         "source" => Some(Line::Fails(Part::Source, call)),
@@ -114,7 +108,7 @@ fn counts_of(text: &str) -> Option<Line<'_>> {
     let mut counts = [0; 5];
     let mut words = text.split(' ');
     for count in counts.iter_mut() {
-        *count = number_of(words.next()?)?;
+        *count = number_of(words.next()?).ok()?;
     }
     match words.next() {
         None => Some(Line::Counts(counts)),
@@ -128,7 +122,7 @@ fn left_of(text: &str) -> Option<Line<'_>> {
         "others kept" => Some(Line::LeftOthers(Others::Kept)),
         "others 0" => Some(Line::LeftOthers(Others::Zero)),
         _ => match text.strip_prefix("bytes ") {
-            Some(count) => Some(Line::LeftBytes(number_of(count)?)),
+            Some(count) => Some(Line::LeftBytes(number_of(count).ok()?)),
             None => Some(Line::Left(word_of(text)?)),
         },
     }
@@ -163,7 +157,7 @@ fn each_of(line: &str) -> Option<Line<'_>> {
     let (first, line) = line.split_once(' ')?;
     let (last, line) = line.split_once(' ')?;
     let (mark, line) = first_word(line);
-    text_of(number_of(first)?, number_of(last)?, mark, line)
+    text_of(number_of(first).ok()?, number_of(last).ok()?, mark, line)
 }
 
 /// What a line says; none where it is no line of the format.
@@ -174,12 +168,12 @@ pub fn line_of(line: &str) -> Option<Line<'_>> {
     let (mark, rest) = first_word(line);
     match mark {
         "row" => Some(Line::Row(rest)),
-        "image" => Some(Line::Image(number_of(rest)?)),
+        "image" => Some(Line::Image(number_of(rest).ok()?)),
         "word" => Some(Line::Word(word_of(rest)?)),
-        "bytes" => Some(Line::Bytes(number_of(rest)?)),
+        "bytes" => Some(Line::Bytes(number_of(rest).ok()?)),
         "run" => Some(Line::Run(rest)),
         "fails" => fails_of(rest),
-        "status" => Some(Line::Status(number_of(rest)?)),
+        "status" => Some(Line::Status(number_of(rest).ok()?)),
         "counts" => counts_of(rest),
         "left" => left_of(rest),
         "each" => each_of(rest),
