@@ -1,4 +1,4 @@
--- What moved, or was taken, is another's doing: an attempt that is told to try again has not changed that word.
+-- What moved, or was taken, is not its own doing: an attempt that is told to try again has not changed that word.
 use Rattle.std.proofs.Common.{◌≡◌, ℕ, ◌^◌, ◌<◌, None, refl, sym, subst}
 use Rattle.std.specs.Prelude.{⊤}
 use Rattle.op_core.specs.declared.want.Ans.{Ans}
