@@ -1,5 +1,5 @@
 // The image's file, as a store. It counts its faults and its writes, and tells no content.
-ghost use Rattle.std.specs.Prelude.{◌≡◌, ◌≤◌, ◌+◌, None, IfOk, length};
+ghost use Rattle.std.specs.Prelude.{◌≡◌, ◌≤◌, ◌+◌, None, IfOk, length, false};
 ghost use Rattle.outside.specs.Causes.{Rose};
 
 mod held;
@@ -118,6 +118,7 @@ impl<'a, R: Files<File = File>> FileStore<'a, R> {
     ) -> Result<Self, AllocError>
         ensures faults { IfOk result (λ store. store.faults ≡ 0) }
         ensures writes { IfOk result (λ store. store.writes ≡ 0) }
+        ensures lost { IfOk result (λ store. store.lost ≡ false) }
     {
         let (path, trouble) = followed(rt, alloc, path)?;
         let second = second_path(alloc, path.as_str(), number)?;

@@ -11,6 +11,7 @@ pub fn first_mode(mode: u32) -> u32
 // The bits of a mode that may be kept.
 fn kept_bits(mode: u32, owner_kept: bool, group_kept: bool) -> u32
     ensures both { IsTrue owner_kept → IsTrue group_kept → result ≡ 0o7777 }
+    ensures owner { owner_kept ≡ false → IsTrue group_kept → result ≡ 0o777 }
     ensures others { group_kept ≡ false → result ≡ bit_or 0o707 (bit_and mode 0o007 * 8) }
 {
     match (owner_kept, group_kept) {
@@ -25,6 +26,7 @@ fn kept_bits(mode: u32, owner_kept: bool, group_kept: bool) -> u32
 /// program runs as them are left out.
 pub fn kept_mode(mode: u32, owner_kept: bool, group_kept: bool) -> u32
     ensures both { IsTrue owner_kept → IsTrue group_kept → result ≡ bit_and mode 0o7777 }
+    ensures owner { owner_kept ≡ false → IsTrue group_kept → result ≡ bit_and mode 0o777 }
     ensures others { group_kept ≡ false → result ≡ bit_and mode (bit_or 0o707 (bit_and mode 0o007 * 8)) }
     ensures within { bit_and result mode ≡ result }
 {
