@@ -10,6 +10,14 @@ record_slots = 14
 abbrev pub note_slots : ℕ
 note_slots = 4
 
+-- the word in which the key of its first record slot stands: before it stand the lock word and the three metadata words
+abbrev pub first_key : ℕ
+first_key = 4
+
+-- the word of the value of that slot, behind its key
+abbrev pub first_value : ℕ
+first_value = first_key + 1
+
 -- 1 where the bucket is locked
 abbrev pub lock_of : ℕ → ℕ
 lock_of w0 = bit 0 w0

@@ -2,7 +2,7 @@
 //! that loads and stores single words looks at them and changes them here.
 
 ghost use Rattle.std.specs.Prelude.{◌≡◌, ◌≢◌, ◌==◌, ℕ, ◌<◌, ◌≤◌, ◌↔◌, IfSome, IfNone, IsTrue, slice_index, slice_set};
-ghost use Rattle.bucket_meta.specs.Bucket.{lock_of, allocated, member, finger, note_used, note_member, note_index, note_finger, overflow_count, record_slots, note_slots};
+ghost use Rattle.bucket_meta.specs.Bucket.{lock_of, allocated, member, finger, note_used, note_member, note_index, note_finger, overflow_count, record_slots, note_slots, first_key};
 ghost use Rattle.bucket_meta.specs.Search.{is_taken, IsThere, lowest_with, lowest_free};
 ghost use Rattle.bucket_meta.specs.Notes.{IsNoteOn};
 ghost use Rattle.bucket_meta.specs.Marks.{inserted_mark, member_mark, removed_mark, finger_place, with_finger};
@@ -25,6 +25,12 @@ pub const NOTE_SLOTS: u8 = 4;
 
 /// The lock word that is free with the last version, so that nobody takes the lock any more.
 pub const SPENT_LOCK: u64 = u64::MAX - 1;
+
+/// The word of a bucket in which the key of its first record slot stands: before it stand the lock word and the three metadata words.
+pub const FIRST_KEY: usize = 4;
+
+/// The word of the value of that slot, behind its key.
+pub const FIRST_VALUE: usize = FIRST_KEY + 1;
 
 /// Whether a lock word says that its bucket is locked.
 pub fn is_locked(w0: u64) -> bool
@@ -78,7 +84,7 @@ pub fn lowest_with(words: &[u64; BUCKET_WORDS], key: u64) -> Option<u8>
     ensures nowhere { IfNone result ((slot : ℕ) → slot < record_slots → IsThere words.now key slot → ⊥) }
 {
     for slot in 0..SLOTS {
-        if is_taken(words[1], slot) && words[4 + 2 * usize::from(slot)] == key {
+        if is_taken(words[1], slot) && words[FIRST_KEY + 2 * usize::from(slot)] == key {
             return Some(slot);
         }
     }
@@ -127,7 +133,7 @@ pub fn removed_mark(w1: u64, slot: u8) -> u64
 /// The number of the word, 2 or 3, that has a slot's fingerprint.
 pub fn finger_place(slot: u8) -> usize
     ensures is { result ≡ finger_place slot }
-    ensures within { result < 4 }
+    ensures within { result < first_key }
 {
     if slot < 8 { 2 } else { 3 }
 }

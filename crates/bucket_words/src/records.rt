@@ -1,12 +1,12 @@
 //! Laws of records in the buckets of any segment: what a key has, and what a store does to that. The functions do nothing: each
 //! stands for the law that its contract says.
 
-ghost use Rattle.std.specs.Prelude.{◌≡◌, ◌≢◌, ◌↔◌, ◌⊎◌, ℕ, ◌+◌, ◌*◌, ◌^◌, ◌<◌, ◌≤◌, None, Some, Option};
+ghost use Rattle.std.specs.Prelude.{◌≡◌, ◌≢◌, ◌↔◌, ◌⊎◌, ℕ, ◌+◌, ◌^◌, ◌<◌, ◌≤◌, None, Some, Option};
 ghost use Rattle.trace.specs.Events.{Words, with_word};
 ghost use Rattle.bucket_meta.specs.Bucket.{allocated, member, finger, record_slots};
 ghost use Rattle.bucket_meta.specs.Marks.{SameButSlot};
 ghost use Rattle.hash_word.specs.Hash.{home_of, probing_of};
-ghost use Rattle.image_layout.specs.Places.{Shape, IsShape, bucket_at, words_of, block, homes, stash_buckets, buckets};
+ghost use Rattle.image_layout.specs.Places.{Shape, IsShape, bucket_at, key_at, value_at, words_of, block, homes, stash_buckets, buckets};
 ghost use Rattle.segment_table.specs.Rules.{RecordsStandRight, KeysHaveOneValue};
 ghost use Rattle.segment_table.specs.Records.{key_hash, HasAt};
 ghost use Rattle.segment_table.specs.Claims.{HasSoundFrame};
@@ -112,7 +112,7 @@ pub fn changes_of_a_record()
         → KeepsTable shape word (with_word word (bucket_at shape s b + 1) x) }
     ensures update { (shape : Shape) (word : Words) (s b r k x : ℕ) → IsTable shape word → Hit shape word s b r k
         → owner_of shape word (key_hash shape k) ≡ Some s → HasOnly shape word s b r k
-        → ChangesKey shape word (with_word word (bucket_at shape s b + 5 + 2 * r) x) k (Some x) }
+        → ChangesKey shape word (with_word word (value_at shape s b r) x) k (Some x) }
     ensures remove { (shape : Shape) (word : Words) (s b r k x : ℕ) → IsTable shape word → Hit shape word s b r k
         → owner_of shape word (key_hash shape k) ≡ Some s → HasOnly shape word s b r k
         → SameButSlot r (word (bucket_at shape s b + 1)) x → allocated r x ≡ 0
@@ -123,9 +123,9 @@ pub fn changes_of_a_record()
 /// the taken slots as they were; and of a word with the core that it had.
 pub fn stores_beside_records()
     ensures key { (shape : Shape) (word : Words) (s b r x : ℕ) → IsTable shape word → s < shape.segments → b < buckets → r < record_slots
-        → allocated r (word (bucket_at shape s b + 1)) ≡ 0 → KeepsTable shape word (with_word word (bucket_at shape s b + 4 + 2 * r) x) }
+        → allocated r (word (bucket_at shape s b + 1)) ≡ 0 → KeepsTable shape word (with_word word (key_at shape s b r) x) }
     ensures value { (shape : Shape) (word : Words) (s b r x : ℕ) → IsTable shape word → s < shape.segments → b < buckets → r < record_slots
-        → allocated r (word (bucket_at shape s b + 1)) ≡ 0 → KeepsTable shape word (with_word word (bucket_at shape s b + 5 + 2 * r) x) }
+        → allocated r (word (bucket_at shape s b + 1)) ≡ 0 → KeepsTable shape word (with_word word (value_at shape s b r) x) }
     ensures low_fingers { (shape : Shape) (word : Words) (s b x : ℕ) → IsTable shape word → s < shape.segments → b < buckets
         → ((t : ℕ) → t < record_slots → IsTaken word (bucket_at shape s b) t
         → finger t x (word (bucket_at shape s b + 3)) ≡ finger t (word (bucket_at shape s b + 2)) (word (bucket_at shape s b + 3)))

@@ -4,7 +4,7 @@ use Rattle.std.specs.Prelude.{◌≡◌, ◌≢◌, None, ℕ, suc, ◌+◌, ◌
 use Rattle.trace.specs.Events.{HasLine}
 use Rattle.bucket_meta.specs.Bucket.{record_slots}
 use Rattle.segment_head.specs.HeadWord.{depth_in, pattern_in}
-use Rattle.image_layout.specs.Places.{Shape, block, root_word, entry_at, bucket_at, buckets, words_of}
+use Rattle.image_layout.specs.Places.{Shape, block, root_word, entry_at, bucket_at, key_at, value_at, buckets, words_of}
 use Rattle.bucket_words.specs.Buckets.{IsTaken}
 use Rattle.frame_facts.specs.Facts.{Owns, Lacks, Deep}
 use Rattle.map_model.specs.declared.call.Call.{Call}
@@ -50,7 +50,7 @@ abbrev pub IsSideWord : Shape → Copied → ℕ → Type 0
 IsSideWord shape c i = (i ≡ header_word shape c.side)
     ⊎ ((b : ℕ) × (m : ℕ) × (b < buckets) × (1 ≤ m) × (m ≤ 3) × (i ≡ bucket_at shape c.side b + m))
     ⊎ ((b : ℕ) × (r : ℕ) × (b < buckets) × (r < record_slots) × IsTaken (copied_words c) (bucket_at shape c.side b) r
-    × ((i ≡ bucket_at shape c.side b + 4 + 2 * r) ⊎ (i ≡ bucket_at shape c.side b + 5 + 2 * r)))
+    × ((i ≡ key_at shape c.side b r) ⊎ (i ≡ value_at shape c.side b r)))
 
 module _ (site : Ground) (here : Site) (call : Call) (c : Copied) where
   -- THE SPLIT STANDS, by who has these areas: the guard and all locks of the segment are held, and its words are known, whether or not

@@ -2,7 +2,7 @@
 -- next.
 use Rattle.std.specs.Prelude.{◌≡◌, ℕ, min, ◌%◌, suc, ◌+◌, ◌*◌, ◌-◌, ◌^◌, ◌<◌, ◌≤◌, ◌==◌, ◌⊎◌, true, [], ◌∷◌, length, slice_index, if◌then◌else◌}
 use Rattle.trace.specs.Events.{Words}
-use Rattle.bucket_meta.specs.Bucket.{record_slots}
+use Rattle.bucket_meta.specs.Bucket.{record_slots, first_key}
 use Rattle.hash_word.specs.Hash.{Covers, home_of}
 use Rattle.segment_head.specs.HeadWord.{version_in, depth_in, pattern_in}
 use Rattle.image_layout.specs.Places.{bucket_at, buckets, block, words_of_buckets}
@@ -46,7 +46,7 @@ abbrev pub kept_third : Enclosed → ℕ → ℕ
 kept_third e b = kept_word e b 3
 
 abbrev pub kept_key : Enclosed → ℕ → ℕ → ℕ
-kept_key e b r = kept_word e b (4 + 2 * r)
+kept_key e b r = kept_word e b (first_key + 2 * r)
 
 -- these words, as what is loaded of a segment
 pub record HasKept (e : Enclosed) (loaded : Loaded) : Type 0 where

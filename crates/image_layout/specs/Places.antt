@@ -1,7 +1,7 @@
 -- Where the parts of an image stand, by word number. An image is a list of 64-bit words.
 use Rattle.std.specs.Prelude.{ℕ, ◌+◌, ◌-◌, ◌*◌, ◌/◌, ◌^◌, ◌≤◌}
-use Rattle.bucket_meta.specs.Bucket.{record_slots}
 pub use Rattle.hash_word.specs.Hash.{homes}
+use Rattle.bucket_meta.specs.Bucket.{record_slots, first_key, first_value}
 
 -- how many slots for segments an image may have at most, and how deep its directory may be
 abbrev pub most_segments : ℕ
@@ -91,7 +91,7 @@ bucket_at shape s b = head_at shape s + block + block * b
 
 -- the key and the value of record slot r in a bucket
 abbrev pub key_at : Shape → ℕ → ℕ → ℕ → ℕ
-key_at shape s b r = bucket_at shape s b + 4 + 2 * r
+key_at shape s b r = bucket_at shape s b + first_key + 2 * r
 
 abbrev pub value_at : Shape → ℕ → ℕ → ℕ → ℕ
-value_at shape s b r = bucket_at shape s b + 5 + 2 * r
+value_at shape s b r = bucket_at shape s b + first_value + 2 * r

@@ -6,7 +6,7 @@ ghost use Rattle.image_layout.specs.Places.{bucket_at, words_of, buckets, block,
 ghost use Rattle.sound_image.specs.Records.{slot_key, slot_value};
 ghost use Rattle.image_rules.specs.Slots.{IsRecordSlot, IsTaken};
 
-use bucket_meta::words;
+use bucket_meta::words::{self, FIRST_KEY, FIRST_VALUE};
 use image_layout::Geometry;
 
 /// A record slot.
@@ -60,7 +60,7 @@ pub(crate) fn key_in(geometry: &Geometry, words: &[u64], record_slot: RecordSlot
     ensures { result ≡ slot_key geometry.now (slice_index words.now) record_slot.segment record_slot.bucket record_slot.slot }
 {
     words[bucket_word(geometry, record_slot.segment, record_slot.bucket)
-        + 4
+        + FIRST_KEY
         + 2 * usize::from(record_slot.slot)]
 }
 
@@ -71,6 +71,6 @@ pub(crate) fn value_in(geometry: &Geometry, words: &[u64], record_slot: RecordSl
     ensures { result ≡ slot_value geometry.now (slice_index words.now) record_slot.segment record_slot.bucket record_slot.slot }
 {
     words[bucket_word(geometry, record_slot.segment, record_slot.bucket)
-        + 5
+        + FIRST_VALUE
         + 2 * usize::from(record_slot.slot)]
 }

@@ -13,9 +13,12 @@ use crate::heads::{is_live, state_of, version_of};
 use crate::notes::has_exact_notes;
 use crate::record_slot::bucket_word;
 use crate::records::RecordRule;
-use bucket_meta::words::is_locked;
+use bucket_meta::words::{self, is_locked};
 use image_layout::{BUCKETS, Geometry, HOMES, STATE_WORD, state};
 use segment_head::word::NORMAL;
+
+/// The word of a bucket in which the key of its first record slot stands.
+const FIRST_KEY: u64 = words::FIRST_KEY as u64;
 
 /// Whether the notes of a bucket are exact, if it is a home.
 fn has_its_notes(geometry: &Geometry, words: &[u64], s: u64, b: u8) -> bool
@@ -48,7 +51,7 @@ fn bucket_breach(geometry: &Geometry, words: &[u64], s: u64, b: u8) -> Option<u6
         return Some(at as u64 + 1);
     }
     match RecordRule::Once.first_broken(geometry, words, s, b) {
-        Some(slot) => Some(at as u64 + 4 + 2 * u64::from(slot)),
+        Some(slot) => Some(at as u64 + FIRST_KEY + 2 * u64::from(slot)),
         None => None,
     }
 }

@@ -1,7 +1,7 @@
 -- The words of the buckets of a segment, by their numbers: word n of bucket b is number 32 * b + n. And what a mending makes of them, in its
 -- three stages: of a split that ends the records of the 1-side leave, then locks are free and spoiled records leave, and then notes are exact.
 use Rattle.std.specs.Prelude.{◌≡◌, ℕ, min, suc, ◌+◌, ◌-◌, ◌*◌, ◌/◌, ◌%◌, ◌^◌, ◌<◌, ◌==◌, ◌&&◌, nat_lt, List, slice_index, if◌then◌else◌}
-use Rattle.bucket_meta.specs.Bucket.{record_slots}
+use Rattle.bucket_meta.specs.Bucket.{record_slots, first_key}
 use Rattle.segment_head.specs.HeadWord.{version_in, depth_in, pattern_in, header_of, normal}
 use Rattle.image_layout.specs.Places.{Shape, homes, buckets, block}
 use Rattle.sound_image.specs.Records.{key_hash}
@@ -46,7 +46,7 @@ module _ (words : List ℕ) where
   third_of b = slice_index words (block * b + 3)
 
   abbrev pub key_of : ℕ → ℕ → ℕ
-  key_of b r = slice_index words (block * b + 4 + 2 * r)
+  key_of b r = slice_index words (block * b + first_key + 2 * r)
 
   -- these, as what is loaded of a segment
   pub record HasWords (loaded : Loaded) : Type 0 where

@@ -1,12 +1,12 @@
 -- What the holder of the buckets of a key has found, by the words that it loaded: what the laws of `world` ask of a search,
 -- and of a draw.
-use Rattle.std.specs.Prelude.{◌≡◌, ℕ, ◌+◌, ◌*◌, ◌<◌, ◌≤◌, false, None, Some, [], ◌⊎◌, slice_index}
+use Rattle.std.specs.Prelude.{◌≡◌, ℕ, ◌+◌, ◌<◌, ◌≤◌, false, None, Some, [], ◌⊎◌, slice_index}
 use Rattle.bucket_meta.specs.Bucket.{allocated, overflow_count}
 use Rattle.bucket_meta.specs.Marks.{KeepsUpper}
 use Rattle.bucket_meta.specs.Search.{lowest_with}
 use Rattle.hash_word.specs.Hash.{home_of, finger_of}
 use Rattle.trace.specs.Events.{Words, with_word}
-use Rattle.image_layout.specs.Places.{Shape, bucket_at, block, homes, stash_buckets, buckets}
+use Rattle.image_layout.specs.Places.{Shape, bucket_at, value_at, block, homes, stash_buckets, buckets}
 use Rattle.sound_image.specs.Records.{key_hash, word_in, notes_of}
 use Rattle.map_model.specs.declared.call.Call.{Call}
 use Rattle.map_model.specs.Map.{key_of}
@@ -122,7 +122,7 @@ PreparedStandsNowhere = (shape : Shape) (hash segment : ℕ) (held : Held) (word
 -- parts keeps what is noted of the stash, and what is owed of it
 pub record PublishTells : Type 0 where
   pub taken : (shape : Shape) (word : Words) (s b r k x : ℕ) → IsReadyAt shape word s b r k → allocated r x ≡ 1 → Hit shape (with_word word (bucket_at shape s b + 1) x) s b r k
-  pub valued : (shape : Shape) (word : Words) (s b r k x : ℕ) → Hit shape word s b r k → Hit shape (with_word word (bucket_at shape s b + 5 + 2 * r) x) s b r k
+  pub valued : (shape : Shape) (word : Words) (s b r k x : ℕ) → Hit shape word s b r k → Hit shape (with_word word (value_at shape s b r) x) s b r k
   pub spared : (shape : Shape) (hash segment : ℕ) (held : Held) (word : Words) (s b x : ℕ) → b < buckets → KeepsUpper (word (bucket_at shape s b + 1)) x
       → SparesStash shape hash segment held word → SparesStash shape hash segment held (with_word word (bucket_at shape s b + 1) x)
   pub owed : (site : Ground) (v : View) (word : Words) (s b d x : ℕ) (o : Owed) → b < buckets → d < homes → KeepsUpper (word (bucket_at site.shape s b + 1)) x

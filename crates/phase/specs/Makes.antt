@@ -1,7 +1,8 @@
 -- The stores of one record, up to where they are settled: what is wanted, and what comes after.
-use Rattle.std.specs.Prelude.{ℕ, ◌+◌, ◌*◌, nat_lt, if◌then◌else◌}
+use Rattle.std.specs.Prelude.{ℕ, ◌+◌, ◌-◌, ◌*◌, ◌/◌, nat_lt, if◌then◌else◌}
+use Rattle.bucket_meta.specs.Bucket.{first_key, first_value}
 use Rattle.bucket_meta.specs.Marks.{finger_place}
-use Rattle.trace.specs.Events.{line_of}
+use Rattle.trace.specs.Events.{line_words, line_of}
 use Rattle.map_model.specs.declared.change.Effect.{Effect}
 use Rattle.map_model.specs.declared.change.Effect.TheVariants.{Insert, Update, Remove}
 use Rattle.op_core.specs.declared.want.Want.{Want}
@@ -21,10 +22,10 @@ brought Remove = 0
 -- ---- the words of a record in the bucket of a lock word
 module _ (lock : ℕ) (written : Record) where
   abbrev pub key_at : ℕ
-  key_at = lock + 4 + 2 * written.slot
+  key_at = lock + first_key + 2 * written.slot
 
   abbrev pub value_at : ℕ
-  value_at = lock + 5 + 2 * written.slot
+  value_at = lock + first_value + 2 * written.slot
 
   -- the word of its fingerprint
   abbrev pub fingers_at : ℕ
@@ -45,12 +46,16 @@ module _ (lock : ℕ) (written : Record) where
   make_wanted FlushPublished = Flush (line_of published_at)
   make_wanted FencePublished = Fence
 
--- the line of the fingerprints is the record's too for slots 0 and 1
+-- how many record slots have key and value in the first line of the bucket
+abbrev pub slots_of_first_line : ℕ
+slots_of_first_line = (line_words - first_key) / 2
+
+-- the line of the fingerprints is the first one of the bucket, and so the record's too for these slots
 abbrev pub make_taken : ℕ → Make → Made
 make_taken slot Key = On Value
 make_taken slot Value = On Fingers
 make_taken slot Fingers = On FlushFingers
-make_taken slot FlushFingers = if nat_lt slot 2 then On FenceRecord else On FlushRecord
+make_taken slot FlushFingers = if nat_lt slot slots_of_first_line then On FenceRecord else On FlushRecord
 make_taken slot FlushRecord = On FenceRecord
 make_taken slot FenceRecord = On Publish
 make_taken slot Publish = On FlushPublished

@@ -2,13 +2,20 @@
 //! change.
 
 ghost use Rattle.std.specs.Prelude.{◌≡◌, ◌≤◌, ◌+◌, ◌*◌};
+ghost use Rattle.bucket_meta.specs.Bucket.{first_key};
 ghost use Rattle.image_layout.specs.Places.{most_words};
 ghost use Rattle.phase.specs.Makes.{brought, make_wanted, make_taken};
 
-use bucket_meta::words::finger_place;
+use bucket_meta::words::{self, finger_place};
 use map_model::Effect;
 use op_core::Want;
-use trace::line_of;
+use trace::{LINE, line_of};
+
+/// The word of a bucket in which the key of its first record slot stands.
+const FIRST_KEY: u64 = words::FIRST_KEY as u64;
+
+/// How many record slots have key and value in the first line of the bucket.
+const SLOTS_OF_FIRST_LINE: u8 = ((LINE - FIRST_KEY) / 2) as u8;
 
 /// What is stored of one record. The lock word of its bucket is not in it: it is told beside.
 #[derive(Clone, Copy)]
@@ -72,10 +79,10 @@ pub fn brought(effect: Effect) -> u64
 /// The key word of a record slot, in the bucket of this lock word; the value word stands behind it.
 fn key_at(lock: u64, slot: u8) -> u64
     requires { lock ≤ most_words }
-    ensures is { result ≡ lock + 4 + 2 * slot }
+    ensures is { result ≡ lock + first_key + 2 * slot }
     ensures most { result ≤ 2 * most_words }
 {
-    lock + 4 + 2 * u64::from(slot)
+    lock + FIRST_KEY + 2 * u64::from(slot)
 }
 
 /// A word of a bucket by its number there.
@@ -106,7 +113,8 @@ pub fn make_want(lock: u64, written: &Record, make: Make) -> Want
     }
 }
 
-/// What comes after a store, a flush or a fence was done. The record's line is that of the fingerprints for slots 0 and 1.
+/// What comes after a store, a flush or a fence was done. The record's line is that of the fingerprints for the slots of
+/// the bucket's first line.
 pub fn make_next(slot: u8, make: Make) -> Made
     ensures { result ≡ make_taken slot make }
 {
@@ -114,7 +122,7 @@ pub fn make_next(slot: u8, make: Make) -> Made
         Make::Key => Make::Value,
         Make::Value => Make::Fingers,
         Make::Fingers => Make::FlushFingers,
-        Make::FlushFingers if slot < 2 => Make::FenceRecord,
+        Make::FlushFingers if slot < SLOTS_OF_FIRST_LINE => Make::FenceRecord,
         Make::FlushFingers => Make::FlushRecord,
         Make::FlushRecord => Make::FenceRecord,
         Make::FenceRecord => Make::Publish,

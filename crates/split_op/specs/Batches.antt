@@ -1,6 +1,7 @@
 -- WHAT A SPLIT STORES, one store after another: to empty a slot, to link it, the two headers, and the copies.
 use Rattle.std.specs.Prelude.{ℕ, zero, suc, ◌+◌, ◌-◌, ◌*◌, ◌/◌, ◌%◌, ◌^◌, nat_lt, ◌==◌, ◌&&◌, ◌||◌, not, Bool, true, false, Option, None, Some, List, slice_index, if◌then◌else◌}
 use Rattle.word_bits.specs.Bits.{bit}
+use Rattle.bucket_meta.specs.Bucket.{first_key}
 use Rattle.image_layout.specs.Places.{Shape, root_word, head_at, segment_words, buckets, block}
 use Rattle.split_op.specs.declared.batch.Batch.{Batch}
 use Rattle.split_op.specs.declared.batch.Batch.TheVariants.{Empty, Link, Mark, New, Copy}
@@ -22,12 +23,12 @@ first_of locks bucket = if nat_lt bucket buckets then (if slice_index locks buck
 
 -- the word that is emptied after one
 abbrev pub after_empty : List ℕ → ℕ → ℕ
-after_empty locks number = if not (nat_lt number block) && nat_lt (number % block) 3 then number + 1 else first_of locks (number / block)
+after_empty locks number = if not (nat_lt number block) && nat_lt (number % block) (first_key - 1) then number + 1 else first_of locks (number / block)
 
 -- ---- records are copied
 -- word m of a bucket of the side is copied, by the word itself and the first metadata word of the bucket
 abbrev pub is_copied_at : ℕ → ℕ → ℕ → Bool
-is_copied_at m word mark = if m == 0 then false else if nat_lt m 4 then not (word == 0) else bit ((m - 4) / 2) mark == 1
+is_copied_at m word mark = if m == 0 then false else if nat_lt m first_key then not (word == 0) else bit ((m - first_key) / 2) mark == 1
 
 -- a word of the side is copied, by its number
 abbrev pub is_copied : List ℕ → ℕ → Bool

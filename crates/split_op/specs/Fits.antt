@@ -3,6 +3,7 @@ use Rattle.std.specs.Prelude.{◌≡◌, ◌≢◌, ℕ, zero, suc, ◌+◌, ◌
 use Rattle.trace.specs.Events.{HasLine}
 use Rattle.op_core.specs.declared.want.Want.{Want}
 use Rattle.op_core.specs.declared.want.Want.TheVariants.{Store}
+use Rattle.bucket_meta.specs.Bucket.{first_key}
 use Rattle.segment_head.specs.HeadWord.{state_in, free}
 use Rattle.image_layout.specs.Places.{root_word, words_of, head_at, bucket_at, buckets, block, segment_words, words_of_buckets}
 use Rattle.map_model.specs.declared.call.Call.{Call}
@@ -205,9 +206,9 @@ module _ (site : Ground) (here : Site) (call : Call) where
     KnowsSideHeader (New true) v = IsNewSide v
     KnowsSideHeader (Copy number) v = IsNewSide v
 
-    -- a word of the slot that is emptied, by its number: the link, and the first four of each bucket
+    -- a word of the slot that is emptied, by its number: the link, and the words of each bucket before its first key
     abbrev pub IsEmptied : ℕ → Type 0
-    IsEmptied number = (number ≡ 2) ⊎ ((block ≤ number) × (number < segment_words) × (number % block < 4))
+    IsEmptied number = (number ≡ 2) ⊎ ((block ≤ number) × (number < segment_words) × (number % block < first_key))
 
     -- THE WORDS BEFORE ONE are emptied, and the lock words from there on are as they were loaded
     pub record IsEmptying (number : ℕ) (v : View) : Type 0 where
@@ -219,7 +220,7 @@ module _ (site : Ground) (here : Site) (call : Call) where
     pub record IsCopying (number : ℕ) (v : View) : Type 0 where
       pub next : ((block ≤ number) × (number < segment_words) × (is_copied c.words number ≡ true)) ⊎ (segment_words ≤ number)
       pub below : (p : ℕ) → block ≤ p → p < segment_words → p < number → is_copied c.words p ≡ true → Has (side_at c p, slice_index c.words (p - block)) v.known
-      pub rest : (p : ℕ) → block ≤ p → p < segment_words → p % block < 4 → (p < number → is_copied c.words p ≡ false) → Has (side_at c p, empty_value locks p) v.known
+      pub rest : (p : ℕ) → block ≤ p → p < segment_words → p % block < first_key → (p < number → is_copied c.words p ≡ false) → Has (side_at c p, empty_value locks p) v.known
 
     abbrev pub KnowsSideWords : Batch → View → Type 0
     KnowsSideWords (Empty number) v = IsEmptying number v

@@ -7,6 +7,7 @@ ghost use Rattle.split_op.specs.Batches.{slot_word, empty_value, first_of, after
 
 use crate::copied::Copied;
 use crate::seek::copied_from;
+use bucket_meta::words;
 use enclose_op::Enclosed;
 use image_layout::{BLOCK, BUCKETS, Geometry, ROOT_WORD, SEGMENT_WORDS};
 use segment_head::word::{FRESH, SPLITTING, depth_of, header_of, pattern_of, version_of};
@@ -31,6 +32,10 @@ pub enum Batch {
 pub const BLOCK_WORDS: u16 = BLOCK as u16;
 /// How many words a slot has.
 pub const SLOT_WORDS: u16 = SEGMENT_WORDS as u16;
+/// The word of a bucket in which the key of its first record slot stands.
+pub(crate) const FIRST_KEY: u16 = words::FIRST_KEY as u16;
+/// The word before it, which is the last one of the metadata.
+const LAST_OF_METADATA: u16 = FIRST_KEY - 1;
 
 // ---- headers
 
@@ -101,7 +106,7 @@ fn after_empty(locks: &[u64; BUCKETS as usize], number: u16) -> u16
     requires { number < segment_words }
     ensures { result ≡ after_empty locks.now number }
 {
-    if number >= BLOCK_WORDS && number % BLOCK_WORDS < 3 {
+    if number >= BLOCK_WORDS && number % BLOCK_WORDS < LAST_OF_METADATA {
         number + 1
     } else {
         first_of(locks, number / BLOCK_WORDS)

@@ -5,7 +5,7 @@ ghost use Rattle.word_bits.specs.Bits.{bit};
 ghost use Rattle.image_layout.specs.Places.{segment_words};
 ghost use Rattle.split_op.specs.Batches.{is_copied, copied_from};
 
-use crate::batch::{BLOCK_WORDS, SLOT_WORDS};
+use crate::batch::{BLOCK_WORDS, FIRST_KEY, SLOT_WORDS};
 use image_layout::WORDS_OF_BUCKETS;
 use word_bits::is_set;
 
@@ -18,12 +18,12 @@ pub(crate) fn is_copied(words: &[u64; WORDS_OF_BUCKETS as usize], number: u16) -
     let place = number % BLOCK_WORDS;
     if place == 0 {
         false
-    } else if place < 4 {
+    } else if place < FIRST_KEY {
         words[usize::from(number.saturating_sub(BLOCK_WORDS))] != 0
     } else {
         is_set(
             words[usize::from((number - place).saturating_sub(BLOCK_WORDS - 1))],
-            u32::from((place - 4) / 2),
+            u32::from((place - FIRST_KEY) / 2),
         )
     }
 }

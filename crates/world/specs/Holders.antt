@@ -1,11 +1,11 @@
 -- What the holder of locks has to know of buckets to make a store there, said over the words that it knows.
 use Rattle.std.specs.Prelude.{◌≡◌, ◌≢◌, ◌≤◌, ℕ, ◌+◌, ◌*◌, ◌<◌, ◌⊎◌, [], true, false, None, Some, List}
-use Rattle.bucket_meta.specs.Bucket.{allocated, member, overflow_count, record_slots, note_fingers_part}
+use Rattle.bucket_meta.specs.Bucket.{allocated, member, overflow_count, record_slots, first_key, first_value, note_fingers_part}
 use Rattle.bucket_meta.specs.Notes.{AreExact}
 use Rattle.bucket_words.specs.Core.{core_of}
 use Rattle.hash_word.specs.Hash.{home_of, probing_of, finger_of}
 use Rattle.trace.specs.Events.{Words, with_word}
-use Rattle.image_layout.specs.Places.{Shape, bucket_at, block, homes, stash_buckets, buckets}
+use Rattle.image_layout.specs.Places.{Shape, bucket_at, value_at, block, homes, stash_buckets, buckets}
 use Rattle.sound_image.specs.Records.{key_hash, word_in, notes_in, notes_of}
 use Rattle.map_model.specs.declared.call.Call.TheVariants.{Insert, Update, Remove}
 use Rattle.map_model.specs.declared.call.Call.{Call}
@@ -42,8 +42,8 @@ pub record KnowsMeta (shape : Shape) (v : View) (s b : ℕ) (word : Words) : Typ
 pub record SparesTaken (word : Words) (at m x : ℕ) : Type 0 where
   pub from : 2 ≤ m
   pub inside : m < block
-  pub keys : (t : ℕ) → t < record_slots → IsTaken word at t → 4 + 2 * t ≢ m
-  pub values : (t : ℕ) → t < record_slots → IsTaken word at t → 5 + 2 * t ≢ m
+  pub keys : (t : ℕ) → t < record_slots → IsTaken word at t → first_key + 2 * t ≢ m
+  pub values : (t : ℕ) → t < record_slots → IsTaken word at t → first_value + 2 * t ≢ m
   pub fingers : (t : ℕ) → t < record_slots → IsTaken word at t → finger_in (with_word word (at + m) x) at t ≡ finger_in word at t
   pub overflow : m ≡ 3 → note_fingers_part x ≡ note_fingers_part (word (at + 3))
 
@@ -109,7 +109,7 @@ pub record MayPlace (site : Ground) (v : View) : Type 0 where
 -- the stores to a record that was found
 pub record MayChange (site : Ground) (v : View) : Type 0 where
   -- an update wherever the record stands, and a remove in the home or the probing bucket
-  pub update : (s b r k a : ℕ) (word : Words) → FoundAt site v word s b r k → May site (publishes (bucket_at site.shape s b + 5 + 2 * r) a (Update k a)) v
+  pub update : (s b r k a : ℕ) (word : Words) → FoundAt site v word s b r k → May site (publishes (value_at site.shape s b r) a (Update k a)) v
   pub remove : (s b r k x : ℕ) (word : Words) → FoundAt site v word s b r k → b < homes → FreesSlot r (word (bucket_at site.shape s b + 1)) x
       → May site (publishes (bucket_at site.shape s b + 1) x (Remove k)) v
 

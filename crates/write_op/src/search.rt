@@ -10,12 +10,15 @@ use crate::step::{Seen, Spot, Task};
 use balance::{Choice, choose};
 use bucket_meta::Meta;
 use bucket_meta::words::{
-    BUCKET_WORDS, finger_place, freed_fingers, freed_mark, inserted_mark, lowered_count,
+    self, BUCKET_WORDS, finger_place, freed_fingers, freed_mark, inserted_mark, lowered_count,
     lowest_free, lowest_with, member_mark, must_visit, note_place, removed_mark, with_finger,
 };
 use hash_word::finger;
 use map_model::Effect;
 use phase::{Buckets, Record, Role, brought};
+
+/// The word of a bucket in which the value of its first record slot stands.
+const FIRST_VALUE: u8 = words::FIRST_VALUE as u8;
 
 // ---- where the key stands, and where a slot is free
 
@@ -112,7 +115,7 @@ fn published_word(effect: Effect, slot: u8) -> u8
     ensures { result ≡ published_word effect slot }
 {
     match effect {
-        Effect::Update(_) => 5 + 2 * slot,
+        Effect::Update(_) => FIRST_VALUE + 2 * slot,
         Effect::Insert(_) | Effect::Remove => 1,
     }
 }

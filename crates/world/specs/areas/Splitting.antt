@@ -5,7 +5,7 @@ use Rattle.trace.specs.Events.{Words}
 use Rattle.hash_word.specs.Hash.{Covers}
 use Rattle.bucket_meta.specs.Bucket.{record_slots, allocated, member}
 use Rattle.segment_head.specs.HeadWord.{version_in, state_in, depth_in, pattern_in, free, fresh, normal, splitting, HasLiveState}
-use Rattle.image_layout.specs.Places.{Shape, block, root_word, entry_at, bucket_at, homes, buckets}
+use Rattle.image_layout.specs.Places.{Shape, block, root_word, entry_at, bucket_at, key_at, value_at, homes, buckets}
 use Rattle.sound_image.specs.Records.{key_hash, HasExactNotes}
 use Rattle.bucket_words.specs.Buckets.{IsTaken, key_in}
 use Rattle.bucket_words.specs.Hits.{Hit}
@@ -44,8 +44,8 @@ module _ (shape : Shape) (v : View) where
   -- of the buckets of a slot the metadata is known, and of each record slot that is taken the key and the value
   pub record KnowsRecords (s : ℕ) (word : Words) : Type 0 where
     pub meta : (b m : ℕ) → b < buckets → 1 ≤ m → m ≤ 3 → KnowsWord v (bucket_at shape s b + m) (word (bucket_at shape s b + m))
-    pub key : (b r : ℕ) → b < buckets → r < record_slots → IsTaken word (bucket_at shape s b) r → KnowsWord v (bucket_at shape s b + 4 + 2 * r) (word (bucket_at shape s b + 4 + 2 * r))
-    pub value : (b r : ℕ) → b < buckets → r < record_slots → IsTaken word (bucket_at shape s b) r → KnowsWord v (bucket_at shape s b + 5 + 2 * r) (word (bucket_at shape s b + 5 + 2 * r))
+    pub key : (b r : ℕ) → b < buckets → r < record_slots → IsTaken word (bucket_at shape s b) r → KnowsWord v (key_at shape s b r) (word (key_at shape s b r))
+    pub value : (b r : ℕ) → b < buckets → r < record_slots → IsTaken word (bucket_at shape s b) r → KnowsWord v (value_at shape s b r) (word (value_at shape s b r))
 
   -- A SLOT OF ONE'S OWN, in which no segment lives: it was found free, or is a side that is not live yet
   pub record HasOwnSlot (n head : ℕ) : Type 0 where
