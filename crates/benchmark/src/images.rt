@@ -4,7 +4,7 @@ ghost use Rattle.std.specs.Prelude.{◌≤◌, length, IfOk};
 ghost use Rattle.sound_image.specs.Image.{IsSoundImage};
 
 use crate::faults::{no_data, no_memory};
-use image_file::{Medium, Words, check, format, from_bytes, from_words, list, to_bytes};
+use image_file::{Medium, WORD_BYTES, Words, check, format, from_bytes, from_words, list, to_bytes};
 use image_layout::Geometry;
 use std::alloc::Global;
 use std::fs::{self, Files, OpenFile};
@@ -55,13 +55,13 @@ fn fill<F: Read>(file: &mut F, buffer: &mut [u8]) -> io::Result<usize>
 fn read_words<R: Files + AllocGlobal>(rt: &R, path: &str) -> io::Result<Words> {
     let mut file = fs::open(rt, path)?;
     let length = file.metadata()?.len();
-    let Ok(mut words) = Words::with_room(rt.alloc(), (length / 8) as usize) else {
+    let Ok(mut words) = Words::with_room(rt.alloc(), (length / WORD_BYTES as u64) as usize) else {
         return Err(no_memory());
     };
     let mut buffer = vec![in rt.alloc(); 0u8; PIECE]?;
     for _ in 0..=length / PIECE as u64 {
         let count = fill(&mut file, &mut buffer)?;
-        if count % 8 != 0 {
+        if count % WORD_BYTES != 0 {
             return Err(no_data());
         }
         if words.push_bytes(&buffer[..count]).is_err() {

@@ -9,7 +9,7 @@ use Rattle.map_model.specs.Map.{Map}
 use Rattle.map_model.specs.Weave.{all_of, draws, spent_count, weave}
 use Rattle.map_model.specs.ByPlaces.{map_at}
 use Rattle.map_model.specs.Legal.{IsLegal, replay}
-use Rattle.image_layout.specs.Places.{Shape, words_of}
+use Rattle.image_layout.specs.Places.{Shape, front_words, words_of}
 use Rattle.sound_image.specs.Image.{IsSoundImage}
 use Rattle.sound_image.specs.Segments.{frame_of, IsClean}
 use Rattle.sound_image.specs.Left.{HasPairsOf, IsLeft}
@@ -37,7 +37,7 @@ CloseMayBegin = (t : Setup) (core : Core) → IsSetup t → IsOpen t core → No
 -- call whole or absent
 pub record IsGoodMedium (t : Setup) (opening : Map) (core : Core) (medium : List ℕ) : Type 0 where
   pub sound : IsSoundImage t.shape medium
-  pub same_shape : (i : ℕ) → i < 4 → slice_index medium i ≡ slice_index t.first i
+  pub same_shape : (i : ℕ) → i < front_words → slice_index medium i ≡ slice_index t.first i
   pub left : IsLeft t.shape (slice_index medium) (replay opening (weave (histories core))) (undrawn t.scripts (tolds_of core))
 
 -- the entries of all callers so far, those of open calls that drew among them

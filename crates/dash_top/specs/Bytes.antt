@@ -4,7 +4,7 @@ use Rattle.std.specs.Io.KnownBytes.{Consumes, IsAtEnd}
 use Rattle.outside.specs.Causes.{Rose}
 use Rattle.outside.specs.Storing.{IsFront}
 use Rattle.image_layout.specs.Places.{Shape, most_words}
-use Rattle.sound_image.specs.Image.{image_bytes, IsSoundImage}
+use Rattle.sound_image.specs.Image.{word_bytes, image_bytes, IsSoundImage}
 use Rattle.image_file.specs.Fault.{HasFault}
 use Rattle.image_file.specs.declared.fault.ImageFault.{ImageFault}
 use Rattle.image_file.specs.declared.fault.ImageFault.TheVariants.{NoMemory as NoMemoryForImage}
@@ -37,7 +37,7 @@ bytes_told store_old store_new writes_old writes_new lost source_old source_new 
 
 -- the most bytes that an image can have, and a script
 abbrev pub image_limit : ℕ
-image_limit = 8 * most_words
+image_limit = word_bytes * most_words
 
 abbrev pub script_limit : ℕ
 script_limit = 16777216

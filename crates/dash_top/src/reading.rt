@@ -8,14 +8,14 @@ ghost use Rattle.dash_top.specs.Bytes.{ReadsScript, ReadsSound};
 ghost use Rattle.dash_top.specs.Reading.{HasScriptCause, HasImageCause};
 
 use crate::work::Refused;
-use image_file::{ImageFault, Medium, from_bytes};
+use image_file::{ImageFault, Medium, WORD_BYTES, from_bytes};
 use image_layout::MOST_WORDS;
 use outside::{Source, Store, StoreFault, take_all};
 use script_text::{MOST_BYTES, Mode, Script, ScriptFault, parse};
 use std::alloc::Global;
 
 /// The most bytes that an image has: eight for each of its words.
-pub const MOST_IMAGE_BYTES: u64 = 8 * MOST_WORDS;
+pub const MOST_IMAGE_BYTES: u64 = WORD_BYTES as u64 * MOST_WORDS;
 
 /// Reads a script of this mode, to its end.
 pub fn read_script<S: Source>(alloc: Global, input: &mut S, mode: Mode) -> Result<Script, Refused>

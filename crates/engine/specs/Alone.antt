@@ -1,11 +1,11 @@
 -- One caller steps while all others stand between two attempts: nothing moves for it, no attempt of it ends in Again, and each of its calls
 -- ends: where an attempt ends without a reply, fewer may still do so.
-use Rattle.std.specs.Prelude.{◌≡◌, ◌≢◌, ℕ, suc, ◌+◌, ◌<◌, ⊤, true, false, Option, None, Some, List, ◌⊎◌, slice_get}
+use Rattle.std.specs.Prelude.{◌≡◌, ◌≢◌, ℕ, suc, ◌<◌, ⊤, true, false, Option, None, Some, List, ◌⊎◌, slice_get}
 use Rattle.op_core.specs.declared.want.Want.TheVariants as want
 use Rattle.op_core.specs.declared.why.Why.{Why}
 use Rattle.op_core.specs.declared.why.Why.TheVariants.{Busy}
 use Rattle.trace.specs.Events.{Words}
-use Rattle.image_layout.specs.Places.{Shape, head_at}
+use Rattle.image_layout.specs.Places.{Shape, header_word}
 use Rattle.sound_image.specs.Records.{key_hash}
 use Rattle.map_model.specs.declared.call.Call.{Call}
 use Rattle.map_model.specs.Map.{key_of}
@@ -66,7 +66,7 @@ pub record IsAlone (shape : Shape) (j : ℕ) (w : Watched) : Type 0 where
 
 -- a segment of the image is stale, and an attempt of a call is not decided by one that is not
 abbrev pub IsStaleIn : Shape → Words → ℕ → Type 0
-IsStaleIn shape words segment = (segment < shape.segments) × (is_stale words (words (head_at shape segment + 1)) ≡ true)
+IsStaleIn shape words segment = (segment < shape.segments) × (is_stale words (words (header_word shape segment)) ≡ true)
 
 abbrev pub TellsStale : Shape → Words → Op → Type 0
 TellsStale shape words op = (segment version : ℕ) → op_part.outcome op ≡ Some (stale segment version) → IsStaleIn shape words segment

@@ -3,7 +3,7 @@
 use Rattle.std.specs.Prelude.{ℕ, zero, suc, true, false, ◌+◌, ◌*◌, ◌==◌, ◌&&◌, not, Bool, if◌then◌else◌}
 use Rattle.trace.specs.Events.{Words}
 use Rattle.segment_head.specs.HeadWord.{version_in, state_in, free, is_live}
-use Rattle.image_layout.specs.Places.{Shape, state_word, head_at}
+use Rattle.image_layout.specs.Places.{Shape, state_word, header_word}
 use Rattle.image_layout.specs.StateWord.{image_version_in}
 use Rattle.split_op.specs.SplitPart.{is_new_slot}
 use Rattle.directory_op.specs.Left.{left_alone as publish_left_alone}
@@ -47,7 +47,7 @@ most_alone = most_events + 1
 -- how many of the first so many slots are free
 abbrev pub free_below : Shape → Words → ℕ → ℕ
 free_below shape words zero = 0
-free_below shape words (suc s) = (if state_in (words (head_at shape s + 1)) == free then 1 else 0) + free_below shape words s
+free_below shape words (suc s) = (if state_in (words (header_word shape s)) == free then 1 else 0) + free_below shape words s
 
 abbrev pub free_slots : Shape → Words → ℕ
 free_slots shape words = free_below shape words shape.segments
@@ -58,7 +58,7 @@ is_stale words head = is_live head && not (version_in head == image_version_in (
 
 abbrev pub stale_below : Shape → Words → ℕ → ℕ
 stale_below shape words zero = 0
-stale_below shape words (suc s) = (if is_stale words (words (head_at shape s + 1)) then 1 else 0) + stale_below shape words s
+stale_below shape words (suc s) = (if is_stale words (words (header_word shape s)) then 1 else 0) + stale_below shape words s
 
 abbrev pub stale_segments : Shape → Words → ℕ
 stale_segments shape words = stale_below shape words shape.segments

@@ -1,6 +1,6 @@
 -- The words of a slot, of which those are nobody's that no segment lives in.
 use Rattle.std.specs.Prelude.{◌≢◌, ℕ, ◌+◌, ◌<◌, ◌≤◌}
-use Rattle.image_layout.specs.Places.{Shape, head_at, segment_words}
+use Rattle.image_layout.specs.Places.{Shape, head_at, header_word, link_word, segment_words}
 
 -- word i is one of slot n
 pub record IsInSlot (shape : Shape) (n i : ℕ) : Type 0 where
@@ -10,5 +10,5 @@ pub record IsInSlot (shape : Shape) (n i : ℕ) : Type 0 where
 -- and neither its header word nor its link
 pub record IsPlainInSlot (shape : Shape) (n i : ℕ) : Type 0 where
   pub inside : IsInSlot shape n i
-  pub no_header : i ≢ head_at shape n + 1
-  pub no_link : i ≢ head_at shape n + 2
+  pub no_header : i ≢ header_word shape n
+  pub no_link : i ≢ link_word shape n

@@ -1,9 +1,9 @@
 -- What a store keeps of facts, beside a medium that has it and beside one that has not.
-use Rattle.std.specs.Prelude.{◌≡◌, ℕ, ◌+◌, ◌^◌, ◌<◌, ◌≤◌, ⊤}
+use Rattle.std.specs.Prelude.{◌≡◌, ℕ, ◌^◌, ◌<◌, ◌≤◌, ⊤}
 use Rattle.trace.specs.Events.{Words, with_word}
 use Rattle.hash_word.specs.Hash.{Covers}
 use Rattle.segment_head.specs.HeadWord.{version_in}
-use Rattle.image_layout.specs.Places.{Shape, IsShape, root_word, entry_at, head_at}
+use Rattle.image_layout.specs.Places.{Shape, IsShape, root_word, entry_at, header_word, link_word}
 use Rattle.sound_image.specs.Segments.{Frame, frame_of, InOneSide}
 use Rattle.segment_table.specs.Claims.{HasSoundFrame}
 use Rattle.segment_table.specs.Stores.{StoreKeeps}
@@ -26,12 +26,12 @@ module _ (shape : Shape) (words medium : Words) where
 
   -- header and link of a segment are the same in both
   pub record IsSettled (s : ℕ) : Type 0 where
-    pub header : words (head_at shape s + 1) ≡ medium (head_at shape s + 1)
-    pub link : words (head_at shape s + 2) ≡ medium (head_at shape s + 2)
+    pub header : words (header_word shape s) ≡ medium (header_word shape s)
+    pub link : words (link_word shape s) ≡ medium (link_word shape s)
 
 -- a header word with which slot s has the image's version, if it had it
 abbrev pub KeepsVersion : Shape → ℕ → ℕ → ℕ → Words → Type 0
-KeepsVersion shape version s x word = version_in (word (head_at shape s + 1)) ≡ version → version_in x ≡ version
+KeepsVersion shape version s x word = version_in (word (header_word shape s)) ≡ version → version_in x ≡ version
 
 -- an entry of an area that a root has come to: a fact speaks of these, the areas above are nobody's yet
 abbrev pub IsEntry : Words → ℕ → Type 0
@@ -61,7 +61,7 @@ module _ (shape : Shape) (version : ℕ) (words medium : Words) (i x : ℕ) wher
   pub record Spares : Type 0 where
     pub newest : StoreKeeps shape words i x
     pub there : StoreKeeps shape medium i x
-    pub current : (s : ℕ) → IsCurrentSlot (frame_of shape words) version s → i ≡ head_at shape s + 1 → version_in x ≡ version
+    pub current : (s : ℕ) → IsCurrentSlot (frame_of shape words) version s → i ≡ header_word shape s → version_in x ≡ version
     pub root : i ≡ root_word → words root_word ≤ x
     pub entries : IsEntry words i → IsLiveSlot (frame_of shape medium) x
     pub used : (s n : ℕ) → IsNewSide (frame_of shape medium) version s n → IsUsedSlot (frame_of shape (with_word medium i x)) version n

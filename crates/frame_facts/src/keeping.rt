@@ -2,7 +2,7 @@
 
 ghost use Rattle.std.specs.Prelude.{◌≡◌, ◌≢◌, ℕ, ◌+◌, ◌^◌, ◌<◌, ◌≤◌};
 ghost use Rattle.trace.specs.Events.{Words, with_word};
-ghost use Rattle.image_layout.specs.Places.{Shape, most_depth, root_word, entry_at, head_at, bucket_at, block, buckets};
+ghost use Rattle.image_layout.specs.Places.{Shape, most_depth, root_word, entry_at, header_word, link_word, bucket_at, block, buckets};
 ghost use Rattle.sound_image.specs.Segments.{Frame, frame_of};
 ghost use Rattle.segment_table.specs.Claims.{IsSoundFrame};
 ghost use Rattle.segment_table.specs.Stores.{TakesSlot, FreesSlot, Links, BeginsSplit, GoesLive, NamesClaimer, NamesSide, EndsSplit, DropsSplit, Renews};
@@ -21,20 +21,20 @@ pub fn kept_claims_keep_facts()
 /// taken; of a segment that begins, ends or drops a split, with the version that it had; of a version byte.
 pub fn header_stores_keep_facts()
     ensures takes { (shape : Shape) (version : ℕ) (words medium : Words) → AreSound shape words medium → (n x : ℕ)
-        → Both words medium (λ word. TakesSlot (frame_of shape word) shape.depth n x) → KeepsFacts shape version words medium (head_at shape n + 1) x }
+        → Both words medium (λ word. TakesSlot (frame_of shape word) shape.depth n x) → KeepsFacts shape version words medium (header_word shape n) x }
     ensures frees { (shape : Shape) (version : ℕ) (words medium : Words) → AreSound shape words medium → (n x : ℕ)
         → Both words medium (λ word. FreesSlot (frame_of shape word) n x) → ((s : ℕ) → IsNewSide (frame_of shape medium) version s n → ⊥)
-        → (fact : Fact) → fact ≢ Taken n → KeepsFact shape version words medium (head_at shape n + 1) x fact }
+        → (fact : Fact) → fact ≢ Taken n → KeepsFact shape version words medium (header_word shape n) x fact }
     ensures begins { (shape : Shape) (version : ℕ) (words medium : Words) → AreSound shape words medium → (s x : ℕ)
-        → Both words medium (λ word. BeginsSplit (frame_of shape word) s x) → KeepsVersion shape version s x words → KeepsFacts shape version words medium (head_at shape s + 1) x }
+        → Both words medium (λ word. BeginsSplit (frame_of shape word) s x) → KeepsVersion shape version s x words → KeepsFacts shape version words medium (header_word shape s) x }
     ensures ends { (shape : Shape) (version : ℕ) (words medium : Words) → AreSound shape words medium → (s x : ℕ)
-        → Both words medium (λ word. EndsSplit (frame_of shape word) s x) → KeepsVersion shape version s x words → KeepsFacts shape version words medium (head_at shape s + 1) x }
+        → Both words medium (λ word. EndsSplit (frame_of shape word) s x) → KeepsVersion shape version s x words → KeepsFacts shape version words medium (header_word shape s) x }
     ensures drops { (shape : Shape) (version : ℕ) (words medium : Words) → AreSound shape words medium → (s x : ℕ)
         → Both words medium (λ word. DropsSplit (frame_of shape word) s x) → KeepsVersion shape version s x words
-        → ((n : ℕ) → IsNewSide (frame_of shape medium) version s n → ⊥) → KeepsFacts shape version words medium (head_at shape s + 1) x }
+        → ((n : ℕ) → IsNewSide (frame_of shape medium) version s n → ⊥) → KeepsFacts shape version words medium (header_word shape s) x }
     ensures byte { (shape : Shape) (version : ℕ) (words medium : Words) → AreSound shape words medium → (s x : ℕ)
         → Both words medium (λ word. Renews (frame_of shape word) s x) → Both words medium (KeepsVersion shape version s x)
-        → KeepsFacts shape version words medium (head_at shape s + 1) x }
+        → KeepsFacts shape version words medium (header_word shape s) x }
 {}
 
 /// A new side has one parent: so a slot that a segment of an older version splits to may be freed.
@@ -46,7 +46,7 @@ pub fn new_sides_have_one_parent()
 /// The stores of a link, of the root, and of an entry of the root's area keep every fact.
 pub fn directory_stores_keep_facts()
     ensures links { (shape : Shape) (version : ℕ) (words medium : Words) → AreSound shape words medium → (s l : ℕ)
-        → Both words medium (λ word. Links (frame_of shape word) s l) → KeepsFacts shape version words medium (head_at shape s + 2) l }
+        → Both words medium (λ word. Links (frame_of shape word) s l) → KeepsFacts shape version words medium (link_word shape s) l }
     ensures doubles { (shape : Shape) (version : ℕ) (words medium : Words) → AreSound shape words medium → HaveOneRoot shape words medium
         → Both words medium (Doubles shape) → KeepsFacts shape version words medium root_word (words root_word + 1) }
     ensures claimer { (shape : Shape) (version : ℕ) (words medium : Words) → AreSound shape words medium → HaveOneRoot shape words medium → (i n : ℕ)
@@ -59,7 +59,7 @@ pub fn directory_stores_keep_facts()
 pub fn live_sides_keep_facts()
     ensures { (shape : Shape) (version : ℕ) (words medium : Words) → AreSound shape words medium → (s n x : ℕ)
         → Both words medium (λ word. GoesLive (frame_of shape word) s n x) → (fact : Fact) → ClaimsNoneOfSide (frame_of shape medium) s fact
-        → KeepsFact shape version words medium (head_at shape n + 1) x fact }
+        → KeepsFact shape version words medium (header_word shape n) x fact }
 {}
 
 /// A store to any other word keeps every fact, if it is none to an entry of an area that a root has come to: so one to an entry of a

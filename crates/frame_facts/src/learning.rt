@@ -3,7 +3,7 @@
 ghost use Rattle.std.specs.Prelude.{◌≡◌, ℕ, ◌+◌, ◌*◌, ◌/◌, ◌^◌, ◌<◌, ◌≤◌};
 ghost use Rattle.trace.specs.Events.{Words, with_word};
 ghost use Rattle.segment_head.specs.HeadWord.{HasLiveState, version_in, normal};
-ghost use Rattle.image_layout.specs.Places.{Shape, IsShape, root_word, entry_at, head_at};
+ghost use Rattle.image_layout.specs.Places.{Shape, IsShape, root_word, entry_at, header_word};
 ghost use Rattle.sound_image.specs.Segments.{frame_of, state_at, depth_at, pattern_at, IsReadySide, HasReadySide};
 ghost use Rattle.segment_table.specs.Claims.{IsSideEntry, HasSoundFrame};
 ghost use Rattle.segment_table.specs.Media.{first_hash, IsSteady};
@@ -21,8 +21,8 @@ pub fn facts_follow_the_structure()
 /// A header word that is live tells that its segment is current, if it has the image's version; and where a segment begins that lives
 /// in the medium.
 pub fn headers_tell()
-    ensures current { (shape : Shape) (version : ℕ) (words medium : Words) (s : ℕ) → s < shape.segments → HasLiveState (words (head_at shape s + 1))
-        → version_in (words (head_at shape s + 1)) ≡ version → HoldsFact shape version words (Current s) medium }
+    ensures current { (shape : Shape) (version : ℕ) (words medium : Words) (s : ℕ) → s < shape.segments → HasLiveState (words (header_word shape s))
+        → version_in (words (header_word shape s)) ≡ version → HoldsFact shape version words (Current s) medium }
     ensures begins { (shape : Shape) (version : ℕ) (words medium : Words) (s : ℕ) → IsSteady (frame_of shape medium) (frame_of shape words)
         → HoldsFact shape version words (Lives s) medium → HoldsFact shape version words (Begins s (first_hash (frame_of shape words) s)) medium }
 {}
@@ -49,10 +49,10 @@ pub fn sides_tell()
 pub fn live_sides_tell()
     ensures owns { (shape : Shape) (version : ℕ) (words medium : Words) → IsShape shape → HasSoundFrame shape medium → (s n x : ℕ) → GoesLive (frame_of shape medium) s n x
         → HoldsFact shape version words (Owns n (depth_at (frame_of shape medium) s + 1) (2 * pattern_at (frame_of shape medium) s + 1))
-        (with_word medium (head_at shape n + 1) x) }
+        (with_word medium (header_word shape n) x) }
     ensures lacks { (shape : Shape) (version : ℕ) (words medium : Words) → IsShape shape → HasSoundFrame shape medium → (s n x : ℕ) → GoesLive (frame_of shape medium) s n x
         → HoldsFact shape version words (Lacks s (depth_at (frame_of shape medium) s + 1) (2 * pattern_at (frame_of shape medium) s + 1))
-        (with_word medium (head_at shape n + 1) x) }
+        (with_word medium (header_word shape n) x) }
 {}
 
 /// What is so of a region is so of each part of it, whose pattern has some bits more; and what entries of all its parts name is as deep
@@ -78,7 +78,7 @@ pub fn entries_tell()
     ensures deep { (shape : Shape) (version : ℕ) (words medium : Words) (f i : ℕ) → f < depth_at (frame_of shape medium) (medium (entry_at (medium root_word) i))
         → HoldsFact shape version words (Deep f (medium root_word) i) medium }
     ensures deep_now { (shape : Shape) (version : ℕ) (words medium : Words) → AreSound shape words medium → IsSteady (frame_of shape medium) (frame_of shape words)
-        → HaveOneRoot shape words medium → (s i : ℕ) → IsLiveSlot (frame_of shape medium) s → words (head_at shape s + 1) ≡ medium (head_at shape s + 1)
+        → HaveOneRoot shape words medium → (s i : ℕ) → IsLiveSlot (frame_of shape medium) s → words (header_word shape s) ≡ medium (header_word shape s)
         → depth_at (frame_of shape medium) s < words root_word → IsSideEntry (frame_of shape medium) s i
         → words (entry_at (words root_word) i) ≡ medium (entry_at (words root_word) i)
         → depth_at (frame_of shape words) s < depth_at (frame_of shape words) (words (entry_at (words root_word) i))

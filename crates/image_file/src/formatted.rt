@@ -1,13 +1,16 @@
 //! The image of an empty table.
 
 ghost use Rattle.std.specs.Prelude.{◌≡◌, ℕ, IfOk, slice_index};
+ghost use Rattle.segment_head.specs.HeadWord.{header_of, normal};
+ghost use Rattle.image_layout.specs.StateWord.{first_version, with_marker};
 ghost use Rattle.sound_image.specs.Records.{HasPair};
 ghost use Rattle.sound_image.specs.Image.{IsSoundImage};
 ghost use Rattle.image_file.specs.Formatted.{IsFormatted};
 
 use crate::medium::Medium;
 use crate::words::Words;
-use image_layout::{Geometry, STATE_WORD, shape_in_range, state};
+use image_layout::state::{self, FIRST_VERSION};
+use image_layout::{FORMAT_NUMBER, Geometry, HEADER, KIND_FROM, STATE_WORD, shape_in_range};
 use map_model::NoMemory;
 use segment_head::{Head, State};
 use std::alloc::Global;
@@ -15,22 +18,16 @@ use std::alloc::Global;
 /// The first word of an image: its bytes are the text `DASHEH01`.
 pub(crate) const MAGIC: u64 = 0x3130_4845_4853_4144;
 
-/// The number of the format, in the lower half of the second word. The kind of hash is in the upper half.
-pub(crate) const FORMAT: u64 = 1;
-
-/// The version of a new image and of its first segment.
-const FIRST_VERSION: u8 = 1;
-
 /// The state word of a new image: of that version, and marked clean.
 fn first_state() -> u64
-    ensures { result ≡ 257 }
+    ensures { result ≡ with_marker first_version }
 {
     state::with_marker(u64::from(FIRST_VERSION))
 }
 
 /// The header word of its first segment: of that version, and covering every hash.
 fn first_header() -> u64
-    ensures { result ≡ 257 }
+    ensures { result ≡ header_of first_version normal 0 0 }
 {
     let head = Head {
         version: FIRST_VERSION,
@@ -47,11 +44,11 @@ fn empty_words(alloc: Global, geometry: &Geometry) -> Result<Words, NoMemory>
 {
     let mut words = vec![in alloc; 0u64; geometry.words() as usize]?;
     words[0] = MAGIC;
-    words[1] = FORMAT + (geometry.kind() << 32);
+    words[1] = FORMAT_NUMBER + (geometry.kind() << KIND_FROM);
     words[2] = geometry.segments();
     words[3] = geometry.depth();
     words[STATE_WORD as usize] = first_state();
-    words[geometry.head_at(0) as usize + 1] = first_header();
+    words[geometry.head_at(0) as usize + HEADER as usize] = first_header();
     Ok(Words::new(words))
 }
 

@@ -18,4 +18,4 @@ pub use laws::read_of_written;
 pub use medium::{Medium, to_bytes};
 pub use read::{from_bytes, from_words};
 pub use summary::{Summary, check, list};
-pub use words::Words;
+pub use words::{WORD_BYTES, Words};

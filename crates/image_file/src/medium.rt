@@ -2,7 +2,7 @@
 
 ghost use Rattle.std.specs.Prelude.{◌≡◌, ◌*◌, IfOk, length};
 ghost use Rattle.image_layout.specs.Places.{words_of};
-ghost use Rattle.sound_image.specs.Image.{image_bytes};
+ghost use Rattle.sound_image.specs.Image.{word_bytes, image_bytes};
 
 use crate::words::{WORD_BYTES, Words};
 use byteorder::{ByteOrder, LittleEndian};
@@ -27,7 +27,7 @@ pub struct Medium {
 pub fn to_bytes(alloc: Global, medium: &Medium) -> Result<Vec<u8>, NoMemory>
     requires whole { length medium.now.words ≡ words_of medium.now.geometry }
     ensures file { IfOk result (λ bytes. bytes.items ≡ image_bytes medium.now.words) }
-    ensures len { IfOk result (λ bytes. length bytes.items ≡ 8 * length medium.now.words) }
+    ensures len { IfOk result (λ bytes. length bytes.items ≡ word_bytes * length medium.now.words) }
 {
     let words = medium.words.as_slice();
     let count = medium.geometry.words() as usize;

@@ -1,15 +1,16 @@
 //! Bytes that are looked at as the file of an image.
 
 ghost use Rattle.std.specs.Prelude.{List, ◌≡◌, ℕ, ◌%◌, ◌≤◌, length, IfOk, IfErr};
-ghost use Rattle.sound_image.specs.Image.{image_bytes, IsSoundImage};
+ghost use Rattle.image_layout.specs.Places.{front_words};
+ghost use Rattle.sound_image.specs.Image.{word_bytes, image_bytes, IsSoundImage};
 ghost use Rattle.image_file.specs.Front.{BeginsWith};
 ghost use Rattle.image_file.specs.Fault.{word_in_file, shape_in, IsFramed, HasFront, HasFault, IsSoundFile};
 
 use crate::fault::ImageFault;
-use crate::formatted::{FORMAT, MAGIC};
+use crate::formatted::MAGIC;
 use crate::medium::Medium;
 use crate::words::{WORD_BYTES, Words, word_at};
-use image_layout::{BLOCK, Geometry};
+use image_layout::{BLOCK, FORMAT_NUMBER, Geometry, KIND_FROM, MOST_KIND};
 use image_rules::first_breach;
 use map_model::NoMemory;
 use std::alloc::Global;
@@ -20,7 +21,7 @@ const FRONT_BYTES: usize = WORD_BYTES * BLOCK as usize;
 
 /// The words of a file.
 fn words_in(alloc: Global, bytes: &[u8]) -> Result<Words, NoMemory>
-    requires { length bytes.now % 8 ≡ 0 }
+    requires { length bytes.now % word_bytes ≡ 0 }
     ensures { IfOk result (λ words. bytes.now ≡ image_bytes words) }
 {
     let mut words = Words::with_room(alloc, bytes.len() / WORD_BYTES)?;
@@ -30,7 +31,7 @@ fn words_in(alloc: Global, bytes: &[u8]) -> Result<Words, NoMemory>
 
 /// The geometry that the first four words of a file say.
 fn geometry_said(front: &[u64]) -> Result<Geometry, ImageFault>
-    requires { 4 ≤ length front.now }
+    requires { front_words ≤ length front.now }
     ensures ok { IfOk result (λ geometry. (bytes : List ℕ) → BeginsWith bytes front.now → HasFront bytes (λ shape. geometry ≡ shape)) }
     ensures fault { IfErr result (λ fault. (bytes : List ℕ) → BeginsWith bytes front.now → HasFault bytes fault) }
 {
@@ -38,10 +39,10 @@ fn geometry_said(front: &[u64]) -> Result<Geometry, ImageFault>
         return Err(ImageFault::Magic);
     }
     let format = front[1];
-    if format % (1 << 32) != FORMAT || format >> 32 > 1 {
+    if format % (1 << KIND_FROM) != FORMAT_NUMBER || format >> KIND_FROM > MOST_KIND {
         return Err(ImageFault::Format);
     }
-    match Geometry::new(front[2], front[3], format >> 32) {
+    match Geometry::new(front[2], front[3], format >> KIND_FROM) {
         Ok(geometry) => Ok(geometry),
         Err(_) => Err(ImageFault::Geometry),
     }

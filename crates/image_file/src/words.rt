@@ -1,7 +1,7 @@
 //! The words of an image.
 
 ghost use Rattle.std.specs.Prelude.{◌≡◌, ℕ, ◌+◌, ◌*◌, ◌/◌, ◌%◌, ◌<◌, ◌≤◌, ◌^◌, ◌++◌, [], length, slice_index, IfOk, OnOk, OnErr, vec_len, vec_capacity};
-ghost use Rattle.sound_image.specs.Image.{image_bytes};
+ghost use Rattle.sound_image.specs.Image.{word_bytes, image_bytes};
 ghost use Rattle.image_file.specs.Fault.{word_in_file};
 
 use byteorder::{ByteOrder, LittleEndian};
@@ -11,11 +11,11 @@ use std::marker::Model;
 use word_bits::each_fits;
 
 /// How many bytes of its file a word takes, the lowest first.
-pub(crate) const WORD_BYTES: usize = 8;
+pub const WORD_BYTES: usize = 8;
 
 /// The word of that number in a file.
 pub(crate) fn word_at(bytes: &[u8], index: usize) -> u64
-    requires { 8 * index + 8 ≤ length bytes.now }
+    requires { word_bytes * index + word_bytes ≤ length bytes.now }
     ensures { result ≡ word_in_file bytes.now index }
 {
     LittleEndian::read_u64(&bytes[WORD_BYTES * index..])
@@ -30,8 +30,8 @@ fn each_byte_fits(bytes: &[u8])
 
 // Adds the words that a piece of a file spells, for which there is room.
 fn push_words(words: &mut Vec<u64>, piece: &[u8])
-    requires whole { length piece.now % 8 ≡ 0 }
-    requires room { vec_len words.old + length piece.now / 8 ≤ vec_capacity words.old }
+    requires whole { length piece.now % word_bytes ≡ 0 }
+    requires room { vec_len words.old + length piece.now / word_bytes ≤ vec_capacity words.old }
     ensures { image_bytes words.new.items ≡ image_bytes words.old.items ++ piece.now }
 {
     each_byte_fits(piece);
@@ -80,7 +80,7 @@ impl Words {
     ///
     /// `NoMemory` if memory runs out; the words are then those of before.
     pub fn push_bytes(&mut self, piece: &[u8]) -> Result<(), NoMemory>
-        requires { length piece.now % 8 ≡ 0 }
+        requires { length piece.now % word_bytes ≡ 0 }
         ensures ok { OnOk result (image_bytes self.new ≡ image_bytes self.old ++ piece.now) }
         ensures err { OnErr result (self.new ≡ self.old) }
     {

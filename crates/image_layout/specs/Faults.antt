@@ -1,6 +1,6 @@
 -- What is wrong with three numbers that should be a shape: the first of them that is out of range.
 use Rattle.std.specs.Prelude.{ℕ, ◌<◌, ◌≤◌, ◌⊎◌, List, codes}
-use Rattle.image_layout.specs.Places.{most_segments, most_depth}
+use Rattle.image_layout.specs.Places.{most_segments, most_depth, most_kind}
 use Rattle.image_layout.specs.declared.shape.GeoFault.{GeoFault}
 use Rattle.image_layout.specs.declared.shape.GeoFault.TheVariants.{Segments, Depth, Kind}
 
@@ -12,7 +12,7 @@ IsSegments segments = (1 ≤ segments) × (segments ≤ most_segments)
 abbrev pub HasGeoFault : ℕ → ℕ → ℕ → GeoFault → Type 0
 HasGeoFault segments depth kind Segments = (segments < 1) ⊎ (most_segments < segments)
 HasGeoFault segments depth kind Depth = IsSegments segments × (most_depth < depth)
-HasGeoFault segments depth kind Kind = IsSegments segments × (depth ≤ most_depth) × (1 < kind)
+HasGeoFault segments depth kind Kind = IsSegments segments × (depth ≤ most_depth) × (most_kind < kind)
 
 -- what a fault says of itself
 abbrev pub fault_text : GeoFault → List ℕ

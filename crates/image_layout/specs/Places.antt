@@ -3,16 +3,30 @@ use Rattle.std.specs.Prelude.{ℕ, ◌+◌, ◌-◌, ◌*◌, ◌/◌, ◌^◌, 
 pub use Rattle.hash_word.specs.Hash.{homes}
 use Rattle.bucket_meta.specs.Bucket.{record_slots, first_key, first_value}
 
--- how many slots for segments an image may have at most, and how deep its directory may be
+-- how many slots for segments an image may have at most, how deep its directory may be, and the greatest kind of hash
 abbrev pub most_segments : ℕ
 most_segments = 16384
 
 abbrev pub most_depth : ℕ
 most_depth = 16
 
+abbrev pub most_kind : ℕ
+most_kind = 1
+
+-- the number of the format, and from which bit on the kind of hash stands above it, in one word
+abbrev pub format_number : ℕ
+format_number = 1
+
+abbrev pub kind_from : ℕ
+kind_from = 32
+
 -- how many words the front of an image has, a header and a bucket
 abbrev pub block : ℕ
 block = 32
+
+-- how many words of the front, its first ones, say magic, format and shape
+abbrev pub front_words : ℕ
+front_words = 4
 
 -- how many stash buckets a segment has, behind its homes
 abbrev pub stash_buckets : ℕ
@@ -51,7 +65,7 @@ pub record IsShape (shape : Shape) : Type 0 where
   pub some : 1 ≤ shape.segments
   pub segments : shape.segments ≤ most_segments
   pub depth : shape.depth ≤ most_depth
-  pub kind : shape.kind ≤ 1
+  pub kind : shape.kind ≤ most_kind
 
 -- the shape of the largest image
 abbrev pub largest_shape : Shape
@@ -76,6 +90,20 @@ first_segment shape = (block + 2 ^ (shape.depth + 1) - 1 + (block - 1)) / block 
 -- the first word of the header of the segment in slot s
 abbrev pub head_at : Shape → ℕ → ℕ
 head_at shape s = first_segment shape + segment_words * s
+
+-- which of the words of a slot is its header word, and which the word of its link, counted from the first, which is 0
+abbrev pub header_number : ℕ
+header_number = 1
+
+abbrev pub link_number : ℕ
+link_number = 2
+
+-- the header word of a slot, and the word of its link
+abbrev pub header_word : Shape → ℕ → ℕ
+header_word shape s = head_at shape s + header_number
+
+abbrev pub link_word : Shape → ℕ → ℕ
+link_word shape s = head_at shape s + link_number
 
 -- how many words the image has
 abbrev pub words_of : Shape → ℕ

@@ -1,6 +1,10 @@
 -- The state word of an image: its version and the clean marker.
 use Rattle.std.specs.Prelude.{◌≡◌, ℕ, ◌+◌, ◌-◌, ◌/◌, ◌%◌, ◌^◌, ◌==◌, if◌then◌else◌}
 
+-- the version of a new image, and of one whose headers lost theirs
+abbrev pub first_version : ℕ
+first_version = 1
+
 -- bits 0 to 7: the version of the image
 abbrev pub image_version_in : ℕ → ℕ
 image_version_in state = state % 2 ^ 8

@@ -18,10 +18,14 @@ allocation_guard shape = words_of shape + 2
 abbrev pub directory_guard : Shape → ℕ
 directory_guard shape = words_of shape + 3
 
+-- how many words stand between those of the image and the guards of segments: these four
+abbrev pub guards_from : ℕ
+guards_from = 4
+
 -- the guard of the segment in a slot
 abbrev pub segment_guard : Shape → ℕ → ℕ
-segment_guard shape slot = words_of shape + 4 + slot
+segment_guard shape slot = words_of shape + guards_from + slot
 
 -- how many words there are with those of the image
 abbrev pub all_words_of : Shape → ℕ
-all_words_of shape = words_of shape + 4 + shape.segments
+all_words_of shape = words_of shape + guards_from + shape.segments

@@ -1,8 +1,8 @@
 //! How an image is laid out.
 
 ghost use Rattle.std.specs.Prelude.{◌≡◌, ◌<◌, ◌≤◌, ◌+◌, ◌*◌, ◌%◌, ◌^◌, IfOk, IfErr};
-ghost use Rattle.image_layout.specs.Volatile.{counter_word, power_word, allocation_guard, directory_guard, segment_guard, all_words_of};
-ghost use Rattle.image_layout.specs.Places.{IsShape, largest_shape, first_segment, words_of, entry_at, head_at, bucket_at, block, homes, stash_buckets, buckets, segment_words, most_words, most_segments, most_depth};
+ghost use Rattle.image_layout.specs.Volatile.{counter_word, power_word, allocation_guard, directory_guard, segment_guard, all_words_of, guards_from};
+ghost use Rattle.image_layout.specs.Places.{IsShape, largest_shape, first_segment, words_of, entry_at, head_at, bucket_at, block, homes, stash_buckets, buckets, segment_words, most_words, most_segments, most_depth, most_kind};
 
 use bucket_meta::words::BUCKET_WORDS;
 use hash_word::HOMES;
@@ -20,6 +20,10 @@ pub const BLOCK: u64 = BUCKET_WORDS as u64;
 pub const STASH_BUCKETS: u8 = 2;
 /// How many buckets a segment has.
 pub const BUCKETS: u8 = HOMES + STASH_BUCKETS;
+/// Which of the words of a slot for a segment is its header word, counted from the first, which is 0.
+pub const HEADER: u64 = 1;
+/// Which of them is the word of its link.
+pub const LINK: u64 = 2;
 /// How many words a segment has: a header and its buckets.
 pub const SEGMENT_WORDS: u64 = BLOCK * (1 + BUCKETS as u64);
 /// How many words the buckets of a segment have together.
@@ -35,6 +39,16 @@ const FIRST_SEGMENT_OF_LARGEST: u64 =
     (BLOCK + (1u64 << (MOST_DEPTH + 1)) - 1 + (BLOCK - 1)) / BLOCK * BLOCK;
 /// The most words that an image may have: those of the largest one.
 pub const MOST_WORDS: u64 = FIRST_SEGMENT_OF_LARGEST + SEGMENT_WORDS * MOST_SEGMENTS;
+/// The greatest kind of hash.
+pub const MOST_KIND: u64 = 1;
+/// The number of the format, below the kind of hash in one word.
+pub const FORMAT_NUMBER: u64 = 1;
+/// From which bit of that word on the kind of hash stands there.
+pub const KIND_FROM: u32 = 32;
+/// How many words behind the commit counter the power word stands.
+pub const POWER: u64 = 1;
+/// How many words stand between those of the image and the guards of segments.
+const GUARDS_FROM: u64 = 4;
 
 /// The first of the three numbers that is out of range.
 #[derive(Clone, Copy, Debug, PartialEq, Eq)]
@@ -111,7 +125,7 @@ impl Geometry {
         if depth > MOST_DEPTH {
             return Err(GeoFault::Depth);
         }
-        if kind > 1 {
+        if kind > MOST_KIND {
             return Err(GeoFault::Kind);
         }
         Ok(Geometry {
@@ -141,7 +155,7 @@ impl Geometry {
     /// How keys are hashed: 0 identity, 1 mixed.
     pub fn kind(&self) -> u64
         ensures is { result ≡ self.now.kind }
-        ensures most { result ≤ 1 }
+        ensures most { result ≤ most_kind }
     {
         self.kind
     }
@@ -226,7 +240,7 @@ impl Geometry {
         ensures is { result ≡ power_word self.now }
         ensures most { result ≤ most_words + 1 }
     {
-        self.words() + 1
+        self.words() + POWER
     }
 
     /// The word of the guard of free slots for segments.
@@ -250,9 +264,9 @@ impl Geometry {
         requires { slot < self.now.segments }
         ensures is { result ≡ segment_guard self.now slot }
         ensures within { result < all_words_of self.now }
-        ensures most { result < most_words + 4 + most_segments }
+        ensures most { result < most_words + guards_from + most_segments }
     {
-        self.words() + 4 + slot
+        self.words() + GUARDS_FROM + slot
     }
 
     /// How many words there are with those of the image: behind them stand the commit counter, the power word, the guards
@@ -261,6 +275,6 @@ impl Geometry {
         ensures is { result ≡ all_words_of self.now }
         ensures most { result < 2 ^ 32 }
     {
-        (self.words() + 4 + self.segments()) as usize
+        (self.words() + GUARDS_FROM + self.segments()) as usize
     }
 }

@@ -3,6 +3,9 @@
 ghost use Rattle.std.specs.Prelude.{◌≡◌, ◌↔◌, IsTrue};
 ghost use Rattle.image_layout.specs.StateWord.{image_version_in, with_marker, IsMarked};
 
+/// The version of a new image, and of one whose headers lost theirs.
+pub const FIRST_VERSION: u8 = 1;
+
 /// The clean marker, bit 8 of the state word.
 pub const MARKER: u64 = 0x100;
 

@@ -1,7 +1,7 @@
 -- What a clean image has at the words of a segment of its version, and what rules 4 to 7 say of one segment.
 use Rattle.std.specs.Prelude.{◌≡◌, ℕ, ◌+◌, ◌<◌, ◌≤◌}
 use Rattle.segment_head.specs.HeadWord.{normal}
-use Rattle.image_layout.specs.Places.{Shape, head_at, buckets, segment_words}
+use Rattle.image_layout.specs.Places.{Shape, head_at, header_word, buckets, segment_words}
 use Rattle.sound_image.specs.Segments.{ImageWords, frame_of, state_at}
 use Rattle.sound_image.specs.Directory.{VersionIsPast}
 use Rattle.sound_image.specs.Rules.{IsCleanAndCurrent}
@@ -11,7 +11,7 @@ use Rattle.image_rules.specs.Slots.{BucketsFollow, IsRepairedAt}
 module _ (shape : Shape) (word : ImageWords) where
   -- the segment is normal, and its buckets are repaired
   pub record IsRepairedSegmentAt (s w : ℕ) : Type 0 where
-    pub head : w ≡ head_at shape s + 1 → state_at (frame_of shape word) s ≡ normal
+    pub head : w ≡ header_word shape s → state_at (frame_of shape word) s ≡ normal
     pub in_buckets : (b : ℕ) → b < buckets → IsRepairedAt shape word s b w
 
   -- a word of the segment is the least at which it is not so

@@ -7,7 +7,7 @@ ghost use Rattle.sound_image.specs.Segments.{frame_of, state_at, IsLive, IsReady
 ghost use Rattle.image_rules.specs.Divided.{IsNumbered, IsDivided, IsPrefixOf, IsNamed, IsGivenAway};
 
 use hash_word::covers;
-use image_layout::Geometry;
+use image_layout::{Geometry, HEADER, LINK};
 use segment_head::prefix::{Prefix, in_one_side, is_side, prefix_in};
 use segment_head::word::{self, SPLITTING};
 
@@ -17,7 +17,7 @@ pub(crate) fn header_of(geometry: &Geometry, words: &[u64], s: u64) -> u64
     requires slot { s < geometry.now.segments }
     ensures { result ≡ (frame_of geometry.now (slice_index words.now)).header s }
 {
-    words[geometry.head_at(s) as usize + 1]
+    words[geometry.head_at(s) as usize + HEADER as usize]
 }
 
 /// The state byte of a segment.
@@ -68,7 +68,7 @@ fn named_slot(geometry: &Geometry, words: &[u64], s: u64) -> Option<u64>
     ensures some { IfSome result (λ n. IsNamed (frame_of geometry.now (slice_index words.now)) s n) }
     ensures none { IfNone result ((n : ℕ) → IsNamed (frame_of geometry.now (slice_index words.now)) s n → ⊥) }
 {
-    let link = words[geometry.head_at(s) as usize + 2];
+    let link = words[geometry.head_at(s) as usize + LINK as usize];
     if link > 0 && link <= geometry.segments() {
         Some(link - 1)
     } else {

@@ -12,7 +12,7 @@ ghost use Rattle.image_rules.specs.Divided.{IsNumbered};
 ghost use Rattle.image_rules.specs.Leaves.{IsUnder, AreRaised, AreDeepest, AreSeen, HasTwin, OwnsItsPart, ShareWellBelow, IsFirstAtFault};
 
 use crate::heads::{is_live, prefix_of, ready_side};
-use image_layout::{Geometry, ROOT_WORD};
+use image_layout::{Geometry, HEADER, ROOT_WORD};
 use map_model::NoMemory;
 use segment_head::prefix::Prefix;
 use std::alloc::Global;
@@ -280,7 +280,7 @@ fn first_unowned(nodes: &mut [u8], leaves: &[u8], geometry: &Geometry, words: &[
         return Some(entry_over(geometry, words, leaf));
     }
     match first_at_fault(nodes, leaves, geometry, words) {
-        Some(s) => Some(geometry.head_at(s) + 1),
+        Some(s) => Some(geometry.head_at(s) + HEADER),
         None => None,
     }
 }

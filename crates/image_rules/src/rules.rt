@@ -11,7 +11,7 @@ ghost use Rattle.image_rules.specs.Slots.{IsStanding};
 
 use crate::heads::{header_of, version_of};
 use crate::records::RecordRule;
-use image_layout::{Geometry, ROOT_WORD, STATE_WORD, state};
+use image_layout::{Geometry, HEADER, LINK, ROOT_WORD, STATE_WORD, state};
 use segment_head::word::{FREE, FRESH, depth_of, pattern_of, state_of};
 
 /// Whether a header word is in its range.
@@ -35,7 +35,8 @@ fn link_in_range(geometry: &Geometry, words: &[u64], s: u64) -> bool
     ensures { IsTrue result ↔ LinkInRange (frame_of geometry.now (slice_index words.now)) s }
 {
     let at = geometry.head_at(s) as usize;
-    state_of(words[at + 1]) == FREE || words[at + 2] <= geometry.segments()
+    state_of(words[at + HEADER as usize]) == FREE
+        || words[at + LINK as usize] <= geometry.segments()
 }
 
 /// The least word at which rule 1 is broken: a number of the image or of a header is out of its range.
@@ -52,10 +53,10 @@ pub(crate) fn rule_one(geometry: &Geometry, words: &[u64]) -> Option<u64>
     }
     for s in 0..geometry.segments() {
         if !head_in_range(geometry, words, s) {
-            return Some(geometry.head_at(s) + 1);
+            return Some(geometry.head_at(s) + HEADER);
         }
         if !link_in_range(geometry, words, s) {
-            return Some(geometry.head_at(s) + 2);
+            return Some(geometry.head_at(s) + LINK);
         }
     }
     None
@@ -90,7 +91,7 @@ pub(crate) fn rule_six(geometry: &Geometry, words: &[u64]) -> Option<u64>
     let version = state::version_of(words[STATE_WORD as usize]);
     for s in 0..geometry.segments() {
         if version_of(geometry, words, s) > version {
-            return Some(geometry.head_at(s) + 1);
+            return Some(geometry.head_at(s) + HEADER);
         }
     }
     None

@@ -12,7 +12,7 @@ use Rattle.bucket_meta.specs.Slots.{IsFull}
 use Rattle.bucket_meta.specs.Visits.{must_visit}
 use Rattle.trace.specs.Events.{Words}
 use Rattle.segment_head.specs.HeadWord.{version_in, state_in, depth_in, is_live, free, splitting}
-use Rattle.image_layout.specs.Places.{Shape, IsShape, root_word, head_at, bucket_at, homes, stash_buckets}
+use Rattle.image_layout.specs.Places.{Shape, IsShape, root_word, header_word, bucket_at, homes, stash_buckets}
 use Rattle.image_layout.specs.Volatile.{counter_word, power_word}
 use Rattle.sound_image.specs.Records.{key_hash}
 use Rattle.way.specs.Ways.{entry_word, head_word, bucket_word, is_leading}
@@ -203,7 +203,7 @@ module _ (shape : Shape) (words : Words) (did : Doings) (call : Call) where
 
   -- the attempt loaded the header word of the segment in a slot, with this value
   abbrev pub WasHead : ℕ → ℕ → Type 0
-  WasHead slot head = Has (head_at shape slot + 1, head) did.loads
+  WasHead slot head = Has (header_word shape slot, head) did.loads
 
   -- the header that it loaded of a segment has such a depth
   abbrev pub HasDepth : ℕ → (ℕ → Type 0) → Type 0
@@ -290,7 +290,7 @@ AloneNothingMoves = (shape : Shape) (words : Words) (did : Doings) (call : Call)
 
 -- no segment is being split whose header has this version; of the headers of other versions nothing is said
 abbrev pub IsUnsplit : Shape → ℕ → Words → Type 0
-IsUnsplit shape version words = (s : ℕ) → s < shape.segments → version_in (words (head_at shape s + 1)) ≡ version → state_in (words (head_at shape s + 1)) ≢ splitting
+IsUnsplit shape version words = (s : ℕ) → s < shape.segments → version_in (words (header_word shape s)) ≡ version → state_in (words (header_word shape s)) ≢ splitting
 
 -- NOTHING LEADS AWAY from its key for such a caller, where the structure is sound and no segment of the version is being split
 abbrev pub AloneNothingLeadsAway : Type 0

@@ -1,12 +1,12 @@
 -- The causes by which an attempt ends that repairs a segment, where this may be stale: in the newest words, and in what it did.
-use Rattle.std.specs.Prelude.{◌≡◌, ◌≢◌, ℕ, ◌+◌, ◌^◌, ◌<◌, ⊤, true, false, None, Some, List, ◌⊎◌}
+use Rattle.std.specs.Prelude.{◌≡◌, ◌≢◌, ℕ, ◌^◌, ◌<◌, ⊤, true, false, None, Some, List, ◌⊎◌}
 use Rattle.op_core.specs.declared.want.Want.{Want}
 use Rattle.op_core.specs.declared.want.Want.TheVariants.{Done}
 use Rattle.op_core.specs.declared.want.Ans.{Ans}
 use Rattle.op_core.specs.declared.why.Why.TheVariants.{Busy, Moved}
 use Rattle.trace.specs.Events.{Words}
 use Rattle.segment_head.specs.HeadWord.{version_in, is_live}
-use Rattle.image_layout.specs.Places.{Shape, head_at}
+use Rattle.image_layout.specs.Places.{Shape, header_word}
 use Rattle.image_layout.specs.Volatile.{segment_guard, allocation_guard, directory_guard}
 use Rattle.map_model.specs.declared.call.Call.{Call}
 use Rattle.world.specs.declared.site.Site.{Site}
@@ -23,7 +23,7 @@ use Rattle.part.specs.Part.{Part, Suits, finds, next}
 -- another had repaired it, or it stored the header. It is what a part that repairs has done where it has worked
 abbrev pub HasRepaired : Shape → ℕ → ℕ → Doings → Type 0
 HasRepaired shape version segment did =
-    ((head : ℕ) × Has (head_at shape segment + 1, head) did.loads × (is_live head ≡ true) × (version_in head ≡ version)) ⊎ Has (head_at shape segment + 1) did.changed
+    ((head : ℕ) × Has (header_word shape segment, head) did.loads × (is_live head ≡ true) × (version_in head ≡ version)) ⊎ Has (header_word shape segment) did.changed
 
 module _ (shape : Shape) (words : Words) (did : Doings) (call : Call) (segment : ℕ) where
   -- the guard of free slots, or that of the directory

@@ -2,7 +2,7 @@
 use Rattle.std.specs.Prelude.{◌≡◌, ℕ, ◌+◌, ◌<◌, true, ◌⊎◌}
 use Rattle.hash_word.specs.Hash.{home_of, probing_of, next_of, previous_of}
 use Rattle.trace.specs.Events.{Words}
-use Rattle.image_layout.specs.Places.{Shape, head_at, bucket_at, homes}
+use Rattle.image_layout.specs.Places.{Shape, header_word, bucket_at, homes}
 use Rattle.way.specs.Ways.{is_leading}
 use Rattle.bucket_meta.specs.Bucket.{allocated, member, record_slots}
 use Rattle.bucket_meta.specs.Slots.{IsFull}
@@ -37,7 +37,7 @@ module _ (shape : Shape) (words : Words) (segment : ℕ) where
   -- THERE IS NO ROOM in a segment for a key of this hash: its header leads to the hash, home and probing bucket and both stash buckets are
   -- full, and nothing can be moved
   pub record HasNoRoom (hash : ℕ) : Type 0 where
-    pub leads : is_leading (words (head_at shape segment + 1)) hash ≡ true
+    pub leads : is_leading (words (header_word shape segment)) hash ≡ true
     pub home_full : IsFull (meta_now (home_of hash))
     pub probing_full : IsFull (meta_now (probing_of (home_of hash)))
     pub moves : NothingMoves (meta_now (home_of hash)) (meta_now (probing_of (home_of hash))) (meta_now (next_of (home_of hash))) (meta_now (previous_of (home_of hash)))

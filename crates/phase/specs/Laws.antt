@@ -4,7 +4,7 @@ use Rattle.op_core.specs.declared.want.Want.TheVariants.{Load as LoadWord}
 use Rattle.op_core.specs.declared.want.Ans.TheVariants.{Value}
 use Rattle.op_core.specs.Answers.{load_of}
 use Rattle.trace.specs.Events.{Words}
-use Rattle.image_layout.specs.Places.{Shape, IsShape, head_at, words_of, block}
+use Rattle.image_layout.specs.Places.{Shape, IsShape, header_word, words_of, block}
 use Rattle.image_layout.specs.Volatile.{all_words_of}
 use Rattle.sound_image.specs.Records.{key_hash}
 use Rattle.bucket_words.specs.Owners.{owner_of}
@@ -36,7 +36,7 @@ use Rattle.phase.specs.Causes.{WasFound, RemembersWalk, RemembersWalked, HasWalk
 -- THE OWNER of a hash is the segment whose header leads to it, in words whose structure is sound
 abbrev pub HeadersLead : Type 0
 HeadersLead = (site : Ground) → IsShape site.shape → (words : Words) → IsStructured site words → (s hash : ℕ) → s < site.shape.segments → hash < 2 ^ 64
-    → is_leading (words (head_at site.shape s + 1)) hash ≡ true → owner_of site.shape words hash ≡ Some s
+    → is_leading (words (header_word site.shape s)) hash ≡ true → owner_of site.shape words hash ≡ Some s
 
 -- so who has pinned such a header knows the owner while it is pinned
 abbrev pub PinnedLead : Type 0
@@ -46,7 +46,7 @@ PinnedLead = (site : Ground) (hash segment : ℕ) (v : View) → Leads site hash
 -- and who has noted one, whenever it is as it was
 abbrev pub NotedLead : Type 0
 NotedLead = (site : Ground) (hash : ℕ) (path : Path) (notes : List Glance) → IsShape site.shape → hash < 2 ^ 64 → path.segment < site.shape.segments
-    → (note : Glance) → Has note notes → note.word ≡ head_at site.shape path.segment + 1 → note.value ≡ path.head → is_leading path.head hash ≡ true
+    → (note : Glance) → Has note notes → note.word ≡ header_word site.shape path.segment → note.value ≡ path.head → is_leading path.head hash ≡ true
     → (words : Words) → IsNow site notes words → owner_of site.shape words hash ≡ Some path.segment
 
 -- ---- the way

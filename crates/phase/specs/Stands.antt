@@ -3,7 +3,7 @@ use Rattle.std.specs.Prelude.{◌≡◌, ℕ, ◌+◌, ◌-◌, ◌^◌, ◌<◌
 use Rattle.hash_word.specs.Hash.{index_of}
 use Rattle.trace.specs.Events.{Words}
 use Rattle.segment_head.specs.HeadWord.{version_in, is_live}
-use Rattle.image_layout.specs.Places.{Shape, IsShape, root_word, head_at, block}
+use Rattle.image_layout.specs.Places.{Shape, IsShape, root_word, header_word, block}
 use Rattle.world.specs.Facts.{Fact, Lives, Current, Rooted}
 use Rattle.way.specs.Ways.{entry_word, is_leading}
 use Rattle.world.specs.declared.site.Site.{Site}
@@ -43,7 +43,7 @@ module _ (here : Site) (hash : ℕ) where
 -- ---- where the way leads
 -- each live segment of these words has this version
 abbrev pub IsCurrent : Shape → Words → ℕ → Type 0
-IsCurrent shape words version = (s : ℕ) → s < shape.segments → is_live (words (head_at shape s + 1)) ≡ true → version_in (words (head_at shape s + 1)) ≡ version
+IsCurrent shape words version = (s : ℕ) → s < shape.segments → is_live (words (header_word shape s)) ≡ true → version_in (words (header_word shape s)) ≡ version
 
 -- THE WAY IS AT A SEGMENT of the image, of which a view relies on that it is live and current
 pub record IsThere (site : Ground) (segment : ℕ) (facts : List Fact) : Type 0 where
@@ -89,7 +89,7 @@ HasBegun walk v = IsBare v
 
 -- the note of a header
 abbrev pub head_note : Shape → Path → Glance
-head_note shape path = record { word = head_at shape path.segment + 1; value = path.head; words = []; again = false }
+head_note shape path = record { word = header_word shape path.segment; value = path.head; words = []; again = false }
 
 -- at the end of the way it has that one
 pub record NotesHead (shape : Shape) (path : Path) (v : View) : Type 0 where

@@ -1,10 +1,10 @@
 //! What the header of a segment says.
 
 ghost use Rattle.std.specs.Prelude.{◌≡◌, ◌+◌, ◌<◌, ◌==◌, length, slice_index};
-ghost use Rattle.image_layout.specs.Places.{head_at, words_of};
-ghost use Rattle.segment_head.specs.HeadWord.{version_in, state_in, depth_in, pattern_in};
+ghost use Rattle.image_layout.specs.Places.{header_word, words_of};
+ghost use Rattle.segment_head.specs.HeadWord.{version_in, state_in, depth_in, pattern_in, free};
 
-use image_layout::Geometry;
+use image_layout::{Geometry, HEADER};
 use segment_head::word::{FREE, NORMAL, SPLITTING, depth_of, pattern_of, state_of, version_of};
 use std::fmt;
 
@@ -25,12 +25,12 @@ pub struct Header {
 pub fn header_of(geometry: &Geometry, words: &[u64], s: u64) -> Header
     requires whole { length words.now ≡ words_of geometry.now }
     requires slot { s < geometry.now.segments }
-    ensures version { result.version ≡ version_in (slice_index words.now (head_at geometry.now s + 1)) }
-    ensures state { result.state ≡ state_in (slice_index words.now (head_at geometry.now s + 1)) }
-    ensures depth { result.depth ≡ depth_in (slice_index words.now (head_at geometry.now s + 1)) }
-    ensures pattern { result.pattern ≡ pattern_in (slice_index words.now (head_at geometry.now s + 1)) }
+    ensures version { result.version ≡ version_in (slice_index words.now (header_word geometry.now s)) }
+    ensures state { result.state ≡ state_in (slice_index words.now (header_word geometry.now s)) }
+    ensures depth { result.depth ≡ depth_in (slice_index words.now (header_word geometry.now s)) }
+    ensures pattern { result.pattern ≡ pattern_in (slice_index words.now (header_word geometry.now s)) }
 {
-    let head = words[geometry.head_at(s) as usize + 1];
+    let head = words[geometry.head_at(s) as usize + HEADER as usize];
     Header {
         version: version_of(head),
         state: state_of(head),
@@ -42,7 +42,7 @@ pub fn header_of(geometry: &Geometry, words: &[u64], s: u64) -> Header
 impl Header {
     /// Whether no hash can lead here: the slot may be taken by a split.
     pub fn is_free(&self) -> bool
-        ensures { result ≡ (self.now.state == 0) }
+        ensures { result ≡ (self.now.state == free) }
     {
         self.state == FREE
     }

@@ -4,7 +4,7 @@ ghost use Rattle.std.specs.Prelude.{◌≡◌, ◌≤◌};
 ghost use Rattle.image_layout.specs.Places.{most_words};
 ghost use Rattle.repair_op.specs.Guarded.{guard_of, link_of};
 
-use image_layout::ROOT_WORD;
+use image_layout::{LINK, ROOT_WORD};
 use world::Site;
 
 /// A segment that has not the image's version, and whose guard is held.
@@ -39,7 +39,7 @@ impl Guarded {
     {
         let geometry = &self.site.geometry;
         if self.segment < geometry.segments() {
-            geometry.head_at(self.segment) + 2
+            geometry.head_at(self.segment) + LINK
         } else {
             ROOT_WORD
         }

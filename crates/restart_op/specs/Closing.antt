@@ -7,7 +7,7 @@ use Rattle.trace.specs.Events.{Words, Event, Trace, with_word, value, value_at, 
 use Rattle.trace.specs.Progress.{pending}
 use Rattle.trace.specs.Steps.{Writes}
 use Rattle.trace.specs.Media.{IsPossible}
-use Rattle.image_layout.specs.Places.{Shape, IsShape, state_word, words_of}
+use Rattle.image_layout.specs.Places.{Shape, IsShape, state_word, words_of, front_words}
 use Rattle.image_layout.specs.StateWord.{marker}
 use Rattle.sound_image.specs.Segments.{frame_of, IsClean}
 use Rattle.sound_image.specs.Image.{magic, format_word, IsSoundImage}
@@ -101,7 +101,7 @@ pub record IsKept (site : Ground) (words : Words) (medium : List ℕ) : Type 0 w
   pub sound : IsSoundImage site.shape medium
   pub same : (k : ℕ) → find site.shape (slice_index medium) k ≡ find site.shape words k
   pub pairs : (m : Map) → ((k : ℕ) → get m k ≡ find site.shape words k) → HasPairsOf site.shape (slice_index medium) m
-  pub front : (i : ℕ) → i < 4 → slice_index medium i ≡ site.front i
+  pub front : (i : ℕ) → i < front_words → slice_index medium i ≡ site.front i
 
 -- WHATEVER A CUT MAY LEAVE DURING A CLOSE is a sound image with the pairs of the table
 abbrev pub CloseKeeps : Type 0

@@ -3,7 +3,7 @@ use Rattle.std.specs.Prelude.{ℕ, ◌+◌, ◌-◌, ◌==◌, nat_lt, true, fal
 use Rattle.trace.specs.Events.{line_of, most_unfenced}
 use Rattle.segment_head.specs.Versions.{unversioned}
 use Rattle.image_layout.specs.Places.{Shape, state_word}
-use Rattle.image_layout.specs.StateWord.{image_version_in, marker_in, last_image_version}
+use Rattle.image_layout.specs.StateWord.{image_version_in, marker_in, last_image_version, first_version}
 use Rattle.op_core.specs.declared.want.Want.{Want}
 use Rattle.op_core.specs.declared.want.Want.TheVariants as want
 use Rattle.op_core.specs.declared.want.Ans.{Ans}
@@ -20,7 +20,7 @@ abbrev pub started_with : ℕ → Started
 started_with version = record { version = version; swept = false }
 
 abbrev pub swept_through : Started
-swept_through = record { version = 1; swept = true }
+swept_through = record { version = first_version; swept = true }
 
 -- BY THE STATE WORD that it finds: of a clean image the version stays, and any other gets the next one; above the last one there is none
 abbrev pub started_for : ℕ → Started

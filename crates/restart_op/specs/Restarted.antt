@@ -5,7 +5,7 @@ use Rattle.segment_head.specs.Versions.{unversioned}
 use Rattle.trace.specs.Events.{Words, Trace, HasLine, most_unfenced}
 use Rattle.trace.specs.Progress.{pending}
 use Rattle.trace.specs.Media.{IsPossible}
-use Rattle.image_layout.specs.Places.{Shape, IsShape, state_word, words_of}
+use Rattle.image_layout.specs.Places.{Shape, IsShape, state_word, words_of, front_words}
 use Rattle.image_layout.specs.StateWord.{last_image_version}
 use Rattle.image_layout.specs.Volatile.{all_words_of}
 use Rattle.map_model.specs.Map.{Map}
@@ -73,7 +73,7 @@ RestartAsks = (shape : Shape) (words : List ℕ) (n : ℕ) → IsShape shape →
 pub record HasTheSame (shape : Shape) (words medium : List ℕ) : Type 0 where
   pub sound : IsSoundImage shape medium
   pub pairs : (m : Map) → HasPairsOf shape (slice_index words) m → HasPairsOf shape (slice_index medium) m
-  pub front : (i : ℕ) → i < 4 → slice_index medium i ≡ slice_index words i
+  pub front : (i : ℕ) → i < front_words → slice_index medium i ≡ slice_index words i
 
 -- A CUT after any number of events, also in a sweep, leaves the same pairs in a sound image
 abbrev pub RestartKeeps : Type 0

@@ -5,7 +5,7 @@
 #![tactic(auto)]
 
 ghost use Rattle.std.specs.Prelude.{◌≡◌, ◌<◌, ◌+◌, ◌*◌, IfSome, IfNone, IsNone, ◌^◌};
-ghost use Rattle.segment_head.specs.HeadWord.{state_in};
+ghost use Rattle.segment_head.specs.HeadWord.{state_in, fresh};
 ghost use Rattle.segment_head.specs.Head.{IsHeadOf, number_of};
 ghost use Rattle.segment_head.specs.Sides.{IsOneSideOf, CoversOnes};
 ghost use Rattle.segment_head.specs.Written.{spare_in};
@@ -49,7 +49,7 @@ pub struct Head {
 /// The number of a state in a header word, from 0 to 3.
 fn state_number(state: State) -> u8
     ensures value { result ≡ number_of state }
-    ensures range { result < 4 }
+    ensures range { result < fresh + 1 }
 {
     match state {
         State::Free => FREE,
@@ -63,8 +63,8 @@ impl Head {
     /// Reads a header word. None exactly where its state byte is above 3.
     pub fn read(h1: u64) -> Option<Head>
         ensures some { IfSome result (λ head. IsHeadOf head h1) }
-        ensures none { IfNone result (3 < state_in h1) }
-        ensures refused { 3 < state_in h1 → IsNone result }
+        ensures none { IfNone result (fresh < state_in h1) }
+        ensures refused { fresh < state_in h1 → IsNone result }
     {
         let state = match state_of(h1) {
             FREE => State::Free,

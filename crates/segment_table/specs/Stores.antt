@@ -3,7 +3,7 @@ use Rattle.std.specs.Prelude.{◌≡◌, ◌≢◌, ℕ, suc, ◌+◌, ◌*◌, 
 use Rattle.trace.specs.Events.{with_word}
 use Rattle.hash_word.specs.Hash.{index_of}
 use Rattle.segment_head.specs.HeadWord.{version_in, state_in, depth_in, pattern_in, free, normal, splitting, fresh}
-use Rattle.sound_image.specs.Places.{Shape, root_word, state_word, entry_at, head_at}
+use Rattle.sound_image.specs.Places.{Shape, root_word, state_word, entry_at, head_at, header_word, link_word}
 use Rattle.sound_image.specs.StateWord.{image_version_in}
 use Rattle.sound_image.specs.Segments.{ImageWords, Frame, frame_of, image_version, state_at, depth_at, pattern_at, InOneSide, IsReadySide, HasReadySide}
 use Rattle.segment_table.specs.Claims.{Claims, named_for, IsSoundFrame}
@@ -140,7 +140,7 @@ module _ (shape : Shape) (word : ImageWords) where
   -- the words that the frame is read from: any other store leaves it as it is, so one to an entry of another area
   abbrev pub IsFrameWord : ℕ → Type 0
   IsFrameWord i =
-      (i ≡ root_word) ⊎ (i ≡ state_word) ⊎ ((s : ℕ) × (s < shape.segments) × ((i ≡ head_at shape s + 1) ⊎ (i ≡ head_at shape s + 2)))
+      (i ≡ root_word) ⊎ (i ≡ state_word) ⊎ ((s : ℕ) × (s < shape.segments) × ((i ≡ header_word shape s) ⊎ (i ≡ link_word shape s)))
       ⊎ ((e : ℕ) × (e < 2 ^ word root_word) × (i ≡ entry_at (word root_word) e))
 
   -- a store keeps the claims

@@ -3,7 +3,7 @@
 ghost use Rattle.std.specs.Prelude.{◌≡◌, ◌≢◌, ◌↔◌, ℕ, ◌+◌, ◌^◌, ◌<◌, ◌≤◌, Option, None, Some};
 ghost use Rattle.trace.specs.Events.{with_word};
 ghost use Rattle.hash_word.specs.Hash.{index_of};
-ghost use Rattle.sound_image.specs.Places.{Shape, IsShape, most_depth, block, buckets, root_word, state_word, entry_at, head_at, bucket_at, words_of};
+ghost use Rattle.sound_image.specs.Places.{Shape, IsShape, most_depth, block, buckets, root_word, state_word, entry_at, header_word, link_word, bucket_at, words_of};
 ghost use Rattle.sound_image.specs.Segments.{ImageWords, Frame, frame_of, depth_at, IsLive, CoversHash, IsLiveFor, Owns, InOneSide, IsReadySide, HasReadySide};
 ghost use Rattle.segment_table.specs.Claims.{Claims, ClaimsNoOneSide, ClaimsOneSide, IsSideEntry, IsSoundFrame, HasSoundFrame, FollowsFrameRules};
 ghost use Rattle.segment_table.specs.Owner.{owner};
@@ -45,21 +45,21 @@ pub fn side_entries_stand_in_a_row()
 /// A free slot becomes new, and a new one free.
 pub fn slots_are_taken_and_freed()
     ensures takes { (shape : Shape) (word : ImageWords) → IsShape shape → HasSoundFrame shape word → (n x : ℕ) → TakesSlot (frame_of shape word) shape.depth n x
-        → StoreKeeps shape word (head_at shape n + 1) x }
+        → StoreKeeps shape word (header_word shape n) x }
     ensures frees { (shape : Shape) (word : ImageWords) → IsShape shape → HasSoundFrame shape word → (n x : ℕ) → FreesSlot (frame_of shape word) n x
-        → StoreKeeps shape word (head_at shape n + 1) x }
+        → StoreKeeps shape word (header_word shape n) x }
 {}
 
 /// The link of a segment that is not splitting names another slot, or none.
 pub fn links_are_stored()
     ensures { (shape : Shape) (word : ImageWords) → IsShape shape → HasSoundFrame shape word → (s l : ℕ) → Links (frame_of shape word) s l
-        → StoreKeeps shape word (head_at shape s + 2) l }
+        → StoreKeeps shape word (link_word shape s) l }
 {}
 
 /// A normal segment becomes splitting.
 pub fn splits_begin()
     ensures { (shape : Shape) (word : ImageWords) → IsShape shape → HasSoundFrame shape word → (s x : ℕ) → BeginsSplit (frame_of shape word) s x
-        → StoreKeeps shape word (head_at shape s + 1) x }
+        → StoreKeeps shape word (header_word shape s) x }
 {}
 
 /// The root becomes one deeper, over an area that names for each entry what the entry above it names.
@@ -71,7 +71,7 @@ pub fn directories_double()
 /// The side of a splitting segment becomes live, and takes the hashes of the 1-side, and no others.
 pub fn sides_go_live()
     ensures { (shape : Shape) (word : ImageWords) → IsShape shape → HasSoundFrame shape word → (s n x : ℕ) → GoesLive (frame_of shape word) s n x
-        → StoreHandsOver shape word s n (head_at shape n + 1) x }
+        → StoreHandsOver shape word s n (header_word shape n) x }
 {}
 
 /// In a split, an entry names the segment that claims its hashes.
@@ -83,7 +83,7 @@ pub fn splits_name_claimers()
 /// A splitting segment becomes normal and one deeper, when each entry of its 1-side names a deeper segment.
 pub fn splits_end()
     ensures { (shape : Shape) (word : ImageWords) → IsShape shape → HasSoundFrame shape word → (s x : ℕ) → EndsSplit (frame_of shape word) s x
-        → StoreKeeps shape word (head_at shape s + 1) x }
+        → StoreKeeps shape word (header_word shape s) x }
 {}
 
 /// In a repair, an entry of the 1-side of a segment names its ready side, where it named no deeper segment.
@@ -95,13 +95,13 @@ pub fn repairs_name_sides()
 /// A splitting segment without a ready side becomes normal, as deep as it was.
 pub fn splits_are_dropped()
     ensures { (shape : Shape) (word : ImageWords) → IsShape shape → HasSoundFrame shape word → (s x : ℕ) → DropsSplit (frame_of shape word) s x
-        → StoreKeeps shape word (head_at shape s + 1) x }
+        → StoreKeeps shape word (header_word shape s) x }
 {}
 
 /// A repair ends with a header of the image's version; a restart stores the state word, and may set version bytes to 0 before.
 pub fn versions_are_stored()
     ensures byte { (shape : Shape) (word : ImageWords) → IsShape shape → HasSoundFrame shape word → (s x : ℕ) → Renews (frame_of shape word) s x
-        → StoreKeeps shape word (head_at shape s + 1) x }
+        → StoreKeeps shape word (header_word shape s) x }
     ensures state { (shape : Shape) (word : ImageWords) → IsShape shape → HasSoundFrame shape word → (x : ℕ) → Opens (frame_of shape word) x
         → StoreKeeps shape word state_word x }
 {}

@@ -13,7 +13,7 @@ use Rattle.map_model.specs.ByPlaces.{map_at}
 use Rattle.hash_word.specs.Hash.{top}
 use Rattle.sound_image.specs.Bucket.{version_of, last_lock_version}
 use Rattle.sound_image.specs.HeadWord.{free}
-use Rattle.sound_image.specs.Places.{Shape, bucket_at, buckets, slots_of_key}
+use Rattle.sound_image.specs.Places.{Shape, front_words, bucket_at, buckets, slots_of_key}
 use Rattle.sound_image.specs.Segments.{frame_of, IsClean, IsLive, state_at}
 use Rattle.sound_image.specs.Records.{key_hash}
 use Rattle.sound_image.specs.Image.{IsSoundImage}
@@ -69,7 +69,7 @@ pub record IsSession (shape : Shape) (first last : List ℕ) (scripts : List (Li
   pub legal : IsLegal opening (map history_of tolds)
   -- the image that is left is sound and of the same shape, and holds that history's map, open calls whole or absent
   pub sound : IsSoundImage shape last
-  pub same_shape : (i : ℕ) → i < 4 → slice_index last i ≡ slice_index first i
+  pub same_shape : (i : ℕ) → i < front_words → slice_index last i ≡ slice_index first i
   pub after_close : ending.closed ≡ true → IsClosed shape last scripts tolds (replay opening (weave (map history_of tolds)))
   pub after_cut : ending.closed ≡ false → IsLeft shape (slice_index last) (replay opening (weave (map history_of tolds))) (undrawn scripts tolds)
   -- refusals had their causes

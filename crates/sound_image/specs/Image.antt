@@ -2,12 +2,16 @@
 use Rattle.std.specs.Prelude.{◌≡◌, ℕ, ◌+◌, ◌*◌, ◌^◌, ◌<◌, List, length, slice_index}
 use Rattle.std.specs.List.{flat_map}
 use Rattle.byteorder.specs.Endian.{little_bytes}
-use Rattle.image_layout.specs.Places.{Shape, IsShape, words_of}
+use Rattle.image_layout.specs.Places.{Shape, IsShape, format_number, kind_from, words_of}
 use Rattle.sound_image.specs.Rules.{FollowsRules}
 
--- the file of an image has 8 bytes for each word, the lowest first
+-- how many bytes a word has
+abbrev pub word_bytes : ℕ
+word_bytes = 8
+
+-- the file of an image has so many bytes for each word, the lowest first
 abbrev pub image_bytes : List ℕ → List ℕ
-image_bytes words = flat_map (little_bytes 8) words
+image_bytes words = flat_map (little_bytes word_bytes) words
 
 -- the first word: its bytes are the text DASHEH01
 abbrev pub magic : ℕ
@@ -15,7 +19,7 @@ magic = 0x3130484548534144
 
 -- the second word: the number of the format, and the kind of hash above it
 abbrev pub format_word : Shape → ℕ
-format_word shape = 1 + shape.kind * 2 ^ 32
+format_word shape = format_number + shape.kind * 2 ^ kind_from
 
 -- the first four words say what the image is and how it is laid out
 pub record SaysShape (shape : Shape) (words : List ℕ) : Type 0 where

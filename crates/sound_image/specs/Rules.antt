@@ -4,7 +4,7 @@ use Rattle.std.specs.Prelude.{◌≡◌, ◌≢◌, ℕ, ◌+◌, ◌^◌, ◌<�
 use Rattle.hash_word.specs.Hash.{home_of, finger_of, probing_of}
 use Rattle.image_layout.specs.Bucket.{lock_of, member, finger}
 use Rattle.segment_head.specs.HeadWord.{version_in, normal}
-use Rattle.image_layout.specs.Places.{Shape, homes, buckets, root_word, state_word, entry_at, head_at, bucket_at, key_at}
+use Rattle.image_layout.specs.Places.{Shape, homes, buckets, root_word, state_word, entry_at, header_word, link_word, bucket_at, key_at}
 use Rattle.sound_image.specs.Segments.{ImageWords, Frame, frame_of, image_version, IsClean, state_at, IsLive, Owns}
 use Rattle.sound_image.specs.Directory.{RootInRange, VersionInRange, HeadInRange, LinkInRange, HasOwners, SharesWell, EntryLeads, VersionIsPast}
 use Rattle.sound_image.specs.Records.{word_in, slot_key, slot_value, slot_hash, HasRecord, HasOwnRecord, HasExactNotes}
@@ -46,13 +46,13 @@ module _ (shape : Shape) (word : ImageWords) where
   pub record NumbersFit (w : ℕ) : Type 0 where
     pub root : w ≡ root_word → RootInRange frame shape.depth
     pub version_fits : w ≡ state_word → VersionInRange frame
-    pub head : (s : ℕ) → s < shape.segments → w ≡ head_at shape s + 1 → HeadInRange frame shape.depth s
-    pub side : (s : ℕ) → s < shape.segments → w ≡ head_at shape s + 2 → LinkInRange frame s
+    pub head : (s : ℕ) → s < shape.segments → w ≡ header_word shape s → HeadInRange frame shape.depth s
+    pub side : (s : ℕ) → s < shape.segments → w ≡ link_word shape s → LinkInRange frame s
 
   -- each hash has one owner, beside segments that are splitting it off
   pub record HashesAreOwned (w : ℕ) : Type 0 where
     pub entry : (i : ℕ) → i < 2 ^ frame.root → w ≡ entry_at frame.root i → HasOwners frame i
-    pub head : (s : ℕ) → s < shape.segments → w ≡ head_at shape s + 1 → IsLive frame s → SharesWell frame s
+    pub head : (s : ℕ) → s < shape.segments → w ≡ header_word shape s → IsLive frame s → SharesWell frame s
 
   -- the entries of the directory lead to the owners
   abbrev pub EntriesLead : ℕ → Type 0
@@ -68,12 +68,12 @@ module _ (shape : Shape) (word : ImageWords) where
 
   -- no version byte is above the image's version
   abbrev pub VersionsArePast : ℕ → Type 0
-  VersionsArePast w = (s : ℕ) → s < shape.segments → w ≡ head_at shape s + 1 → VersionIsPast frame s
+  VersionsArePast w = (s : ℕ) → s < shape.segments → w ≡ header_word shape s → VersionIsPast frame s
 
   -- in a clean image each live segment of the image's version is normal and unlocked, holds its own records alone
   -- and each key once, and has exact overflow notes
   pub record CleanMeansRepaired (w : ℕ) : Type 0 where
-    pub head : (s : ℕ) → IsCleanAndCurrent s → w ≡ head_at shape s + 1 → state_at frame s ≡ normal
+    pub head : (s : ℕ) → IsCleanAndCurrent s → w ≡ header_word shape s → state_at frame s ≡ normal
     pub lock : (s b : ℕ) → IsCleanAndCurrent s → b < buckets → w ≡ bucket_at shape s b → lock_of (word w) ≡ 0
     pub own : (s b r : ℕ) → IsCleanAndCurrent s → HasRecord shape word s b r → w ≡ key_at shape s b r → Owns frame s (slot_hash shape word s b r)
     pub once : (s b r : ℕ) → IsCleanAndCurrent s → HasRecord shape word s b r → w ≡ key_at shape s b r → NotBefore s b r

@@ -1,7 +1,7 @@
 -- Live segments, owners and ready sides, read from the headers and the directory of an image.
 use Rattle.std.specs.Prelude.{◌≡◌, ℕ, suc, ◌+◌, ◌-◌, ◌*◌, ◌^◌, ◌<◌, ◌≤◌}
 use Rattle.hash_word.specs.Hash.{Covers}
-use Rattle.image_layout.specs.Places.{Shape, root_word, state_word, entry_at, head_at}
+use Rattle.image_layout.specs.Places.{Shape, root_word, state_word, entry_at, header_word, link_word}
 use Rattle.image_layout.specs.StateWord.{image_version_in, IsMarked}
 use Rattle.segment_head.specs.HeadWord.{state_in, depth_in, pattern_in, splitting, HasLiveState}
 
@@ -25,8 +25,8 @@ frame_of shape word =
       segments = shape.segments;
       root = word root_word;
       status = word state_word;
-      header = λ s. word (head_at shape s + 1);
-      link = λ s. word (head_at shape s + 2);
+      header = λ s. word (header_word shape s);
+      link = λ s. word (link_word shape s);
       entry = λ i. word (entry_at (word root_word) i);
     }
 

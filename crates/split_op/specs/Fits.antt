@@ -5,7 +5,7 @@ use Rattle.op_core.specs.declared.want.Want.{Want}
 use Rattle.op_core.specs.declared.want.Want.TheVariants.{Store}
 use Rattle.bucket_meta.specs.Bucket.{first_key}
 use Rattle.segment_head.specs.HeadWord.{state_in, free}
-use Rattle.image_layout.specs.Places.{root_word, words_of, head_at, bucket_at, buckets, block, segment_words, words_of_buckets}
+use Rattle.image_layout.specs.Places.{root_word, words_of, head_at, header_number, bucket_at, buckets, block, segment_words, words_of_buckets}
 use Rattle.map_model.specs.declared.call.Call.{Call}
 use Rattle.map_model.specs.declared.entry.Reply.TheVariants.{Full}
 use Rattle.map_model.specs.Changes.{call_of}
@@ -144,7 +144,7 @@ module _ (site : Ground) (here : Site) (call : Call) where
 
   -- its header is known as a free one
   abbrev pub KnowsFreeHeader : Copied → View → Type 0
-  KnowsFreeHeader c v = (head : ℕ) × Has (side_at c 1, head) v.known × (state_in head ≡ free)
+  KnowsFreeHeader c v = (head : ℕ) × Has (side_at c header_number, head) v.known × (state_in head ≡ free)
 
   -- ---- while its lock words are loaded
   abbrev pub look_areas : Copied → ℕ → List Area
@@ -195,7 +195,7 @@ module _ (site : Ground) (here : Site) (call : Call) where
     KnowsLink (Copy number) v = IsLinked v
 
     abbrev pub IsNewSide : View → Type 0
-    IsNewSide v = Has (side_at c 1, side_head c.whole) v.known
+    IsNewSide v = Has (side_at c header_number, side_head c.whole) v.known
 
     -- the header of the side
     abbrev pub KnowsSideHeader : Batch → View → Type 0
@@ -237,7 +237,7 @@ module _ (site : Ground) (here : Site) (call : Call) where
     MayBeLoose (Mark false) i = ⊥
     MayBeLoose (Mark true) i = i ≡ header_word site.shape c.whole.segment
     MayBeLoose (New false) i = ⊥
-    MayBeLoose (New true) i = i ≡ side_at c 1
+    MayBeLoose (New true) i = i ≡ side_at c header_number
     MayBeLoose (Copy number) i = (p : ℕ) × (2 ≤ p) × (p < segment_words) × (i ≡ side_at c p)
 
     -- WHILE A TASK IS STORED

@@ -9,7 +9,7 @@ use crate::copied::Copied;
 use crate::seek::copied_from;
 use bucket_meta::words;
 use enclose_op::Enclosed;
-use image_layout::{BLOCK, BUCKETS, Geometry, ROOT_WORD, SEGMENT_WORDS};
+use image_layout::{BLOCK, BUCKETS, Geometry, HEADER, LINK, ROOT_WORD, SEGMENT_WORDS};
 use segment_head::word::{FRESH, SPLITTING, depth_of, header_of, pattern_of, version_of};
 
 /// What is stored. Words of a slot are numbered from its first header word on: number 1 is its header, number 2 its link, and number
@@ -28,6 +28,10 @@ pub enum Batch {
     Copy(u16),
 }
 
+/// The number of the header word of a slot.
+pub const HEADER_NUMBER: u16 = HEADER as u16;
+/// That of the word of its link.
+const LINK_NUMBER: u16 = LINK as u16;
 /// How many words a header and a bucket have.
 pub const BLOCK_WORDS: u16 = BLOCK as u16;
 /// How many words a slot has.
@@ -126,15 +130,15 @@ pub fn due(copied: &Copied, locks: &[u64; BUCKETS as usize], batch: Batch) -> Op
             empty_value(locks, number),
         )),
         Batch::Link(false) => Some((
-            slot_word(geometry, copied.whole.segment, 2),
+            slot_word(geometry, copied.whole.segment, LINK_NUMBER),
             copied.side.wrapping_add(1),
         )),
         Batch::Mark(false) => Some((
-            slot_word(geometry, copied.whole.segment, 1),
+            slot_word(geometry, copied.whole.segment, HEADER_NUMBER),
             split_head(&copied.whole),
         )),
         Batch::New(false) => Some((
-            slot_word(geometry, copied.side, 1),
+            slot_word(geometry, copied.side, HEADER_NUMBER),
             side_head(&copied.whole),
         )),
         Batch::Copy(number) if number < SLOT_WORDS => Some((

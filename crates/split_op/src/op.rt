@@ -5,7 +5,7 @@ ghost use Rattle.op_core.specs.declared.want.Want.TheVariants as want;
 ghost use Rattle.split_op.specs.Fits.{hands_on_at};
 ghost use Rattle.split_op.specs.Steps.{split_of, wanted, taken, end_of};
 
-use crate::batch::{BLOCK_WORDS, due, slot_word};
+use crate::batch::{BLOCK_WORDS, HEADER_NUMBER, due, slot_word};
 use crate::copied::Copied;
 use crate::copy::side_words;
 use crate::step::{SplitEnd, SplitStep};
@@ -78,7 +78,7 @@ fn want_of(op: &SplitOp) -> Want
             0,
             u64::from(op.copied.whole.site.caller),
         ),
-        SplitStep::Search(slot) => Want::Load(slot_word(geometry, *slot, 1)),
+        SplitStep::Search(slot) => Want::Load(slot_word(geometry, *slot, HEADER_NUMBER)),
         SplitStep::Count => Want::Load(geometry.counter_word()),
         SplitStep::Return(_) | SplitStep::Release => Want::Store(geometry.allocation_guard(), 0),
         SplitStep::Look(bucket) => Want::Load(slot_word(

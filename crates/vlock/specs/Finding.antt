@@ -1,8 +1,8 @@
 -- What finding the segment of a hash tells.
-use Rattle.std.specs.Prelude.{◌≡◌, ◌≢◌, true, false, ℕ, ◌+◌, ◌<◌, ◌≤◌, Some, List, [], ◌∷◌}
+use Rattle.std.specs.Prelude.{◌≡◌, ◌≢◌, true, false, ℕ, ◌<◌, ◌≤◌, Some, List, [], ◌∷◌}
 use Rattle.hash_word.specs.Hash.{index_of}
 use Rattle.segment_head.specs.HeadWord.{version_in, HasLiveState}
-use Rattle.image_layout.specs.Places.{Shape, root_word, entry_at, head_at}
+use Rattle.image_layout.specs.Places.{Shape, root_word, entry_at, header_word}
 use Rattle.way.specs.Ways.{is_leading}
 use Rattle.op_core.specs.declared.want.Want.{Want}
 use Rattle.op_core.specs.declared.want.Want.TheVariants.{Load}
@@ -28,17 +28,17 @@ pub record WasMet (site : Ground) (v : View) (at x : ℕ) : Type 0 where
 
 -- such a moment at which the header of a segment was this, and the segment owned a hash
 pub record WasOwner (site : Ground) (v : View) (segment header hash : ℕ) : Type 0 where
-  pub header_met : WasMet site v (head_at site.shape segment + 1) header
+  pub header_met : WasMet site v (header_word site.shape segment) header
   pub owned : owner_of site.shape header_met.moment.words hash ≡ Some segment
 
 -- the three loads, the newest first, with what each found
 abbrev pub three_loads : Shape → ℕ → ℕ → ℕ → ℕ → List (Want × ℕ) → List (Want × ℕ)
 three_loads shape hash root segment header took =
-    (Load (head_at shape segment + 1), header) ∷ (Load (entry_at root (index_of root hash)), segment) ∷ (Load root_word, root) ∷ took
+    (Load (header_word shape segment), header) ∷ (Load (entry_at root (index_of root hash)), segment) ∷ (Load root_word, root) ∷ took
 
 -- the note of a header
 abbrev pub noted_header : Shape → ℕ → ℕ → Glance
-noted_header shape segment header = record { word = head_at shape segment + 1; value = header; words = []; again = false }
+noted_header shape segment header = record { word = header_word shape segment; value = header; words = []; again = false }
 
 -- THE WAY WAS GONE to a live segment: the root depth, the entry of the hash in its directory and the header of the segment that the entry named
 -- were loaded, each as it was at a moment. The view relies on what it relied on before, on the depth, and on the segment to be live; it has
@@ -51,7 +51,7 @@ pub record WentTo (site : Ground) (hash segment header : ℕ) (p q : Watch) : Ty
   pub took : q.took ≡ three_loads site.shape hash root segment header p.took
   pub root_was : WasMet site p.view root_word root
   pub entry_was : WasMet site p.view (entry_at root (index_of root hash)) segment
-  pub header_was : WasMet site p.view (head_at site.shape segment + 1) header
+  pub header_was : WasMet site p.view (header_word site.shape segment) header
   pub noted : q.view.notes ≡ noted_header site.shape segment header ∷ p.view.notes
   pub still : (fact : Fact) → Has fact p.view.facts → Has fact q.view.facts
   pub rooted : Has (Rooted root) q.view.facts

@@ -3,7 +3,7 @@
 ghost use Rattle.std.specs.Prelude.{◌≡◌, ℕ, ◌+◌, ◌<◌, ◌≤◌, ◌^◌, None};
 ghost use Rattle.hash_word.specs.Hash.{index_of};
 ghost use Rattle.segment_head.specs.HeadWord.{HasLiveState};
-ghost use Rattle.image_layout.specs.Places.{root_word, entry_at, head_at};
+ghost use Rattle.image_layout.specs.Places.{root_word, entry_at, header_word};
 ghost use Rattle.world.specs.Facts.{Lives, Rooted};
 ghost use Rattle.world.specs.Ground.{version_of};
 ghost use Rattle.world.specs.Views.{Has};
@@ -17,7 +17,7 @@ ghost use Rattle.vlock.specs.Finding.{IsBesideWay, Finds};
 use crate::bucket::load;
 use crate::table::{Image, ImageSeat};
 use hash_word::dir_index;
-use image_layout::{Geometry, ROOT_WORD};
+use image_layout::{Geometry, HEADER, ROOT_WORD};
 use segment_head::word;
 use std::marker::Brand;
 use way::is_leading;
@@ -84,10 +84,10 @@ fn meet_head(
     requires version { version ≡ version_of (ground_of image.now.key) }
     requires known { Has (Lives segment) seat.old.me.0.view.facts }
     ensures table { IsSeatOf image.now.table_id image.now.key seat.new }
-    ensures view { Loads (ground_of image.now.key) (head_at image.now.key.geometry segment + 1) (λ n. of_call (meets_head segment version)) seat.old.me.0 result seat.new.me.0 }
+    ensures view { Loads (ground_of image.now.key) (header_word image.now.key.geometry segment) (λ n. of_call (meets_head segment version)) seat.old.me.0 result seat.new.me.0 }
     ensures live { HasLiveState result }
 {
-    let head = geometry.head_at(segment) + 1;
+    let head = geometry.head_at(segment) + HEADER;
     load::<Brand, (u64, u8)>(image, geometry, seat, head, &(segment, version))
 }
 

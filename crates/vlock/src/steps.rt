@@ -13,6 +13,8 @@ use op_core::{Ans, Want};
 
 /// How many words a line has.
 const LINE: usize = trace::LINE as usize;
+/// How many words behind the commit counter the power word stands.
+const POWER: usize = image_layout::POWER as usize;
 
 /// One event, as one atomic step. It gives the value that its word was found to have.
 ///
@@ -44,7 +46,7 @@ pub fn step<N: Acting, E>(
         Want::Draw => image.fetch_add::<Acts<N>>(seat, counter, 1),
         Want::Flush(line) => image.load::<Acts<N>>(seat, LINE * line as usize),
         Want::Fence => image.load::<Acts<N>>(seat, counter),
-        Want::Power => image.load::<Acts<N>>(seat, counter + 1),
+        Want::Power => image.load::<Acts<N>>(seat, counter + POWER),
         Want::Done => unreachable!(),
     }
 }

@@ -1,6 +1,6 @@
 -- The way from a hash to its bucket: the words on it, and what the header of its segment has to cover.
-use Rattle.std.specs.Prelude.{ℕ, ◌+◌, nat_le, nat_lt, Bool, ◌==◌, ◌&&◌, if◌then◌else◌}
-use Rattle.image_layout.specs.Places.{Shape, root_word, entry_at, head_at, bucket_at}
+use Rattle.std.specs.Prelude.{ℕ, nat_le, nat_lt, Bool, ◌==◌, ◌&&◌, if◌then◌else◌}
+use Rattle.image_layout.specs.Places.{Shape, root_word, entry_at, header_word, bucket_at}
 use Rattle.image_layout.specs.Volatile.{segment_guard}
 use Rattle.hash_word.specs.Hash.{index_of, top}
 use Rattle.segment_head.specs.HeadWord.{state_in, depth_in, pattern_in, normal}
@@ -11,7 +11,7 @@ entry_word shape hash root = if nat_le root shape.depth then entry_at root (inde
 
 -- the header word of a segment; a slot that the image has not gives the root's word
 abbrev pub head_word : Shape → ℕ → ℕ
-head_word shape segment = if nat_lt segment shape.segments then head_at shape segment + 1 else root_word
+head_word shape segment = if nat_lt segment shape.segments then header_word shape segment else root_word
 
 -- the guard of a segment; a slot that the image has not gives the root's word
 abbrev pub slot_guard : Shape → ℕ → ℕ

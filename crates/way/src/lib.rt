@@ -11,7 +11,7 @@ ghost use Rattle.sound_image.specs.Records.{key_hash};
 ghost use Rattle.way.specs.Ways.{entry_word, head_word, bucket_word};
 
 use hash_word::{Kind, dir_index, hash};
-use image_layout::{Geometry, ROOT_WORD};
+use image_layout::{Geometry, HEADER, ROOT_WORD};
 use segment_head::word::{NORMAL, depth_of, pattern_of, state_of};
 
 /// The hash of a key in an image that is laid out so.
@@ -42,7 +42,7 @@ pub fn head_word(geometry: &Geometry, segment: u64) -> u64
     ensures { result ≡ head_word geometry.now segment }
 {
     if segment < geometry.segments() {
-        geometry.head_at(segment) + 1
+        geometry.head_at(segment) + HEADER
     } else {
         ROOT_WORD
     }

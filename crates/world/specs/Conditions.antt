@@ -1,7 +1,7 @@
 -- What each kind of step asks of the stepping view alone.
 use Rattle.std.specs.Prelude.{◌≡◌, ◌≢◌, ℕ, ◌+◌, ◌%◌, ◌^◌, ◌<◌, ◌≤◌, Bool, true, false, ⊤, Option, Some, List, [], ◌∷◌, ◌⊎◌}
 use Rattle.trace.specs.Events.{Words, with_word}
-use Rattle.image_layout.specs.Places.{Shape, head_at, bucket_at, homes, stash_buckets, buckets}
+use Rattle.image_layout.specs.Places.{Shape, header_word, bucket_at, homes, stash_buckets, buckets}
 use Rattle.map_model.specs.declared.call.Call.{Call}
 use Rattle.map_model.specs.declared.call.Call.TheVariants.{Remove}
 use Rattle.map_model.specs.declared.entry.Reply.{Reply}
@@ -72,7 +72,7 @@ module _ (site : Ground) where
   pub record IsNewest (v : View) (words : Words) : Type 0 where
     pub structure : IsStructured site words
     pub says : (f : Fact) → Has f v.facts → HoldsFact site.shape (version_of site) words f words
-    pub pinned : (s x : ℕ) → Has (s, x) v.pinned → words (head_at site.shape s + 1) ≡ x
+    pub pinned : (s x : ℕ) → Has (s, x) v.pinned → words (header_word site.shape s) ≡ x
     pub table : IsTable site.shape words
     pub knows : (i x : ℕ) → Has (i, x) v.known → words i ≡ x
     pub own : (s b r k : ℕ) → HasLock v.held (bucket_at site.shape s b) → Hit site.shape words s b r k → owner_of site.shape words (key_hash site.shape k) ≡ Some s
@@ -194,7 +194,7 @@ module _ (site : Ground) where
     pub structure : IsStructured site words
     pub table : IsTable site.shape words
     pub agrees : AgreesWithNotes notes words
-    pub heads : (s : ℕ) (note : Glance) → s < site.shape.segments → Has note notes → note.word ≡ head_at site.shape s + 1 → words (head_at site.shape s + 1) ≡ note.value
+    pub heads : (s : ℕ) (note : Glance) → s < site.shape.segments → Has note notes → note.word ≡ header_word site.shape s → words (header_word site.shape s) ≡ note.value
     pub exact : (s b : ℕ) (note : Glance) → s < site.shape.segments → b < homes → Has note notes → note.word ≡ bucket_at site.shape s b → HasExactNotes site.shape words s b
 
   -- a map may be what all keys have, as far as a view can know: it has what the newest words have for the keys of whose homes

@@ -4,7 +4,7 @@ use Rattle.op_core.specs.declared.want.Want.{Want}
 use Rattle.op_core.specs.declared.want.Want.TheVariants.{Load, Store, Exchange, Flush, Fence, Draw, Power}
 use Rattle.trace.specs.Events.{line_of}
 use Rattle.segment_head.specs.HeadWord.{version_in, depth_in, pattern_in, is_live}
-use Rattle.image_layout.specs.Places.{Shape, block, root_word, entry_at, head_at}
+use Rattle.image_layout.specs.Places.{Shape, block, root_word, entry_at, header_word}
 use Rattle.image_layout.specs.Volatile.{counter_word, power_word}
 use Rattle.map_model.specs.declared.call.Call.{Call}
 use Rattle.map_model.specs.declared.call.Call.TheVariants.{Get}
@@ -78,8 +78,8 @@ wanted shape (peeks i) = Load i
 wanted shape asks_power = Power
 wanted shape meets_root = Load root_word
 wanted shape (meets_entry e i) = Load (entry_at e i)
-wanted shape (meets_head s version) = Load (head_at shape s + 1)
-wanted shape (pins s b) = Load (head_at shape s + 1)
+wanted shape (meets_head s version) = Load (header_word shape s)
+wanted shape (pins s b) = Load (header_word shape s)
 wanted shape (finds_room call) = Load (counter_word shape)
 wanted shape (refuses call reply) = Load (counter_word shape)
 wanted shape (places k a) = Load (counter_word shape)
@@ -227,7 +227,7 @@ says_current false s head = []
 abbrev pub with_head : Shape → ℕ → ℕ → ℕ → View → View
 with_head shape s version head v = record v {
   facts = says_current (is_live head && (version_in head == version)) s head ++ v.facts;
-  notes = record { word = head_at shape s + 1; value = head; words = []; again = false } ∷ v.notes;
+  notes = record { word = header_word shape s; value = head; words = []; again = false } ∷ v.notes;
 }
 
 -- the view after, by the word that was found

@@ -9,7 +9,7 @@ use Rattle.map_model.specs.declared.entry.Entry.{Entry}
 use Rattle.map_model.specs.Map.{key_of}
 use Rattle.map_model.specs.Weave.{draws, spent_count, drew_at}
 use Rattle.map_model.specs.Legal.{InOrder, seen_of}
-use Rattle.image_layout.specs.Places.{head_at, bucket_at, buckets}
+use Rattle.image_layout.specs.Places.{header_word, bucket_at, buckets}
 use Rattle.sound_image.specs.Records.{key_hash}
 use Rattle.map_model.specs.declared.call.Call.TheVariants.{Remove}
 use Rattle.bucket_words.specs.Hits.{Hit, find}
@@ -26,7 +26,7 @@ total f (v ∷ views) = f v + total f views
 
 -- a view has the header of a segment pinned as it is: it holds the lock of one of its buckets
 abbrev pub IsPinned : Ground → Words → View → ℕ → ℕ → Type 0
-IsPinned site words v s x = (b : ℕ) × (b < buckets) × HasLock v.held (bucket_at site.shape s b) × (words (head_at site.shape s + 1) ≡ x)
+IsPinned site words v s x = (b : ℕ) × (b < buckets) × HasLock v.held (bucket_at site.shape s b) × (words (header_word site.shape s) ≡ x)
 
 -- LOCKS: one view holds a lock, whose word is the odd value that the view has; and a lock word of a current segment that is odd has
 -- a holder

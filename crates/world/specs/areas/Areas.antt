@@ -1,7 +1,8 @@
 -- What a caller holds beside the locks of buckets: guards, and slots that nobody else touches. No area depends on the words: what
 -- the words are for a view to have it, `Fits` says.
-use Rattle.std.specs.Prelude.{◌≡◌, ◌==◌, not, ℕ, ◌+◌, ◌<◌, ◌≤◌, ◌⊎◌, Bool, true, false, List, filter}
-use Rattle.image_layout.specs.Places.{Shape, block, root_word, first_segment, head_at}
+use Rattle.std.specs.Prelude.{◌≡◌, ◌==◌, not, ℕ, ◌<◌, ◌≤◌, ◌⊎◌, Bool, true, false, List, filter}
+use Rattle.image_layout.specs.Places.{Shape, block, root_word, first_segment}
+pub use Rattle.image_layout.specs.Places.{header_word, link_word}
 use Rattle.frame_facts.specs.DeadSlots.{IsInSlot}
 
 pub data Area : Type 0 where
@@ -19,13 +20,6 @@ pub data Area : Type 0 where
   Allocation : Area
   -- the guard of the directory: the root and all entries
   Directory : Area
-
--- the header word of a slot, and the word of its link
-abbrev pub header_word : Shape → ℕ → ℕ
-header_word shape s = head_at shape s + 1
-
-abbrev pub link_word : Shape → ℕ → ℕ
-link_word shape s = head_at shape s + 2
 
 -- a word is the root, or lies where entries stand
 abbrev pub IsDirectoryWord : Shape → ℕ → Type 0
