@@ -42,37 +42,77 @@ allocated s w1 = bit s w1
 abbrev pub member : ℕ → ℕ → ℕ
 member s w1 = bit (record_slots + s) w1
 
+-- how many bits of w1 are of the record slots: an allocation bit and a membership bit of each
+abbrev pub marks_bits : ℕ
+marks_bits = 2 * record_slots
+
+-- how many fingerprints a word has room for, of 8 bits each
+abbrev pub fingers_of_word : ℕ
+fingers_of_word = 8
+
 -- the fingerprint of slot s: 0 to 7 stand in w2, 8 to 13 in w3
 abbrev pub finger : ℕ → ℕ → ℕ → ℕ
-finger s w2 w3 = if nat_lt s 8 then bits (8 * s) 8 w2 else bits (8 * (s - 8)) 8 w3
+finger s w2 w3 = if nat_lt s fingers_of_word then bits (8 * s) 8 w2 else bits (8 * (s - fingers_of_word)) 8 w3
+
+-- from which bit of w1 on a bit of each note slot says whether it holds a note
+abbrev pub note_used_from : ℕ
+note_used_from = marks_bits
+
+-- from which on, whether this bucket is the probing bucket of the record that the note tells of
+abbrev pub note_member_from : ℕ
+note_member_from = note_used_from + note_slots
+
+-- and from which on, which of the two stash buckets the note names
+abbrev pub note_index_from : ℕ
+note_index_from = note_member_from + note_slots
+
+-- from which bit of w1 on the count of records without a note stands
+abbrev pub count_from : ℕ
+count_from = note_index_from + note_slots
+
+-- how many bits it has
+abbrev pub count_bits : ℕ
+count_bits = 5
+
+-- from which bit of w1 on the fingerprints of note slots 2 and 3 stand
+abbrev pub upper_fingers_from : ℕ
+upper_fingers_from = count_from + count_bits
+
+-- from which bit of w3 on those of note slots 0 and 1 stand, above those of record slots
+abbrev pub note_fingers_from : ℕ
+note_fingers_from = 8 * (record_slots - fingers_of_word)
 
 -- 1 where note slot i, of 4, holds the note of a record that stands in the stash
 abbrev pub note_used : ℕ → ℕ → ℕ
-note_used i w1 = bit (28 + i) w1
+note_used i w1 = bit (note_used_from + i) w1
 
 -- 1 where this bucket is the probing bucket of the record that the note tells of
 abbrev pub note_member : ℕ → ℕ → ℕ
-note_member i w1 = bit (32 + i) w1
+note_member i w1 = bit (note_member_from + i) w1
 
 -- which of the two stash buckets the note names
 abbrev pub note_index : ℕ → ℕ → ℕ
-note_index i w1 = bit (36 + i) w1
+note_index i w1 = bit (note_index_from + i) w1
 
 -- the fingerprint of a note: 0 and 1 stand in w3, 2 and 3 in w1
 abbrev pub note_finger : ℕ → ℕ → ℕ → ℕ
-note_finger i w1 w3 = if nat_lt i 2 then bits (48 + 8 * i) 8 w3 else bits (45 + 8 * (i - 2)) 8 w1
+note_finger i w1 w3 = if nat_lt i 2 then bits (note_fingers_from + 8 * i) 8 w3 else bits (upper_fingers_from + 8 * (i - 2)) 8 w1
 
 -- how many records of this bucket stand in the stash without a note
 abbrev pub overflow_count : ℕ → ℕ
-overflow_count w1 = bits 40 5 w1
+overflow_count w1 = bits count_from count_bits w1
+
+-- the bits of w1 that no field has
+abbrev pub spare_part : ℕ → ℕ
+spare_part w1 = bits 61 3 w1
 
 -- what w1 says of the record slots: which have a record, and which of these stand in their probing bucket
 abbrev pub slots_part : ℕ → ℕ
-slots_part w1 = w1 % 2 ^ 28
+slots_part w1 = w1 % 2 ^ marks_bits
 
 -- what w3 says of them, the fingerprints of slots 8 to 13; and the fingerprints of two notes that stand above these
 abbrev pub slot_fingers_part : ℕ → ℕ
-slot_fingers_part w3 = w3 % 2 ^ 48
+slot_fingers_part w3 = w3 % 2 ^ note_fingers_from
 
 abbrev pub note_fingers_part : ℕ → ℕ
-note_fingers_part w3 = w3 / 2 ^ 48 % 2 ^ 16
+note_fingers_part w3 = w3 / 2 ^ note_fingers_from % 2 ^ 16

@@ -2,7 +2,7 @@
 use Rattle.std.specs.Prelude.{◌≡◌, ◌≢◌, ℕ, ◌+◌, ◌/◌, ◌%◌, ◌^◌, ◌<◌, nat_lt, slice_set, if◌then◌else◌, bit_or, bit_and}
 use Rattle.std.specs.Int.{bit_not, w64, to_le_bytes, from_le_bytes}
 use Rattle.word_bits.specs.Bits.{mask}
-use Rattle.bucket_meta.specs.Bucket.{allocated, member, finger, note_used, overflow_count, record_slots, note_slots}
+use Rattle.bucket_meta.specs.Bucket.{allocated, member, finger, note_used, overflow_count, record_slots, note_slots, marks_bits, fingers_of_word}
 
 -- the metadata word where the slot has a record that is at home: its allocation bit set, its membership bit not
 abbrev pub inserted_mark : ℕ → ℕ → ℕ
@@ -18,11 +18,11 @@ removed_mark w1 slot = bit_and (bit_and w1 (bit_not w64 (mask slot))) (bit_not w
 
 -- fingerprints 0 to 7 stand in word 2, the others in word 3
 abbrev pub finger_place : ℕ → ℕ
-finger_place slot = if nat_lt slot 8 then 2 else 3
+finger_place slot = if nat_lt slot fingers_of_word then 2 else 3
 
 -- a word of fingerprints, a byte each, with the slot's changed
 abbrev pub with_finger : ℕ → ℕ → ℕ → ℕ
-with_finger word slot number = from_le_bytes w64 (slice_set (to_le_bytes w64 word) (slot % 8) number)
+with_finger word slot number = from_le_bytes w64 (slice_set (to_le_bytes w64 word) (slot % fingers_of_word) number)
 
 -- metadata word x says of every slot but r what w says
 pub record SameButSlot (r w x : ℕ) : Type 0 where
@@ -54,7 +54,7 @@ pub record FreesSlot (w1 slot : ℕ) : Type 0 where
 
 -- a metadata word says the same above the slots' bits, where the overflow notes are
 abbrev pub KeepsUpper : ℕ → ℕ → Type 0
-KeepsUpper w1 x = x / 2 ^ 28 ≡ w1 / 2 ^ 28
+KeepsUpper w1 x = x / 2 ^ marks_bits ≡ w1 / 2 ^ marks_bits
 
 -- words of fingerprints x2 and x3 have the slot's fingerprint, and those of the others as words w2 and w3
 pub record SetsFinger (w2 w3 x2 x3 slot f : ℕ) : Type 0 where

@@ -1,17 +1,17 @@
 -- What the fields of a `Meta` say of the words that it was read from or written to.
 use Rattle.std.specs.Prelude.{◌≡◌, ℕ, ◌<◌, ◌^◌, slice_index}
 use Rattle.bucket_meta.specs.declared.metadata.Meta.{Meta}
-use Rattle.bucket_meta.specs.Bucket.{finger, note_finger, record_slots, note_slots}
+use Rattle.bucket_meta.specs.Bucket.{finger, note_finger, record_slots, note_slots, note_used_from, note_member_from, note_index_from, count_from, count_bits, spare_part}
 use Rattle.word_bits.specs.Bits.{bits}
 
 -- the fields are those of words 1 to 3 of a bucket
 pub record IsMetaOf (m : Meta) (w1 w2 w3 : ℕ) : Type 0 where
   pub alloc : m.alloc ≡ bits 0 record_slots w1
   pub member : m.member ≡ bits record_slots record_slots w1
-  pub used : m.used ≡ bits 28 4 w1
-  pub omember : m.omember ≡ bits 32 4 w1
-  pub oindex : m.oindex ≡ bits 36 4 w1
-  pub ocount : m.ocount ≡ bits 40 5 w1
+  pub used : m.used ≡ bits note_used_from note_slots w1
+  pub omember : m.omember ≡ bits note_member_from note_slots w1
+  pub oindex : m.oindex ≡ bits note_index_from note_slots w1
+  pub ocount : m.ocount ≡ bits count_from count_bits w1
   pub fps : (s : ℕ) → s < record_slots → slice_index m.fps s ≡ finger s w2 w3
   pub ofps : (i : ℕ) → i < note_slots → slice_index m.ofps i ≡ note_finger i w1 w3
 
@@ -20,7 +20,7 @@ pub record AreMetaWords (w1 w2 w3 : ℕ) : Type 0 where
   pub first : w1 < 2 ^ 64
   pub second : w2 < 2 ^ 64
   pub third : w3 < 2 ^ 64
-  pub zero : bits 61 3 w1 ≡ 0
+  pub zero : spare_part w1 ≡ 0
 
 -- fields that are those of the same words are the same fields
 abbrev pub WordsGiveMeta : Type 0

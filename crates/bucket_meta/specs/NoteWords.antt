@@ -2,7 +2,7 @@
 use Rattle.std.specs.Prelude.{◌≡◌, ◌≢◌, ℕ, ◌+◌, ◌-◌, ◌*◌, ◌%◌, ◌^◌, ◌<◌, ◌==◌, Bool, not, Option, None, Some, bit_and, bit_or, if◌then◌else◌}
 use Rattle.std.specs.Int.{bit_not, w64}
 use Rattle.word_bits.specs.Bits.{mask}
-use Rattle.bucket_meta.specs.Bucket.{note_used, note_member, note_index, note_finger, overflow_count, note_slots, slots_part, slot_fingers_part}
+use Rattle.bucket_meta.specs.Bucket.{note_used, note_member, note_index, note_finger, overflow_count, record_slots, note_slots, fingers_of_word, note_used_from, note_member_from, note_index_from, count_from, upper_fingers_from, note_fingers_from, slots_part, slot_fingers_part}
 use Rattle.bucket_meta.specs.Marks.{with_finger}
 use Rattle.bucket_meta.specs.Visits.{is_note}
 
@@ -17,20 +17,24 @@ note_place w1 w3 side finger index =
 
 -- the fingerprints of places 2 and 3 stand in the metadata word
 abbrev pub finger_bits : ℕ → ℕ
-finger_bits i = if i == 2 then 255 * 2 ^ 45 else if i == 3 then 255 * 2 ^ 53 else 0
+finger_bits i = if i == 2 then 255 * 2 ^ upper_fingers_from else if i == 3 then 255 * 2 ^ (upper_fingers_from + 8) else 0
 
 -- the metadata word where note slot i is free: each of its bits there is 0
 abbrev pub freed_mark : ℕ → ℕ → ℕ
 freed_mark w1 i =
-    bit_and (bit_and (bit_and (bit_and w1 (bit_not w64 (mask (28 + i)))) (bit_not w64 (mask (32 + i)))) (bit_not w64 (mask (36 + i)))) (bit_not w64 (finger_bits i))
+    bit_and (bit_and (bit_and (bit_and w1 (bit_not w64 (mask (note_used_from + i)))) (bit_not w64 (mask (note_member_from + i))))
+    (bit_not w64 (mask (note_index_from + i)))) (bit_not w64 (finger_bits i))
 
 -- the fingerprints of places 0 and 1 are the last two bytes of word 3
 abbrev pub freed_fingers : ℕ → ℕ → ℕ
-freed_fingers w3 i = if i == 0 then with_finger w3 6 0 else if i == 1 then with_finger w3 7 0 else w3
+freed_fingers w3 i =
+    if i == 0 then with_finger w3 (record_slots - fingers_of_word) 0
+    else if i == 1 then with_finger w3 (record_slots - fingers_of_word + 1) 0
+    else w3
 
 -- the metadata word with one record less that stands in the stash without a note
 abbrev pub lowered_count : ℕ → ℕ
-lowered_count w1 = w1 - 2 ^ 40
+lowered_count w1 = w1 - 2 ^ count_from
 
 -- words x1 and x3 have note slot i free, and say of the other places, of the count and of the record slots what w1 and w3 say
 pub record FreesPlace (w1 w3 x1 x3 i : ℕ) : Type 0 where
@@ -64,21 +68,25 @@ with_bit w i on = if on == 1 then bit_or w (mask i) else bit_and w (bit_not w64 
 -- the metadata word with the fingerprint of note slot i, where that stands there
 abbrev pub with_note_finger : ℕ → ℕ → ℕ → ℕ
 with_note_finger w1 i finger =
-    if i == 2 then bit_or (bit_and w1 (bit_not w64 (finger_bits 2))) (finger * 2 ^ 45)
-    else if i == 3 then bit_or (bit_and w1 (bit_not w64 (finger_bits 3))) (finger * 2 ^ 53)
+    if i == 2 then bit_or (bit_and w1 (bit_not w64 (finger_bits 2))) (finger * 2 ^ upper_fingers_from)
+    else if i == 3 then bit_or (bit_and w1 (bit_not w64 (finger_bits 3))) (finger * 2 ^ (upper_fingers_from + 8))
     else w1
 
 -- the metadata word where note slot i has a note of this side, fingerprint and stash bucket, whatever it had
 abbrev pub noted_mark : ℕ → ℕ → ℕ → ℕ → ℕ → ℕ
-noted_mark w1 i side finger index = with_note_finger (with_bit (with_bit (with_bit w1 (28 + i) 1) (32 + i) side) (36 + i) index) i finger
+noted_mark w1 i side finger index =
+    with_note_finger (with_bit (with_bit (with_bit w1 (note_used_from + i) 1) (note_member_from + i) side) (note_index_from + i) index) i finger
 
 -- word 3 with the fingerprint of note slot i, where that stands there
 abbrev pub noted_fingers : ℕ → ℕ → ℕ → ℕ
-noted_fingers w3 i finger = if i == 0 then with_finger w3 6 finger else if i == 1 then with_finger w3 7 finger else w3
+noted_fingers w3 i finger =
+    if i == 0 then with_finger w3 (record_slots - fingers_of_word) finger
+    else if i == 1 then with_finger w3 (record_slots - fingers_of_word + 1) finger
+    else w3
 
 -- the metadata word with one record more that stands in the stash without a note
 abbrev pub raised_count : ℕ → ℕ
-raised_count w1 = (w1 + 2 ^ 40) % 2 ^ 64
+raised_count w1 = (w1 + 2 ^ count_from) % 2 ^ 64
 
 -- words x1 and x3 say of the places other than i, of the count and of the record slots what w1 and w3 say
 pub record KeepsOtherPlaces (w1 w3 x1 x3 i : ℕ) : Type 0 where
@@ -106,8 +114,9 @@ four bit_of = bit_of 0 + 2 * bit_of 1 + 4 * bit_of 2 + 8 * bit_of 3
 -- bucket, the count, and the fingerprints of note slots 2 and 3
 abbrev pub first_made : ℕ → (used side index : ℕ → ℕ) → (count third fourth : ℕ) → ℕ
 first_made w1 used side index count third fourth =
-    slots_part w1 + 2 ^ 28 * four used + 2 ^ 32 * four side + 2 ^ 36 * four index + 2 ^ 40 * count + 2 ^ 45 * third + 2 ^ 53 * fourth
+    slots_part w1 + 2 ^ note_used_from * four used + 2 ^ note_member_from * four side + 2 ^ note_index_from * four index
+    + 2 ^ count_from * count + 2 ^ upper_fingers_from * third + 2 ^ (upper_fingers_from + 8) * fourth
 
 -- word 3 that says of the record slots what w3 says, and has the fingerprints of note slots 0 and 1
 abbrev pub third_made : ℕ → (first second : ℕ) → ℕ
-third_made w3 first second = slot_fingers_part w3 + 2 ^ 48 * first + 2 ^ 56 * second
+third_made w3 first second = slot_fingers_part w3 + 2 ^ note_fingers_from * first + 2 ^ (note_fingers_from + 8) * second

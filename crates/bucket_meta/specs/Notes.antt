@@ -1,7 +1,7 @@
 -- Overflow notes: what home buckets remember of their records that stand in the stash.
 use Rattle.std.specs.Prelude.{◌≡◌, ℕ, zero, suc, ◌+◌, ◌≤◌, ◌==◌, ◌&&◌, List, [], ◌∷◌, ◌++◌, length, filter, if◌then◌else◌}
 use Rattle.std.specs.List.{flat_map}
-use Rattle.bucket_meta.specs.Bucket.{note_used, note_member, note_finger, note_index}
+use Rattle.bucket_meta.specs.Bucket.{note_slots, note_used, note_member, note_finger, note_index}
 
 -- the numbers below n
 abbrev pub numbers_below : ℕ → List ℕ
@@ -24,7 +24,7 @@ pub record IsNoteOn (w1 side i : ℕ) : Type 0 where
 -- it as its probing bucket (side 1), where each place is used or not, is of a side, and has a fingerprint and an index
 abbrev pub notes_on : (used side_of finger_on index_on : ℕ → ℕ) → ℕ → List OverflowNote
 notes_on used side_of finger_on index_on side =
-    flat_map (λ i. if (used i == 1) && (side_of i == side) then (finger_on i, index_on i) ∷ [] else []) (numbers_below 4)
+    flat_map (λ i. if (used i == 1) && (side_of i == side) then (finger_on i, index_on i) ∷ [] else []) (numbers_below note_slots)
 
 -- the notes of a bucket of one side, by its words 1 and 3
 abbrev pub notes_by : ℕ → ℕ → ℕ → List OverflowNote

@@ -1,11 +1,10 @@
 //! Words and fields determine each other, and the words that are stored of one slot leave the others.
 
 ghost use Rattle.std.specs.Prelude.{◌≡◌, ℕ, ◌^◌, ◌<◌, ◌≤◌, slice_index};
-ghost use Rattle.word_bits.specs.Bits.{bits};
 ghost use Rattle.bucket_meta.specs.MetaWords.{WordsGiveMeta, MetaGivesWords};
 ghost use Rattle.bucket_meta.specs.Marks.{inserted_mark, member_mark, removed_mark, with_finger, TakesSlot, TakesSlotAsMember, FreesSlot, SetsFinger, SameNotes, KeepsUpper};
 ghost use Rattle.bucket_meta.specs.NoteWords.{freed_mark, freed_fingers, FreesPlace};
-ghost use Rattle.bucket_meta.specs.Bucket.{note_slots, record_slots};
+ghost use Rattle.bucket_meta.specs.Bucket.{fingers_of_word, note_slots, record_slots, spare_part};
 
 use crate::Meta;
 
@@ -28,7 +27,7 @@ pub fn read_of_written(meta: &Meta) -> Meta
 
 /// The words that a `Meta` writes which was read of words are those words.
 pub fn written_of_read(words: [u64; 3]) -> [u64; 3]
-    requires { bits 61 3 (slice_index words 0) ≡ 0 }
+    requires { spare_part (slice_index words 0) ≡ 0 }
     ensures { result ≡ words }
 {
     Meta::read(words).write()
@@ -63,6 +62,6 @@ pub fn notes_are_freed()
 
 /// A word of fingerprints with a slot's changed has that one there, and those of the other slots as they were.
 pub fn fingers_change_one_slot()
-    ensures low { (w2 w3 slot f : ℕ) → slot < 8 → f < 256 → SetsFinger w2 w3 (with_finger w2 slot f) w3 slot f }
-    ensures high { (w2 w3 slot f : ℕ) → 8 ≤ slot → slot < record_slots → f < 256 → SetsFinger w2 w3 w2 (with_finger w3 slot f) slot f }
+    ensures low { (w2 w3 slot f : ℕ) → slot < fingers_of_word → f < 256 → SetsFinger w2 w3 (with_finger w2 slot f) w3 slot f }
+    ensures high { (w2 w3 slot f : ℕ) → fingers_of_word ≤ slot → slot < record_slots → f < 256 → SetsFinger w2 w3 w2 (with_finger w3 slot f) slot f }
 {}

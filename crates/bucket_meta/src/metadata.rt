@@ -2,9 +2,12 @@
 
 ghost use Rattle.std.specs.Prelude.{◌≡◌, ◌≢◌, ℕ, ◌+◌, ◌*◌, ◌^◌, ◌<◌, ◌≤◌, ◌↔◌, IfSome, IsNone, length, slice_index, slice_set, count_ones, if◌then◌else◌};
 ghost use Rattle.word_bits.specs.Bits.{bits, bit};
-ghost use Rattle.bucket_meta.specs.Bucket.{record_slots};
+ghost use Rattle.bucket_meta.specs.Bucket.{record_slots, note_slots, count_bits, spare_part};
 
-use crate::words::{SET_BITS, SLOTS};
+use crate::words::{
+    COUNT_BITS, COUNT_FROM, LAST_FINGER_FROM, NOTE_INDEX_FROM, NOTE_MEMBER_FROM, NOTE_SET_BITS,
+    NOTE_SLOTS, NOTE_USED_FROM, SET_BITS, SLOTS, UPPER_FINGERS_FROM,
+};
 use word_bits::{bits_of, with_bits};
 
 /// What the three words of metadata of a bucket say.
@@ -28,15 +31,15 @@ pub struct Meta {
     /// The fingerprints of the record slots.
     pub fps: [u8; SLOTS as usize],
     /// The fingerprints of the note slots.
-    pub ofps: [u8; 4],
+    pub ofps: [u8; NOTE_SLOTS as usize],
     pub ghost alloc_fits: { alloc < 2 ^ record_slots },
     pub ghost member_fits: { member < 2 ^ record_slots },
-    pub ghost used_fits: { used < 2 ^ 4 },
-    pub ghost omember_fits: { omember < 2 ^ 4 },
-    pub ghost oindex_fits: { oindex < 2 ^ 4 },
-    pub ghost ocount_fits: { ocount < 2 ^ 5 },
+    pub ghost used_fits: { used < 2 ^ note_slots },
+    pub ghost omember_fits: { omember < 2 ^ note_slots },
+    pub ghost oindex_fits: { oindex < 2 ^ note_slots },
+    pub ghost ocount_fits: { ocount < 2 ^ count_bits },
     pub ghost fourteen: { length fps ≡ record_slots },
-    pub ghost four: { length ofps ≡ 4 },
+    pub ghost four: { length ofps ≡ note_slots },
 }
 
 /// The word that eight bytes make, the first one lowest.
@@ -82,30 +85,35 @@ impl Meta {
         Meta {
             alloc: bits_of(w1, 0, SET_BITS) as u16,
             member: bits_of(w1, SET_BITS, SET_BITS) as u16,
-            used: bits_of(w1, 28, 4) as u8,
-            omember: bits_of(w1, 32, 4) as u8,
-            oindex: bits_of(w1, 36, 4) as u8,
-            ocount: bits_of(w1, 40, 5) as u8,
+            used: bits_of(w1, NOTE_USED_FROM, NOTE_SET_BITS) as u8,
+            omember: bits_of(w1, NOTE_MEMBER_FROM, NOTE_SET_BITS) as u8,
+            oindex: bits_of(w1, NOTE_INDEX_FROM, NOTE_SET_BITS) as u8,
+            ocount: bits_of(w1, COUNT_FROM, COUNT_BITS) as u8,
             fps: [f0, f1, f2, f3, f4, f5, f6, f7, f8, f9, f10, f11, f12, f13],
-            ofps: [o0, o1, bits_of(w1, 45, 8) as u8, bits_of(w1, 53, 8) as u8],
+            ofps: [
+                o0,
+                o1,
+                bits_of(w1, UPPER_FINGERS_FROM, 8) as u8,
+                bits_of(w1, LAST_FINGER_FROM, 8) as u8,
+            ],
         }
     }
 
     /// Words 1, 2 and 3 of a bucket with these fields. Bits 61 to 63 of word 1 are 0.
     pub fn write(&self) -> [u64; 3]
         ensures fields { IsMetaOf self.now (slice_index result 0) (slice_index result 1) (slice_index result 2) }
-        ensures zero { bits 61 3 (slice_index result 0) ≡ 0 }
+        ensures zero { spare_part (slice_index result 0) ≡ 0 }
     {
         let [f0, f1, f2, f3, f4, f5, f6, f7, f8, f9, f10, f11, f12, f13] = self.fps;
         let [o0, o1, o2, o3] = self.ofps;
         let w1 = u64::from(self.alloc);
         let w1 = with_bits(w1, SET_BITS, u64::from(self.member));
-        let w1 = with_bits(w1, 28, u64::from(self.used));
-        let w1 = with_bits(w1, 32, u64::from(self.omember));
-        let w1 = with_bits(w1, 36, u64::from(self.oindex));
-        let w1 = with_bits(w1, 40, u64::from(self.ocount));
-        let w1 = with_bits(w1, 45, u64::from(o2));
-        let w1 = with_bits(w1, 53, u64::from(o3));
+        let w1 = with_bits(w1, NOTE_USED_FROM, u64::from(self.used));
+        let w1 = with_bits(w1, NOTE_MEMBER_FROM, u64::from(self.omember));
+        let w1 = with_bits(w1, NOTE_INDEX_FROM, u64::from(self.oindex));
+        let w1 = with_bits(w1, COUNT_FROM, u64::from(self.ocount));
+        let w1 = with_bits(w1, UPPER_FINGERS_FROM, u64::from(o2));
+        let w1 = with_bits(w1, LAST_FINGER_FROM, u64::from(o3));
         let w2 = word_of([f0, f1, f2, f3, f4, f5, f6, f7]);
         let w3 = word_of([f8, f9, f10, f11, f12, f13, o0, o1]);
         [w1, w2, w3]

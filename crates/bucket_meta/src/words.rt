@@ -1,8 +1,8 @@
 //! The words of a bucket, bit by bit. They may have any bits that no field has, which `Meta` does not keep: so a machine
 //! that loads and stores single words looks at them and changes them here.
 
-ghost use Rattle.std.specs.Prelude.{◌≡◌, ◌≢◌, ◌==◌, ℕ, ◌<◌, ◌≤◌, ◌↔◌, IfSome, IfNone, IsTrue, slice_index, slice_set};
-ghost use Rattle.bucket_meta.specs.Bucket.{lock_of, allocated, member, finger, note_used, note_member, note_index, note_finger, overflow_count, record_slots, note_slots, first_key};
+ghost use Rattle.std.specs.Prelude.{◌≡◌, ◌≢◌, ◌==◌, ℕ, ◌^◌, ◌<◌, ◌≤◌, ◌↔◌, IfSome, IfNone, IsTrue, slice_index, slice_set};
+ghost use Rattle.bucket_meta.specs.Bucket.{lock_of, allocated, member, finger, note_used, note_member, note_index, note_finger, overflow_count, record_slots, note_slots, first_key, count_bits};
 ghost use Rattle.bucket_meta.specs.Search.{is_taken, IsThere, lowest_with, lowest_free};
 ghost use Rattle.bucket_meta.specs.Notes.{IsNoteOn};
 ghost use Rattle.bucket_meta.specs.Marks.{inserted_mark, member_mark, removed_mark, finger_place, with_finger};
@@ -22,6 +22,45 @@ pub(crate) const SET_BITS: u32 = SLOTS as u32;
 
 /// How many note slots a bucket has.
 pub const NOTE_SLOTS: u8 = 4;
+
+/// How many bits a set of note slots has.
+pub(crate) const NOTE_SET_BITS: u32 = NOTE_SLOTS as u32;
+
+/// How many bits of the metadata word are of the record slots: an allocation bit and a membership bit of each.
+pub const MARKS_BITS: u32 = 2 * SET_BITS;
+
+/// From which bit of the metadata word on a bit of each note slot says whether it holds a note.
+pub const NOTE_USED_FROM: u32 = MARKS_BITS;
+
+/// From which bit of it on a bit of each note slot says whether this bucket is the probing bucket of the note's record.
+pub const NOTE_MEMBER_FROM: u32 = NOTE_USED_FROM + NOTE_SET_BITS;
+
+/// From which bit of it on a bit of each note slot says which stash bucket the note names.
+pub const NOTE_INDEX_FROM: u32 = NOTE_MEMBER_FROM + NOTE_SET_BITS;
+
+/// From which bit of it on the count of records without a note stands.
+pub const COUNT_FROM: u32 = NOTE_INDEX_FROM + NOTE_SET_BITS;
+
+/// How many bits that count has.
+pub const COUNT_BITS: u32 = 5;
+
+/// From which bit of it on the fingerprints of note slots 2 and 3 stand, of 8 bits each.
+pub const UPPER_FINGERS_FROM: u32 = COUNT_FROM + COUNT_BITS;
+
+/// From which bit of it on the fingerprint of note slot 3 stands.
+pub(crate) const LAST_FINGER_FROM: u32 = UPPER_FINGERS_FROM + 8;
+
+/// How many fingerprints a word has room for, of 8 bits each.
+pub const FINGERS_OF_WORD: u8 = 8;
+
+/// From which bit of word 3 on the fingerprints of note slots 0 and 1 stand, above those of record slots.
+pub const NOTE_FINGERS_FROM: u32 = 8 * (SLOTS - FINGERS_OF_WORD) as u32;
+
+/// Which byte of word 3 is the fingerprint of note slot 0.
+const FIRST_NOTE_BYTE: u8 = SLOTS - FINGERS_OF_WORD;
+
+/// Which byte of word 3 is that of note slot 1.
+const SECOND_NOTE_BYTE: u8 = FIRST_NOTE_BYTE + 1;
 
 /// The lock word that is free with the last version, so that nobody takes the lock any more.
 pub const SPENT_LOCK: u64 = u64::MAX - 1;
@@ -69,10 +108,10 @@ pub fn finger_of(w2: u64, w3: u64, slot: u8) -> u8
     requires { slot < record_slots }
     ensures { result ≡ finger slot w2 w3 }
 {
-    if slot < 8 {
+    if slot < FINGERS_OF_WORD {
         bits_of(w2, 8 * u32::from(slot), 8) as u8
     } else {
-        bits_of(w3, 8 * u32::from(slot - 8), 8) as u8
+        bits_of(w3, 8 * u32::from(slot - FINGERS_OF_WORD), 8) as u8
     }
 }
 
@@ -135,7 +174,7 @@ pub fn finger_place(slot: u8) -> usize
     ensures is { result ≡ finger_place slot }
     ensures within { result < first_key }
 {
-    if slot < 8 { 2 } else { 3 }
+    if slot < FINGERS_OF_WORD { 2 } else { 3 }
 }
 
 /// A word of fingerprints with that of a slot changed.
@@ -143,7 +182,7 @@ pub fn with_finger(word: u64, slot: u8, finger: u8) -> u64
     ensures { result ≡ with_finger word slot finger }
 {
     let mut bytes = word.to_le_bytes();
-    bytes[usize::from(slot % 8)] = finger;
+    bytes[usize::from(slot % FINGERS_OF_WORD)] = finger;
     u64::from_le_bytes(bytes)
 }
 
@@ -164,7 +203,7 @@ pub fn has_note(w1: u64, note_slot: u8) -> bool
     requires { note_slot < note_slots }
     ensures { result ≡ (note_used note_slot w1 == 1) }
 {
-    is_set(w1, 28 + u32::from(note_slot))
+    is_set(w1, NOTE_USED_FROM + u32::from(note_slot))
 }
 
 /// Whether the note on a note slot is of a record whose probing bucket this is.
@@ -172,7 +211,7 @@ pub fn is_note_of_member(w1: u64, note_slot: u8) -> bool
     requires { note_slot < note_slots }
     ensures { result ≡ (note_member note_slot w1 == 1) }
 {
-    is_set(w1, 32 + u32::from(note_slot))
+    is_set(w1, NOTE_MEMBER_FROM + u32::from(note_slot))
 }
 
 /// Whether a note slot holds a note of this side: 0 for records whose home this bucket is, 1 for those whose probing bucket
@@ -190,7 +229,7 @@ pub fn note_index_of(w1: u64, note_slot: u8) -> u8
     ensures is { result ≡ note_index note_slot w1 }
     ensures stash { result < 2 }
 {
-    bits_of(w1, 36 + u32::from(note_slot), 1) as u8
+    bits_of(w1, NOTE_INDEX_FROM + u32::from(note_slot), 1) as u8
 }
 
 /// The fingerprint of the note on a note slot: 0 and 1 stand in word 3 of the bucket, 2 and 3 in word 1.
@@ -199,25 +238,25 @@ pub fn note_finger_of(w1: u64, w3: u64, note_slot: u8) -> u8
     ensures { result ≡ note_finger note_slot w1 w3 }
 {
     if note_slot < 2 {
-        bits_of(w3, 48 + 8 * u32::from(note_slot), 8) as u8
+        bits_of(w3, NOTE_FINGERS_FROM + 8 * u32::from(note_slot), 8) as u8
     } else {
-        bits_of(w1, 45 + 8 * u32::from(note_slot - 2), 8) as u8
+        bits_of(w1, UPPER_FINGERS_FROM + 8 * u32::from(note_slot - 2), 8) as u8
     }
 }
 
 /// How many records of the bucket stand in the stash without a note, 0 to 31.
 pub fn overflow_count_of(w1: u64) -> u8
     ensures is { result ≡ overflow_count w1 }
-    ensures most { result < 32 }
+    ensures most { result < 2 ^ count_bits }
 {
-    bits_of(w1, 40, 5) as u8
+    bits_of(w1, COUNT_FROM, COUNT_BITS) as u8
 }
 
 /// Whether no note slot holds a note.
 pub fn has_no_note(w1: u64) -> bool
     ensures { IsTrue result ↔ ((i : ℕ) → i < note_slots → note_used i w1 ≡ 0) }
 {
-    bits_of(w1, 28, u32::from(NOTE_SLOTS)) == 0
+    bits_of(w1, NOTE_USED_FROM, u32::from(NOTE_SLOTS)) == 0
 }
 
 /// 1 where the note on an note slot is of a record whose probing bucket this is, else 0.
@@ -225,7 +264,7 @@ fn note_side_of(w1: u64, place: u8) -> u8
     requires { place < note_slots }
     ensures { result ≡ note_member place w1 }
 {
-    bits_of(w1, 32 + u32::from(place), 1) as u8
+    bits_of(w1, NOTE_MEMBER_FROM + u32::from(place), 1) as u8
 }
 
 /// Whether an note slot has a note of this side, fingerprint and stash bucket.
@@ -282,8 +321,8 @@ fn finger_bits(place: u8) -> u64
     ensures { result ≡ finger_bits place }
 {
     match place {
-        2 => 0xFF << 45,
-        3 => 0xFF << 53,
+        2 => 0xFF << UPPER_FINGERS_FROM,
+        3 => 0xFF << LAST_FINGER_FROM,
         _ => 0,
     }
 }
@@ -293,9 +332,9 @@ pub fn freed_mark(w1: u64, place: u8) -> u64
     ensures { result ≡ freed_mark w1 place }
 {
     let place_bits = u32::from(place);
-    w1 & !mask(28 + place_bits)
-        & !mask(32 + place_bits)
-        & !mask(36 + place_bits)
+    w1 & !mask(NOTE_USED_FROM + place_bits)
+        & !mask(NOTE_MEMBER_FROM + place_bits)
+        & !mask(NOTE_INDEX_FROM + place_bits)
         & !finger_bits(place)
 }
 
@@ -304,8 +343,8 @@ pub fn freed_fingers(w3: u64, place: u8) -> u64
     ensures { result ≡ freed_fingers w3 place }
 {
     match place {
-        0 => with_finger(w3, 6, 0),
-        1 => with_finger(w3, 7, 0),
+        0 => with_finger(w3, FIRST_NOTE_BYTE, 0),
+        1 => with_finger(w3, SECOND_NOTE_BYTE, 0),
         _ => w3,
     }
 }
@@ -314,7 +353,7 @@ pub fn freed_fingers(w3: u64, place: u8) -> u64
 pub fn lowered_count(w1: u64) -> u64
     ensures { result ≡ lowered_count w1 }
 {
-    w1.saturating_sub(1 << 40)
+    w1.saturating_sub(1 << COUNT_FROM)
 }
 
 /// Whether no note stands on a note slot.
@@ -360,8 +399,8 @@ fn with_note_finger(w1: u64, place: u8, finger: u8) -> u64
 {
     let finger = u64::from(finger);
     match place {
-        2 => (w1 & !finger_bits(2)) | (finger * (1 << 45)),
-        3 => (w1 & !finger_bits(3)) | (finger * (1 << 53)),
+        2 => (w1 & !finger_bits(2)) | (finger * (1 << UPPER_FINGERS_FROM)),
+        3 => (w1 & !finger_bits(3)) | (finger * (1 << LAST_FINGER_FROM)),
         _ => w1,
     }
 }
@@ -372,9 +411,9 @@ pub fn noted_mark(w1: u64, place: u8, side: u8, finger: u8, index: u8) -> u64
     ensures { result ≡ noted_mark w1 place side finger index }
 {
     let at = u32::from(place);
-    let used = with_bit(w1, 28 + at, 1);
-    let on_side = with_bit(used, 32 + at, side);
-    let of_index = with_bit(on_side, 36 + at, index);
+    let used = with_bit(w1, NOTE_USED_FROM + at, 1);
+    let on_side = with_bit(used, NOTE_MEMBER_FROM + at, side);
+    let of_index = with_bit(on_side, NOTE_INDEX_FROM + at, index);
     with_note_finger(of_index, place, finger)
 }
 
@@ -383,8 +422,8 @@ pub fn noted_fingers(w3: u64, place: u8, finger: u8) -> u64
     ensures { result ≡ noted_fingers w3 place finger }
 {
     match place {
-        0 => with_finger(w3, 6, finger),
-        1 => with_finger(w3, 7, finger),
+        0 => with_finger(w3, FIRST_NOTE_BYTE, finger),
+        1 => with_finger(w3, SECOND_NOTE_BYTE, finger),
         _ => w3,
     }
 }
@@ -393,5 +432,5 @@ pub fn noted_fingers(w3: u64, place: u8, finger: u8) -> u64
 pub fn raised_count(w1: u64) -> u64
     ensures { result ≡ raised_count w1 }
 {
-    w1.wrapping_add(1 << 40)
+    w1.wrapping_add(1 << COUNT_FROM)
 }

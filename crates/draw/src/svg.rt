@@ -7,6 +7,7 @@ ghost use Rattle.image_layout.specs.Places.{buckets, most_depth, words_of};
 ghost use Rattle.sound_image.specs.Image.{IsSoundImage};
 
 use anyhow::Result;
+use bucket_meta::words::SLOTS;
 use image_file::Medium;
 use image_layout::{BUCKETS, Geometry, HOMES};
 use picture::{entries, entry, filled, header_of, root_depth, stashed};
@@ -19,6 +20,9 @@ const ROW: u64 = 34;
 
 /// How many entries of the directory stand beside one another.
 const BESIDE: u64 = 64;
+
+/// By how much the square of a bucket is darker for each record.
+const SHADE: u8 = 18;
 
 /// The hue of a slot, by which its entries and its row are found.
 fn hue_of(slot: u64) -> u64 {
@@ -78,7 +82,7 @@ fn print_bucket<R: Print>(
 {
     let records = filled(geometry, words, s, b);
     let stashed = stashed(geometry, words, s, b);
-    let light = 252 - 18 * records;
+    let light = SHADE * (SLOTS - records);
     let left = left_of(b);
     let edge = if stashed > 0 { "red" } else { "gray" };
     println!(rt;

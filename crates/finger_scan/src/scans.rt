@@ -8,7 +8,7 @@ use bucket_meta::words;
 use std::simd::prelude::*;
 
 /// The record slots of a bucket, as a set.
-const SLOTS: u64 = 0x3FFF;
+const SLOTS: u64 = (1 << words::SLOTS) - 1;
 
 /// Bit `s` is set where fingerprint `s` is the byte, and no other bit is.
 ///

@@ -4,7 +4,7 @@ ghost use Rattle.std.specs.Prelude.{◌≡◌, ◌<◌, ◌≤◌, ◌+◌, ◌*
 ghost use Rattle.image_layout.specs.Volatile.{counter_word, power_word, allocation_guard, directory_guard, segment_guard, all_words_of, guards_from};
 ghost use Rattle.image_layout.specs.Places.{IsShape, largest_shape, first_segment, words_of, entry_at, head_at, bucket_at, block, homes, stash_buckets, buckets, segment_words, most_words, most_segments, most_depth, most_kind};
 
-use bucket_meta::words::BUCKET_WORDS;
+use bucket_meta::words::{BUCKET_WORDS, SLOTS};
 use hash_word::HOMES;
 use std::error::Error;
 use std::fmt;
@@ -18,6 +18,8 @@ pub const STATE_WORD: u64 = 16;
 pub const BLOCK: u64 = BUCKET_WORDS as u64;
 /// How many stash buckets a segment has, behind its homes.
 pub const STASH_BUCKETS: u8 = 2;
+/// In how many record slots a key may stand: those of its home and its probing bucket, and of the stash buckets.
+pub const SLOTS_OF_KEY: u8 = (2 + STASH_BUCKETS) * SLOTS;
 /// How many buckets a segment has.
 pub const BUCKETS: u8 = HOMES + STASH_BUCKETS;
 /// Which of the words of a slot for a segment is its header word, counted from the first, which is 0.

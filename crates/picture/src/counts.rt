@@ -1,7 +1,7 @@
 //! How many records buckets have, and how many the stash has for them.
 
-ghost use Rattle.std.specs.Prelude.{◌≡◌, ℕ, ◌+◌, ◌<◌, ◌≤◌, length, slice_index};
-ghost use Rattle.bucket_meta.specs.Bucket.{record_slots, note_slots};
+ghost use Rattle.std.specs.Prelude.{◌≡◌, ℕ, ◌+◌, ◌^◌, ◌<◌, ◌≤◌, length, slice_index};
+ghost use Rattle.bucket_meta.specs.Bucket.{record_slots, note_slots, count_bits};
 ghost use Rattle.image_layout.specs.Places.{bucket_at, buckets, homes, words_of};
 ghost use Rattle.picture.specs.Counts.{taken_below, notes_below, filled, stashed, stashed_below, sign};
 
@@ -64,7 +64,7 @@ pub fn stashed(geometry: &Geometry, words: &[u64], s: u64, b: u8) -> u8
     requires slot { s < geometry.now.segments }
     requires bucket { b < buckets }
     ensures is { result ≡ stashed geometry.now (slice_index words.now) s b }
-    ensures most { result < 36 }
+    ensures most { result < note_slots + 2 ^ count_bits }
 {
     let w1 = metadata_of(geometry, words, s, b);
     notes_in(w1) + overflow_count_of(w1)

@@ -3,7 +3,9 @@
 ghost use Rattle.std.specs.Prelude.{◌≡◌};
 ghost use Rattle.split_op.specs.Sides.{HasMarks, low_fingers, high_fingers, IsThinned, side_words};
 
-use bucket_meta::words::{BUCKET_WORDS, SLOTS, is_taken, with_finger};
+use bucket_meta::words::{
+    BUCKET_WORDS, FINGERS_OF_WORD, NOTE_FINGERS_FROM, SLOTS, is_taken, with_finger,
+};
 use enclose_op::Enclosed;
 use image_layout::{BUCKETS, HOMES, WORDS_OF_BUCKETS};
 use whole_segment::{Loaded, Notes, rebuilt_notes};
@@ -26,7 +28,8 @@ fn with_marks(
             words[BUCKET_WORDS * at + 3] = notes.third[at];
         } else {
             words[BUCKET_WORDS * at + 1] = half.first[at];
-            words[BUCKET_WORDS * at + 3] = bits_of(kept[BUCKET_WORDS * at + 3], 0, 48);
+            words[BUCKET_WORDS * at + 3] =
+                bits_of(kept[BUCKET_WORDS * at + 3], 0, NOTE_FINGERS_FROM);
         }
     }
     words
@@ -37,7 +40,7 @@ fn low_fingers(mark: u64, word: u64) -> u64
     ensures { result ≡ low_fingers mark word }
 {
     let mut thin = word;
-    for slot in 0..8 {
+    for slot in 0..FINGERS_OF_WORD {
         if !is_taken(mark, slot) {
             thin = with_finger(thin, slot, 0);
         }
@@ -50,7 +53,7 @@ fn high_fingers(mark: u64, word: u64) -> u64
     ensures { result ≡ high_fingers mark word }
 {
     let mut thin = word;
-    for slot in 8..SLOTS {
+    for slot in FINGERS_OF_WORD..SLOTS {
         if !is_taken(mark, slot) {
             thin = with_finger(thin, slot, 0);
         }

@@ -2,6 +2,7 @@
 use Rattle.std.specs.Prelude.{◌≡◌, ◌≢◌, ℕ, ◌<◌, [], ◌∷◌, slice_index}
 use Rattle.bucket_meta.specs.declared.metadata.Meta.{Meta}
 use Rattle.word_bits.specs.Bits.{bit}
+use Rattle.bucket_meta.specs.Bucket.{note_slots}
 use Rattle.bucket_meta.specs.Notes.{OverflowNote}
 
 -- what a note slot holds: whether it is used, on which side its note is (0: of a record of this home, 1: of a
@@ -34,13 +35,13 @@ IsNoteAt meta side note i = note_slot_at meta i ≡ filled_note_slot side note
 
 -- i is the lowest of the 4 note slots of which P holds
 pub record IsLowest (P : ℕ → Type 0) (i : ℕ) : Type 0 where
-  pub within : i < 4
+  pub within : i < note_slots
   pub here : P i
   pub below : (j : ℕ) → j < i → ¬ P j
 
 -- P holds of none of the 4 note slots
 abbrev pub HoldsNowhere : (ℕ → Type 0) → Type 0
-HoldsNowhere P = (i : ℕ) → i < 4 → ¬ P i
+HoldsNowhere P = (i : ℕ) → i < note_slots → ¬ P i
 
 -- all that is said of the record slots is as it was
 pub record SameSlots (old new : Meta) : Type 0 where

@@ -19,10 +19,10 @@ fn bit_at(bits: u8, note_slot: u8) -> u8
 
 /// The four bits with `value`, 0 or 1, as bit `note_slot`.
 fn with_bit(bits: u8, note_slot: u8, value: u8) -> u8
-    requires four { bits < 2 ^ 4 }
+    requires four { bits < 2 ^ note_slots }
     requires within { note_slot < note_slots }
     requires is_bit { value < 2 }
-    ensures four { result < 2 ^ 4 }
+    ensures four { result < 2 ^ note_slots }
     ensures here { bit note_slot result ≡ value }
     ensures elsewhere { (i : ℕ) → i ≢ note_slot → bit i result ≡ bit i bits }
 {

@@ -9,6 +9,7 @@ ghost use Rattle.stash.specs.NoteSlots.{IsUnused, IsNoteAt, IsLowest, HoldsNowhe
 
 use crate::note_slots::{fill, free, note_slot_of, unused_note_slot};
 use bucket_meta::Meta;
+use image_layout::STASH_BUCKETS;
 
 /// The membership bit of a note in its home bucket.
 const OF_HOME: u8 = 0;
@@ -16,7 +17,7 @@ const OF_HOME: u8 = 0;
 const OF_PROBE: u8 = 1;
 
 /// The set of both stash buckets.
-const BOTH: u8 = 3;
+const BOTH: u8 = (1 << STASH_BUCKETS) - 1;
 
 /// Notes a record that went into stash bucket `index`, 0 or 1, in its home bucket and its probing bucket.
 ///

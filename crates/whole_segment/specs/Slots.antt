@@ -2,7 +2,7 @@
 use Rattle.std.specs.Prelude.{◌≡◌, ℕ, zero, suc, ◌+◌, ◌*◌, ◌^◌, ◌<◌, ◌↔◌, Bool, bit_and, bit_or, if◌then◌else◌}
 use Rattle.std.specs.Int.{bit_not, w64}
 use Rattle.word_bits.specs.Bits.{bit, mask}
-use Rattle.bucket_meta.specs.Bucket.{allocated, member, record_slots}
+use Rattle.bucket_meta.specs.Bucket.{allocated, member, record_slots, marks_bits}
 use Rattle.bucket_meta.specs.Marks.{KeepsUpper}
 use Rattle.image_layout.specs.Places.{buckets}
 
@@ -47,7 +47,7 @@ pub record AreHalves (w1 slots copy rest : ℕ) : Type 0 where
   pub moved : (r : ℕ) → r < record_slots → bit r slots ≡ 1 → SameSlot r w1 copy × IsFreeSlot r rest
   pub stayed : (r : ℕ) → r < record_slots → bit r slots ≡ 0 → IsFreeSlot r copy × SameSlot r w1 rest
   pub together : (r : ℕ) → r < record_slots → (allocated r copy + allocated r rest ≡ allocated r w1) × (member r copy + member r rest ≡ member r w1)
-  pub no_overflow : copy < 2 ^ 28
+  pub no_overflow : copy < 2 ^ marks_bits
   pub upper : KeepsUpper w1 rest
 
 -- WORD 1 OF EACH BUCKET IS MADE of another by a mark, such as the one with some slots alone, of the slots of which P holds

@@ -1,13 +1,13 @@
 //! The overflow notes of all homes of a segment, made anew from the records in its stash.
 
 ghost use Rattle.std.specs.Prelude.{◌≡◌, ℕ, ◌<◌, slice_index};
+ghost use Rattle.bucket_meta.specs.Bucket.{spare_part};
 ghost use Rattle.bucket_meta.specs.MetaWords.{IsMetaOf};
 ghost use Rattle.bucket_meta.specs.declared.metadata.Meta.{Meta as MetaValue};
 ghost use Rattle.image_layout.specs.Places.{homes};
 ghost use Rattle.sound_image.specs.Records.{key_hash};
 ghost use Rattle.stash.specs.Segment.{bucket};
 ghost use Rattle.whole_segment.specs.Records.{first_in, third_in, key_in};
-ghost use Rattle.word_bits.specs.Bits.{bits};
 ghost use Rattle.whole_segment.specs.Rebuilding.{first_with, third_with, rebuilt};
 ghost use Rattle.whole_segment.specs.Notes.{stashed_of, HasExactNotes, KeepsRecords};
 
@@ -41,7 +41,7 @@ fn metas_of(loaded: &Loaded) -> [Meta; HOMES as usize]
 
 /// Words 1 and 3 of all homes with this metadata.
 fn words_of(metas: &[Meta; HOMES as usize]) -> Notes
-    ensures upper { (b : ℕ) → b < homes → bits 61 3 (slice_index result.first b) ≡ 0 }
+    ensures upper { (b : ℕ) → b < homes → spare_part (slice_index result.first b) ≡ 0 }
     ensures fields { (b : ℕ) (d : MetaValue) → b < homes
         → (w2 : ℕ) × IsMetaOf (bucket metas.now b d) (slice_index result.first b) w2 (slice_index result.third b) }
 {

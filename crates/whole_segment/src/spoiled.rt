@@ -10,11 +10,8 @@ use crate::Loaded;
 use crate::marks::cleared_mark;
 use bucket_meta::words::SLOTS;
 use hash_word::{covers, home, probing};
-use image_layout::{BUCKETS, Geometry, HOMES};
+use image_layout::{BUCKETS, Geometry, HOMES, SLOTS_OF_KEY};
 use word_bits::{each_fits, mask};
-
-/// How many positions there are in which a key is looked for.
-const POSITIONS: u8 = 4 * SLOTS;
 
 /// The bucket of a position, for a key of this home.
 fn bucket_at(home: u8, position: u8) -> u8
@@ -50,7 +47,7 @@ fn position_of(home: u8, bucket: u8, slot: u8) -> u8
     } else if bucket == HOMES + 1 {
         3 * SLOTS + slot
     } else {
-        POSITIONS
+        SLOTS_OF_KEY
     }
 }
 
