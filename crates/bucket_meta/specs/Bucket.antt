@@ -18,13 +18,28 @@ first_key = 4
 abbrev pub first_value : ℕ
 first_value = first_key + 1
 
--- 1 where the bucket is locked
-abbrev pub lock_of : ℕ → ℕ
-lock_of w0 = bit 0 w0
+-- 1 where the bucket is locked: the lowest bit of its lock word
+abbrev pub lock_bit : ℕ → ℕ
+lock_bit w0 = w0 % 2
 
 -- the version of a lock word, in all the bits above the lock
-abbrev pub version_of : ℕ → ℕ
-version_of w0 = w0 / 2
+abbrev pub lock_version : ℕ → ℕ
+lock_version w0 = w0 / 2
+
+-- the lock word that is free with a version
+abbrev pub free_lock : ℕ → ℕ
+free_lock version = 2 * version
+
+-- the lock word that is locked, of the free one with the same version
+abbrev pub locked : ℕ → ℕ
+locked free = free + 1
+
+-- the lock word with which a locked one is given back: free, with the next version; and the same, of the free one that was locked
+abbrev pub unlocked : ℕ → ℕ
+unlocked held = held + 1
+
+abbrev pub given_back : ℕ → ℕ
+given_back free = free + 2
 
 -- the last version that a lock may have
 abbrev pub last_lock_version : ℕ
@@ -32,7 +47,7 @@ last_lock_version = 2 ^ 63 - 1
 
 -- the lock word that is free with the last version, so that nobody takes the lock any more
 abbrev pub spent_lock : ℕ
-spent_lock = 2 * last_lock_version
+spent_lock = free_lock last_lock_version
 
 -- 1 where record slot s, of 14, has a record
 abbrev pub allocated : ℕ → ℕ → ℕ

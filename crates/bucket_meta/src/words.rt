@@ -1,8 +1,8 @@
 //! The words of a bucket, bit by bit. They may have any bits that no field has, which `Meta` does not keep: so a machine
 //! that loads and stores single words looks at them and changes them here.
 
-ghost use Rattle.std.specs.Prelude.{◌≡◌, ◌≢◌, ◌==◌, ℕ, ◌^◌, ◌<◌, ◌≤◌, ◌↔◌, IfSome, IfNone, IsTrue, slice_index, slice_set};
-ghost use Rattle.bucket_meta.specs.Bucket.{lock_of, allocated, member, finger, note_used, note_member, note_index, note_finger, overflow_count, record_slots, note_slots, first_key, count_bits};
+ghost use Rattle.std.specs.Prelude.{◌≡◌, ◌≢◌, ◌==◌, ℕ, ◌^◌, ◌<◌, ◌≤◌, ◌↔◌, IfSome, IfNone, IsTrue, slice_index, slice_set, ◌%◌};
+ghost use Rattle.bucket_meta.specs.Bucket.{allocated, member, finger, note_used, note_member, note_index, note_finger, overflow_count, record_slots, note_slots, first_key, count_bits, locked, given_back, lock_bit};
 ghost use Rattle.bucket_meta.specs.Search.{is_taken, IsThere, lowest_with, lowest_free};
 ghost use Rattle.bucket_meta.specs.Notes.{IsNoteOn};
 ghost use Rattle.bucket_meta.specs.Marks.{inserted_mark, member_mark, removed_mark, finger_place, with_finger};
@@ -73,9 +73,23 @@ pub const FIRST_VALUE: usize = FIRST_KEY + 1;
 
 /// Whether a lock word says that its bucket is locked.
 pub fn is_locked(w0: u64) -> bool
-    ensures { result ≡ (lock_of w0 == 1) }
+    ensures { result ≡ (lock_bit w0 == 1) }
 {
-    is_set(w0, 0)
+    w0 % 2 == 1
+}
+
+/// The lock word that is locked, of the free one with the same version.
+pub fn locked(free: u64) -> u64
+    ensures { result ≡ locked free % 2 ^ 64 }
+{
+    free.wrapping_add(1)
+}
+
+/// The lock word with which a lock is given back, of the free one that was locked: free, with the next version.
+pub fn given_back(free: u64) -> u64
+    ensures { result ≡ given_back free % 2 ^ 64 }
+{
+    free.wrapping_add(2)
 }
 
 // ---- record slots

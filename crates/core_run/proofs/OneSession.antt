@@ -4,7 +4,7 @@ use Rattle.std.specs.Prelude.{Contains, not, is_some, slice_index}
 use Rattle.std.specs.List.{AllByRecursion}
 use Rattle.trace.specs.Media.{IsPossible}
 use Rattle.image_layout.specs.Places.{head_at, bucket_at, buckets, words_of}
-use Rattle.bucket_meta.specs.Bucket.{version_of}
+use Rattle.bucket_meta.specs.Bucket.{lock_version}
 use Rattle.map_model.specs.declared.entry.Entry.{Entry}
 use Rattle.map_model.specs.declared.entry.Reply.TheVariants.{Full, Spent}
 use Rattle.map_model.specs.Map.{Map}
@@ -79,7 +79,7 @@ module _ (moments : MomentsAreGood) (closed : ClosedIsClosed) (follow : ToldsFol
     slot = slot;
     bucket = within;
     live = live_same (frame_of t.shape s.core.words) (frame_of t.shape (slice_index (left_by None))) q (words_listed t.shape s.core.words (head_at t.shape q + 1) (omega (arith, slot))) lives.live;
-    spent = ap (λ w. version_of w)
+    spent = ap (λ w. lock_version w)
         (words_listed t.shape s.core.words (bucket_at t.shape q b) (lock_within _ q b t.shape.segments slot within)
         ∙ ap (λ i. s.core.words i) (sym at) ∙ is_last);
   }

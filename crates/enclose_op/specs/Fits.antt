@@ -1,6 +1,7 @@
 -- How the view of its caller stands in each step of an enclosing: what it holds and knows.
 use Rattle.std.specs.Prelude.{◌≡◌, ◌≢◌, ℕ, ◌+◌, ◌-◌, ◌*◌, ◌%◌, ◌^◌, ◌<◌, ◌≤◌, true, Option, None, Some, [], ◌∷◌, slice_index}
 use Rattle.hash_word.specs.Hash.{home_of}
+use Rattle.bucket_meta.specs.Bucket.{given_back}
 use Rattle.segment_head.specs.HeadWord.{depth_in}
 use Rattle.image_layout.specs.Places.{root_word, bucket_at, buckets, block, words_of_buckets, last_of_buckets}
 use Rattle.way.specs.Ways.{head_word, bucket_word}
@@ -34,7 +35,7 @@ use Rattle.enclose_op.specs.Giving.{lock_of, free_value}
 -- ---- the kind of each event
 module _ (e : Enclosed) where
   abbrev pub give_kind : Giving → StepKind
-  give_kind (giving.Lock b to) = of_call (unlocks (lock_of e b) (free_value e b + 2))
+  give_kind (giving.Lock b to) = of_call (unlocks (lock_of e b) (given_back (free_value e b)))
   give_kind giving.Guard = of_structure (gives (of_segment e.segment))
 
   abbrev pub kind_at : EncloseStep → StepKind

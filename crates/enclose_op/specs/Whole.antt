@@ -2,7 +2,7 @@
 -- next.
 use Rattle.std.specs.Prelude.{◌≡◌, ℕ, min, ◌%◌, suc, ◌+◌, ◌*◌, ◌-◌, ◌^◌, ◌<◌, ◌≤◌, ◌==◌, ◌⊎◌, true, [], ◌∷◌, length, slice_index, if◌then◌else◌}
 use Rattle.trace.specs.Events.{Words}
-use Rattle.bucket_meta.specs.Bucket.{record_slots, first_key}
+use Rattle.bucket_meta.specs.Bucket.{record_slots, first_key, locked}
 use Rattle.hash_word.specs.Hash.{Covers, home_of}
 use Rattle.segment_head.specs.HeadWord.{version_in, depth_in, pattern_in}
 use Rattle.image_layout.specs.Places.{bucket_at, buckets, block, words_of_buckets}
@@ -100,8 +100,8 @@ pub record IsWhole (site : Ground) (e : Enclosed) : Type 0 where
 -- ---- what a view holds of it
 -- THE LOCKS OF THESE BUCKETS are held, from one number to before another, and no others; each may be given back with its next version
 pub record HoldsBetween (site : Ground) (e : Enclosed) (from to : ℕ) (v : View) : Type 0 where
-  pub has : (b : ℕ) → from ≤ b → b < to → Has (bucket_at site.shape e.segment b, slice_index e.locks b + 1) v.held
-  pub only : (p : ℕ × ℕ) → Has p v.held → (b : ℕ) × (from ≤ b) × (b < to) × (p ≡ (bucket_at site.shape e.segment b, slice_index e.locks b + 1))
+  pub has : (b : ℕ) → from ≤ b → b < to → Has (bucket_at site.shape e.segment b, locked (slice_index e.locks b)) v.held
+  pub only : (p : ℕ × ℕ) → Has p v.held → (b : ℕ) × (from ≤ b) × (b < to) × (p ≡ (bucket_at site.shape e.segment b, locked (slice_index e.locks b)))
   pub free : (b : ℕ) → from ≤ b → b < to → MayBeTaken (slice_index e.locks b)
 
 -- all of them

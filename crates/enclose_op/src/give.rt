@@ -5,6 +5,7 @@ ghost use Rattle.image_layout.specs.Places.{most_words};
 ghost use Rattle.enclose_op.specs.Giving.{guard_of, lock_of, free_value, give_from, give_wanted, given};
 
 use crate::enclosed::Enclosed;
+use bucket_meta::words::given_back;
 use image_layout::{BUCKETS, ROOT_WORD};
 use op_core::Want;
 use way::bucket_word;
@@ -79,7 +80,7 @@ impl Enclosed {
     {
         match give {
             Give::Lock { bucket, .. } => {
-                Want::Store(self.lock(bucket), self.free(bucket).wrapping_add(2))
+                Want::Store(self.lock(bucket), given_back(self.free(bucket)))
             }
             Give::Guard => Want::Store(self.guard(), 0),
         }

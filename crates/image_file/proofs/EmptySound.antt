@@ -3,7 +3,7 @@ use Rattle.std.proofs.Common.{◌≡◌, ℕ, ◌+◌, ◌/◌, ◌%◌, ◌^◌
 use Rattle.std.specs.Prelude.{slice_index}
 use Rattle.std.proofs.lemmas.Bool.{cases_lt}
 use Rattle.std.proofs.Math.Nat.{zero-div, zero-mod}
-use Rattle.bucket_meta.specs.Bucket.{lock_of, allocated, note_used, overflow_count}
+use Rattle.bucket_meta.specs.Bucket.{lock_bit, allocated, note_used, overflow_count}
 use Rattle.word_bits.specs.Bits.{bits}
 use Rattle.segment_head.specs.HeadWord.{version_in, state_in, depth_in, pattern_in, normal}
 use Rattle.image_layout.specs.Places.{Shape, IsShape, entry_at, head_at, bucket_at}
@@ -111,8 +111,8 @@ module _ (shape : Shape) (words : List ℕ) (i : IsFormatted shape words) where
         none_beside = no_note s _ 1;
       })
 
-  unlocked : (s b w : ℕ) → w ≡ bucket_at shape s b → lock_of (word w) ≡ 0
-  unlocked s b w at = ap lock_of (zero_behind w (omega (arith, at))) ∙ bits_of_zero 0 1
+  unlocked : (s b w : ℕ) → w ≡ bucket_at shape s b → lock_bit (word w) ≡ 0
+  unlocked s b w at = ap lock_bit (zero_behind w (omega (arith, at))) ∙ zero-mod 2
 
   follows_rules : 0 < shape.segments → FollowsRules shape word
   follows_rules some n w =

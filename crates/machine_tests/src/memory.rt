@@ -1,4 +1,5 @@
 //! A small memory on which a machine steps, and what its caller has found there before.
+use bucket_meta::words::is_locked;
 use enclose_op::Enclosed;
 use image_layout::{BUCKETS, WORDS_OF_BUCKETS};
 use map_model::Change;
@@ -67,7 +68,7 @@ impl Memory {
     pub fn locks(&self) -> u64 {
         let mut taken = 0u64;
         for bucket in 0..BUCKETS {
-            if self.word(96 + 32 * u64::from(bucket)) % 2 == 1 {
+            if is_locked(self.word(96 + 32 * u64::from(bucket))) {
                 taken = taken.wrapping_add(1);
             }
         }

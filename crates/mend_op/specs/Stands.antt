@@ -1,7 +1,8 @@
 -- How a mending fits the world: the kind of each event, and how the view of its caller stands in each step.
-use Rattle.std.specs.Prelude.{◌≡◌, ◌≢◌, ℕ, ◌+◌, ◌*◌, ◌%◌, ◌^◌, ◌<◌, ◌≤◌, ◌⊎◌, Option, None, Some, List, [], ◌∷◌, slice_index}
+use Rattle.std.specs.Prelude.{◌≡◌, ◌≢◌, ℕ, ◌+◌, ◌*◌, ◌^◌, ◌<◌, ◌≤◌, ◌⊎◌, Option, None, Some, List, [], ◌∷◌, slice_index}
 use Rattle.trace.specs.Events.{line_of}
 use Rattle.hash_word.specs.Hash.{Covers}
+use Rattle.bucket_meta.specs.Bucket.{lock_bit}
 use Rattle.segment_head.specs.HeadWord.{version_in, state_in, depth_in, pattern_in, normal, splitting}
 use Rattle.image_layout.specs.Places.{root_word, bucket_at, homes, buckets, block, words_of_buckets}
 use Rattle.sound_image.specs.Records.{key_hash}
@@ -67,7 +68,7 @@ module _ (site : Ground) (guarded : Guarded) where
   pub record AreMended (words : List ℕ) : Type 0 where
     pub own : (b r k : ℕ) → Stands (first_of words) (key_of words) b r k → Covers (depth_in guarded.head) (pattern_in guarded.head) (key_hash site.shape k)
     pub once : (b r c t k : ℕ) → Stands (first_of words) (key_of words) b r k → Stands (first_of words) (key_of words) c t k → (c ≡ b) × (t ≡ r)
-    pub free : (b : ℕ) → b < buckets → slice_index words (block * b) % 2 ≡ 0
+    pub free : (b : ℕ) → b < buckets → lock_bit (slice_index words (block * b)) ≡ 0
 
   -- ---- THE VIEW
   -- words of the slot alone are known

@@ -1,7 +1,7 @@
 -- The words of the buckets of a segment, by their numbers: word n of bucket b is number 32 * b + n. And what a mending makes of them, in its
 -- three stages: of a split that ends the records of the 1-side leave, then locks are free and spoiled records leave, and then notes are exact.
 use Rattle.std.specs.Prelude.{◌≡◌, ℕ, min, suc, ◌+◌, ◌-◌, ◌*◌, ◌/◌, ◌%◌, ◌^◌, ◌<◌, ◌==◌, ◌&&◌, nat_lt, List, slice_index, if◌then◌else◌}
-use Rattle.bucket_meta.specs.Bucket.{record_slots, first_key}
+use Rattle.bucket_meta.specs.Bucket.{record_slots, first_key, lock_bit}
 use Rattle.segment_head.specs.HeadWord.{version_in, depth_in, pattern_in, header_of, normal}
 use Rattle.image_layout.specs.Places.{Shape, homes, buckets, block}
 use Rattle.sound_image.specs.Records.{key_hash}
@@ -34,7 +34,7 @@ renewed_head version head = header_of version normal (depth_in head) (pattern_in
 
 -- a lock word that is free, with its version
 abbrev pub freed : ℕ → ℕ
-freed w = w - w % 2
+freed w = w - lock_bit w
 
 -- ---- words
 module _ (words : List ℕ) where

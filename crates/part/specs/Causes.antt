@@ -1,5 +1,5 @@
 -- The causes of an attempt's end, one vocabulary for all machines: in the newest words, and in what the attempt did.
-use Rattle.std.specs.Prelude.{◌≡◌, ◌≢◌, ℕ, ◌+◌, ◌*◌, ◌%◌, ◌^◌, ◌<◌, ◌≤◌, ⊤, true, false, None, Some, List, ◌⊎◌}
+use Rattle.std.specs.Prelude.{◌≡◌, ◌≢◌, ℕ, ◌+◌, ◌*◌, ◌^◌, ◌<◌, ◌≤◌, ⊤, true, false, None, Some, List, ◌⊎◌}
 use Rattle.op_core.specs.declared.want.Want.{Want}
 use Rattle.op_core.specs.declared.want.Want.TheVariants.{Power, Done}
 use Rattle.op_core.specs.declared.want.Ans.{Ans}
@@ -7,7 +7,7 @@ use Rattle.op_core.specs.declared.why.Why.{Why}
 use Rattle.op_core.specs.declared.why.Why.TheVariants.{Busy, Moved}
 use Rattle.op_core.specs.Answers.{Finds}
 use Rattle.hash_word.specs.Hash.{home_of, probing_of, next_of, previous_of, finger_of}
-use Rattle.bucket_meta.specs.Bucket.{record_slots, first_key}
+use Rattle.bucket_meta.specs.Bucket.{record_slots, first_key, lock_bit}
 use Rattle.bucket_meta.specs.Slots.{IsFull}
 use Rattle.bucket_meta.specs.Visits.{must_visit}
 use Rattle.trace.specs.Events.{Words}
@@ -128,7 +128,7 @@ module _ (shape : Shape) (hash : ℕ) (loads : List (ℕ × ℕ)) where
   -- a word that may be told with these two values: one on the way, or such a lock word, which has them as free, so that two
   -- such values are of two versions
   abbrev pub IsWatched : Call → ℕ → ℕ → ℕ → Type 0
-  IsWatched call word before after = IsOnWay word ⊎ (IsLockThere call word × (before % 2 ≡ 0) × (after % 2 ≡ 0))
+  IsWatched call word before after = IsOnWay word ⊎ (IsLockThere call word × (lock_bit before ≡ 0) × (lock_bit after ≡ 0))
 
 -- ---- causes
 module _ (shape : Shape) (words : Words) (did : Doings) (call : Call) where
@@ -144,7 +144,7 @@ module _ (shape : Shape) (words : Words) (did : Doings) (call : Call) where
   pub record IsTaken (word value : ℕ) : Type 0 where
     pub own : IsOwnLock word
     pub newest : words word ≡ value
-    pub odd : value % 2 ≡ 1
+    pub odd : lock_bit value ≡ 1
     pub by_others : Has word did.changed → ⊥
 
   -- ---- moved

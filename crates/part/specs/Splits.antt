@@ -1,10 +1,11 @@
 -- The causes by which an attempt ends that splits a segment: in the newest words, and in what it did.
-use Rattle.std.specs.Prelude.{◌≡◌, ◌≢◌, ℕ, ◌+◌, ◌%◌, ◌^◌, ◌<◌, ⊤, true, false, None, Some, List, ◌⊎◌}
+use Rattle.std.specs.Prelude.{◌≡◌, ◌≢◌, ℕ, ◌+◌, ◌^◌, ◌<◌, ⊤, true, false, None, Some, List, ◌⊎◌}
 use Rattle.op_core.specs.declared.want.Want.{Want}
 use Rattle.op_core.specs.declared.want.Want.TheVariants.{Done}
 use Rattle.op_core.specs.declared.want.Ans.{Ans}
 use Rattle.trace.specs.Events.{Words}
 use Rattle.hash_word.specs.Hash.{home_of, probing_of, next_of, previous_of}
+use Rattle.bucket_meta.specs.Bucket.{lock_bit}
 use Rattle.image_layout.specs.Places.{Shape, bucket_at, homes, buckets}
 use Rattle.image_layout.specs.Volatile.{segment_guard, allocation_guard}
 use Rattle.map_model.specs.declared.call.Call.{Call}
@@ -66,7 +67,7 @@ module _ (shape : Shape) (words : Words) (did : Doings) (call : Call) (segment :
 
   -- IT IS TAKEN, and not by this attempt
   pub record IsTakenByOthers (word value : ℕ) : Type 0 where
-    pub needed : (IsNeededLock word × (value % 2 ≡ 1)) ⊎ (IsNeededGuard word × (value ≢ 0))
+    pub needed : (IsNeededLock word × (lock_bit value ≡ 1)) ⊎ (IsNeededGuard word × (value ≢ 0))
     pub newest : words word ≡ value
     pub by_others : HasTaken word → ⊥
 
@@ -74,8 +75,8 @@ module _ (shape : Shape) (words : Words) (did : Doings) (call : Call) (segment :
   pub record HasMovedLock (word before after : ℕ) : Type 0 where
     pub needed : IsNeededLock word
     pub loaded : Has (word, before) did.loads
-    pub free_before : before % 2 ≡ 0
-    pub free_after : after % 2 ≡ 0
+    pub free_before : lock_bit before ≡ 0
+    pub free_after : lock_bit after ≡ 0
     pub newest : words word ≡ after
     pub differ : before ≢ after
     pub by_others : HasTaken word → ⊥

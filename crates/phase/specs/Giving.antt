@@ -1,6 +1,7 @@
 -- How the locks that are held fit the world, and how they are given back.
 use Rattle.std.specs.Prelude.{◌≡◌, ◌≢◌, ℕ, ◌+◌, ◌<◌, Option, None, Some, List, [], ◌∷◌}
 use Rattle.op_core.specs.declared.want.Want.TheVariants.{Done}
+use Rattle.bucket_meta.specs.Bucket.{locked, given_back}
 use Rattle.image_layout.specs.Places.{Shape, root_word, bucket_at}
 use Rattle.map_model.specs.declared.call.Call.{Call}
 use Rattle.world.specs.declared.site.Site.{Site}
@@ -42,8 +43,8 @@ module _ (here : Site) (hash segment : ℕ) (held : Held) where
   -- THESE LOCKS ARE HELD, and no others, in any order: each may be given back with its next version, words are known under them alone,
   -- and no area is held
   pub record HoldsLocks (v : View) : Type 0 where
-    pub has : (place : Role) (value : ℕ) → free_of held place ≡ Some value → Has (lock_word here hash segment place, value + 1) v.held
-    pub only : (p : ℕ × ℕ) → Has p v.held → (place : Role) × (value : ℕ) × (free_of held place ≡ Some value) × (p ≡ (lock_word here hash segment place, value + 1))
+    pub has : (place : Role) (value : ℕ) → free_of held place ≡ Some value → Has (lock_word here hash segment place, locked value) v.held
+    pub only : (p : ℕ × ℕ) → Has p v.held → (place : Role) × (value : ℕ) × (free_of held place ≡ Some value) × (p ≡ (lock_word here hash segment place, locked value))
     pub free : (place : Role) (value : ℕ) → free_of held place ≡ Some value → MayBeTaken value
     pub known : (p : ℕ × ℕ) → Has p v.known → IsGuarded v.held p.0
     pub areas : v.areas ≡ []
@@ -51,7 +52,7 @@ module _ (here : Site) (hash segment : ℕ) (held : Held) where
 -- ---- given back
 module _ (here : Site) (hash segment : ℕ) where
   abbrev pub give_kind_of : Option (Role × ℕ) → Kind
-  give_kind_of (Some next) = unlocks (lock_word here hash segment next.0) (next.1 + 2)
+  give_kind_of (Some next) = unlocks (lock_word here hash segment next.0) (given_back next.1)
   give_kind_of None = peeks root_word
 
   abbrev pub give_kind : Held → Kind
@@ -82,7 +83,7 @@ pub record PlacesStand : Type 0 where
 pub record HeldStands : Type 0 where
   pub none : (here : Site) (hash segment : ℕ) (v : View) → HoldsOnly [] v → HoldsLocks here hash segment none_held v
   pub more : (here : Site) (hash segment : ℕ) (held : Held) (place : Role) (free : ℕ) (v u : View) → free_of held place ≡ None → MayBeTaken free → HoldsLocks here hash segment held v
-      → u ≡ record v { held = (lock_word here hash segment place, free + 1) ∷ v.held } → HoldsLocks here hash segment (with_held place free held) u
+      → u ≡ record v { held = (lock_word here hash segment place, locked free) ∷ v.held } → HoldsLocks here hash segment (with_held place free held) u
   pub has : (here : Site) (hash segment : ℕ) (held : Held) (place : Role) (v : View) → HoldsLocks here hash segment held v → IsHeld held place
       → HasLock v.held (lock_word here hash segment place)
   -- a store under one of them, or a load there, keeps them, and so does what leaves the locks, the areas and what is known

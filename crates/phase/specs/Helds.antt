@@ -1,7 +1,8 @@
 -- The locks that are held, by the places of their buckets, and how they are given back.
-use Rattle.std.specs.Prelude.{ℕ, ◌+◌, ◌%◌, ◌^◌, Option, None, Some}
+use Rattle.std.specs.Prelude.{ℕ, ◌%◌, ◌^◌, Option, None, Some}
 use Rattle.op_core.specs.declared.want.Want.{Want}
 use Rattle.op_core.specs.declared.want.Want.TheVariants.{Store, Done}
+use Rattle.bucket_meta.specs.Bucket.{given_back}
 use Rattle.world.specs.declared.site.Site.{Site}
 use Rattle.phase.specs.declared.role.Role.{Role}
 use Rattle.phase.specs.declared.role.Role.TheVariants.{Home, Probing, First, Second, Next, Previous}
@@ -55,7 +56,7 @@ give_next held = first_held held.home held.probing held.first held.second held.n
 
 -- with its version plus one
 abbrev pub give_wanted_of : Site → ℕ → ℕ → Option (Role × ℕ) → Want
-give_wanted_of here hash segment (Some next) = Store (lock_word here hash segment next.0) ((next.1 + 2) % 2 ^ 64)
+give_wanted_of here hash segment (Some next) = Store (lock_word here hash segment next.0) (given_back next.1 % 2 ^ 64)
 give_wanted_of here hash segment None = Done
 
 abbrev pub give_wanted : Site → ℕ → ℕ → Held → Want

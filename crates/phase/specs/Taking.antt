@@ -1,8 +1,9 @@
 -- How the taking of a lock fits the world: the kind of each event, what the view is after it, and by what each end comes.
-use Rattle.std.specs.Prelude.{◌≡◌, ℕ, ◌+◌, ◌%◌, ◌^◌, ◌<◌, ⊤, List, ◌∷◌, ◌++◌}
+use Rattle.std.specs.Prelude.{◌≡◌, ℕ, ◌^◌, ◌<◌, ⊤, List, ◌∷◌, ◌++◌}
 use Rattle.op_core.specs.declared.want.Ans.{Ans}
 use Rattle.op_core.specs.Answers.{IsAnswer, load_of}
 use Rattle.trace.specs.Events.{Words}
+use Rattle.bucket_meta.specs.Bucket.{lock_bit, locked, given_back}
 use Rattle.image_layout.specs.Places.{Shape}
 use Rattle.map_model.specs.declared.call.Call.{Call}
 use Rattle.world.specs.Ground.{Ground, spent_lock}
@@ -24,7 +25,7 @@ take_kind lock (Try free) = tries lock free
 
 -- a free value with which a lock may be taken: even, and not of the last version
 abbrev pub MayBeTaken : ℕ → Type 0
-MayBeTaken free = (free % 2 ≡ 0) × (free + 2 < 2 ^ 64)
+MayBeTaken free = (lock_bit free ≡ 0) × (given_back free < 2 ^ 64)
 
 abbrev pub IsTaking : Take → Type 0
 IsTaking Look = ⊤
@@ -39,7 +40,7 @@ IsButSpent v u = (locks : List ℕ) × (u ≡ record v { spent_locks = locks })
 -- was, but for the lock words that were found spent
 abbrev pub HasTaken : ℕ → View → Taken → View → Type 0
 HasTaken lock v (taken.On take) u = IsTaking take × IsButSpent v u
-HasTaken lock v (taken.Held free) u = MayBeTaken free × (u ≡ record v { held = (lock, free + 1) ∷ v.held })
+HasTaken lock v (taken.Held free) u = MayBeTaken free × (u ≡ record v { held = (lock, locked free) ∷ v.held })
 HasTaken lock v taken.Spent u = Has lock u.spent_locks × IsButSpent v u
 HasTaken lock v end u = IsButSpent v u
 

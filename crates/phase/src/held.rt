@@ -4,6 +4,7 @@ ghost use Rattle.std.specs.Prelude.{◌≡◌};
 ghost use Rattle.phase.specs.Helds.{none_held, with_held, without_held, free_of, give_next, give_wanted, given};
 
 use crate::role::{Role, lock_word};
+use bucket_meta::words;
 use op_core::Want;
 use world::Site;
 
@@ -114,7 +115,7 @@ pub fn give_want(site: &Site, hash: u64, segment: u64, held: &Held) -> Want
     match give_next(held) {
         Some((place, free)) => Want::Store(
             lock_word(site, hash, segment, place),
-            free.wrapping_add(2),
+            words::given_back(free),
         ),
         None => Want::Done,
     }

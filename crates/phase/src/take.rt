@@ -3,7 +3,7 @@
 ghost use Rattle.std.specs.Prelude.{◌≡◌};
 ghost use Rattle.phase.specs.Takes.{take_wanted, take_looked, take_lost, take_taken};
 
-use bucket_meta::words::SPENT_LOCK;
+use bucket_meta::words::{SPENT_LOCK, is_locked, locked};
 use op_core::{Ans, Want};
 
 /// What is to be done with a lock word.
@@ -48,7 +48,7 @@ pub enum Taken {
 fn looked(seen: u64) -> Taken
     ensures { result ≡ take_looked seen }
 {
-    if seen % 2 == 1 {
+    if is_locked(seen) {
         Taken::Busy { seen }
     } else if seen == SPENT_LOCK {
         Taken::Spent
@@ -61,7 +61,7 @@ fn looked(seen: u64) -> Taken
 fn lost(free: u64, seen: u64) -> Taken
     ensures { result ≡ take_lost free seen }
 {
-    if seen % 2 == 1 {
+    if is_locked(seen) {
         Taken::Busy { seen }
     } else {
         Taken::Moved {
@@ -77,7 +77,7 @@ pub fn take_want(lock: u64, take: &Take) -> Want
 {
     match take {
         Take::Look => Want::Load(lock),
-        Take::Try { free } => Want::Exchange(lock, *free, free.wrapping_add(1)),
+        Take::Try { free } => Want::Exchange(lock, *free, locked(*free)),
     }
 }
 

@@ -1,9 +1,10 @@
 -- What a get asks of the memory and by what its answer comes, in any state; and its ends in a world, beside any other callers.
-use Rattle.std.specs.Prelude.{◌≡◌, ◌≢◌, ℕ, ◌%◌, Option, List, []}
+use Rattle.std.specs.Prelude.{◌≡◌, ◌≢◌, ℕ, Option, List, []}
 use Rattle.op_core.specs.declared.want.Want.TheVariants.{Done}
 use Rattle.op_core.specs.declared.want.Ans.TheVariants.{Value}
 use Rattle.op_core.specs.declared.why.Why.TheVariants.{Busy}
 use Rattle.op_core.specs.Answers.{IsReading}
+use Rattle.bucket_meta.specs.Bucket.{lock_bit}
 use Rattle.trace.specs.Events.{Words}
 use Rattle.world.specs.Ground.{Ground, IsLockWord, IsCurrentLock}
 use Rattle.world.specs.Views.{View, At, HasLock}
@@ -32,7 +33,7 @@ pub record FindsSame (step : ReadStep) (n : ℕ) (value : Option ℕ) (place : �
   pub last : Role
   pub at_last : step ≡ Relook seen place last
   pub same : n ≡ free_at seen.free last
-  pub even : n % 2 ≢ 1
+  pub even : lock_bit n ≢ 1
   pub value_is : seen.value ≡ value
 
 -- AN ANSWER comes by such an event
@@ -58,12 +59,12 @@ module _ (site : Ground) (op : ReadOp) (words : Words) where
 abbrev pub BusyIsAnothers : Type 0
 BusyIsAnothers = (site : Ground) (op : ReadOp) (words : Words) (views : List View) (j : ℕ) (v : View) → Holds site words views → At views j v
     → IsIn site op.task → Suits site op v → v.held ≡ [] → wanted op ≢ Done
-    → (word value : ℕ) → EndsSo site op words (ends.Again (Busy word value)) → IsLockWord site.shape word × (words word ≡ value) × (value % 2 ≡ 1) × IsAnothers views j v word
+    → (word value : ℕ) → EndsSo site op words (ends.Again (Busy word value)) → IsLockWord site.shape word × (words word ≡ value) × (lock_bit value ≡ 1) × IsAnothers views j v word
 
 -- where no lock of a current segment is taken, none is found taken
 abbrev pub NeverBusy : Type 0
 NeverBusy = (site : Ground) (op : ReadOp) (words : Words) (views : List View) (j : ℕ) (v : View) → Holds site words views → At views j v
-    → IsIn site op.task → Suits site op v → wanted op ≢ Done → ((lock : ℕ) → IsCurrentLock site words lock → words lock % 2 ≡ 0)
+    → IsIn site op.task → Suits site op v → wanted op ≢ Done → ((lock : ℕ) → IsCurrentLock site words lock → lock_bit (words lock) ≡ 0)
     → (word value : ℕ) → EndsSo site op words (ends.Again (Busy word value)) → ⊥
 
 -- where each live segment has the image's version, no segment is stale

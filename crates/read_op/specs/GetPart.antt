@@ -1,6 +1,7 @@
 -- A get as a part of a call.
-use Rattle.std.specs.Prelude.{◌≡◌, ℕ, ◌+◌, ◌%◌, ◌^◌, ◌<◌, ⊤, Bool, true, false, Option, None, Some, List, []}
+use Rattle.std.specs.Prelude.{◌≡◌, ℕ, ◌+◌, ◌^◌, ◌<◌, ⊤, Bool, true, false, Option, None, Some, List, []}
 use Rattle.op_core.specs.declared.want.Want.TheVariants.{Done}
+use Rattle.bucket_meta.specs.Bucket.{lock_bit}
 use Rattle.image_layout.specs.Volatile.{counter_word}
 use Rattle.map_model.specs.declared.call.Call.{Call}
 use Rattle.map_model.specs.declared.call.Call.TheVariants.{Get}
@@ -61,7 +62,7 @@ module _ (task : Task) (loads : List (ℕ × ℕ)) where
   -- that are visited have to be
   pub record RemembersSeen (s : Seen) (k : ℕ) : Type 0 where
     pub path : WasFound task.site task.hash loads s.path
-    pub free : (q : Role) → Upto s k q → Has (lock_of task s q, free_at s.free q) loads × (free_at s.free q % 2 ≡ 0)
+    pub free : (q : Role) → Upto s k q → Has (lock_of task s q, free_at s.free q) loads × (lock_bit (free_at s.free q) ≡ 0)
     pub first : HasReason s s.first 0
     pub second : HasReason s s.second 1
 

@@ -10,7 +10,7 @@ use Rattle.op_core.specs.declared.want.Ans.{Ans}
 use Rattle.op_core.specs.declared.want.Ans.TheVariants.{Value}
 use Rattle.op_core.specs.declared.why.Why.TheVariants.{Busy, Moved}
 use Rattle.bucket_words.specs.Buckets.{find_below}
-use Rattle.bucket_meta.specs.Bucket.{record_slots}
+use Rattle.bucket_meta.specs.Bucket.{lock_bit, record_slots}
 use Rattle.bucket_meta.specs.Visits.{must_visit}
 use Rattle.world.specs.declared.site.Site.{Site}
 use Rattle.phase.specs.declared.walk.Path.{Path}
@@ -153,14 +153,14 @@ module _ (task : Task) where
   -- a lock word that was seen again
   abbrev pub relooked : Seen → ℕ → Role → ℕ → ReadStep
   relooked seen placed place value =
-      if value % 2 == 1 then busy (lock_of seen place) value
+      if lock_bit value == 1 then busy (lock_of seen place) value
       else if value == free_at seen.free place then relook_next seen placed place
       else moved (lock_of seen place) (free_at seen.free place) value
 
   -- WHAT A VALUE makes of it
   abbrev pub next_in : ReadStep → ℕ → ReadStep
   next_in (Way walk) x = walked_to (walk_taken task.site task.hash walk x)
-  next_in (Look seen place) x = if x % 2 == 0 then looked (with_free seen place x) place else busy (lock_of seen place) x
+  next_in (Look seen place) x = if lock_bit x == 0 then looked (with_free seen place x) place else busy (lock_of seen place) x
   next_in (Fill seen place load) x = filled task.key task.hash seen place (load_taken load x)
   next_in (Count seen) x = Check seen x Root
   next_in (Check seen placed back) x = backed_to seen placed (back_taken task.site task.hash seen.path back x)

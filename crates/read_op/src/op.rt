@@ -12,7 +12,7 @@ ghost use Rattle.read_op.specs.Steps.{begun, seen_none, wanted, taken, moved, bu
 use crate::role::{Free, free_at};
 use crate::slots::value_of;
 use crate::step::{ReadEnd, ReadStep, Seen, Task};
-use bucket_meta::words::{BUCKET_WORDS, must_visit};
+use bucket_meta::words::{BUCKET_WORDS, is_locked, must_visit};
 use hash_word::finger;
 use op_core::{Ans, Machine, Want, Why};
 use phase::{
@@ -302,7 +302,7 @@ impl Task {
     {
         let lock = self.lock(&seen, &place);
         let free = free_at(&seen.free, &place);
-        if value % 2 == 1 {
+        if is_locked(value) {
             busy(lock, value)
         } else if value == free {
             relook_next(seen, placed, place)

@@ -1,6 +1,7 @@
 -- How the rest of a split fits the world: the kind of each event, and how the view of its caller stands in each step.
 use Rattle.std.specs.Prelude.{◌≡◌, ◌≢◌, ℕ, ◌+◌, ◌*◌, ◌<◌, ◌≤◌, ◌==◌, ◌&&◌, nat_lt, None, [], ◌∷◌, slice_index, if◌then◌else◌}
 use Rattle.trace.specs.Events.{line_of}
+use Rattle.bucket_meta.specs.Bucket.{given_back}
 use Rattle.segment_head.specs.HeadWord.{version_in, depth_in, pattern_in, splitting}
 use Rattle.image_layout.specs.Places.{root_word, bucket_at, homes, buckets, block}
 use Rattle.frame_facts.specs.Facts.{Lacks, Deep}
@@ -34,7 +35,7 @@ kind_at op Head = of_structure (moves finishes op.whole.segment (rest_head op.wh
 kind_at op HeadFlush = of_call (flushes (line_of (head_word op.whole.site.geometry op.whole.segment)))
 kind_at op HeadFence = of_structure (settles [])
 kind_at op (Note n) = of_structure (sets (note_word op n) (note_value op n))
-kind_at op Open = of_structure (opens op.whole.segment (lock_of op.whole 0) (free_value op.whole 0 + 2))
+kind_at op Open = of_structure (opens op.whole.segment (lock_of op.whole 0) (given_back (free_value op.whole 0)))
 kind_at op (Give give) = give_kind op.whole give
 kind_at op Ended = of_call (peeks root_word)
 

@@ -1,7 +1,7 @@
 -- A segment at rest, and the structure behind a restart and in front of a close. Of stale segments, which live and have not the version of the
 -- image, nothing is said but what the structure says.
 use Rattle.std.specs.Prelude.{◌≡◌, ℕ, ◌<◌, Some}
-use Rattle.bucket_meta.specs.Bucket.{lock_of}
+use Rattle.bucket_meta.specs.Bucket.{lock_bit}
 use Rattle.segment_head.specs.HeadWord.{normal}
 use Rattle.trace.specs.Events.{Words}
 use Rattle.image_layout.specs.Places.{Shape, state_word, bucket_at, homes, buckets}
@@ -16,7 +16,7 @@ use Rattle.world.specs.Facts.{IsCurrentSlot}
 module _ (shape : Shape) (word : Words) where
   -- in slot s no lock is taken, each key stands once, and the notes of each home are exact
   pub record IsAtRest (s : ℕ) : Type 0 where
-    pub free : (b : ℕ) → b < buckets → lock_of (word (bucket_at shape s b)) ≡ 0
+    pub free : (b : ℕ) → b < buckets → lock_bit (word (bucket_at shape s b)) ≡ 0
     pub once : (b r c t k : ℕ) → Hit shape word s b r k → Hit shape word s c t k → (b ≡ c) × (r ≡ t)
     pub exact : (b : ℕ) → b < homes → HasExactNotes shape word s b
 

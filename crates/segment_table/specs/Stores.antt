@@ -3,7 +3,7 @@ use Rattle.std.specs.Prelude.{◌≡◌, ◌≢◌, ℕ, suc, ◌+◌, ◌*◌, 
 use Rattle.trace.specs.Events.{with_word}
 use Rattle.hash_word.specs.Hash.{index_of}
 use Rattle.segment_head.specs.HeadWord.{version_in, state_in, depth_in, pattern_in, free, normal, splitting, fresh}
-use Rattle.sound_image.specs.Places.{Shape, root_word, state_word, entry_at, head_at, header_word, link_word}
+use Rattle.sound_image.specs.Places.{Shape, root_word, state_word, entry_at, header_word, link_word}
 use Rattle.sound_image.specs.StateWord.{image_version_in}
 use Rattle.sound_image.specs.Segments.{ImageWords, Frame, frame_of, image_version, state_at, depth_at, pattern_at, InOneSide, IsReadySide, HasReadySide}
 use Rattle.segment_table.specs.Claims.{Claims, named_for, IsSoundFrame}

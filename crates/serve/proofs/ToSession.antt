@@ -5,7 +5,7 @@ use Rattle.std.specs.List.{AllByRecursion, AllZip}
 use Rattle.std.specs.FinMap.{get}
 use Rattle.trace.specs.Events.{Words}
 use Rattle.segment_head.specs.HeadWord.{state_in, free}
-use Rattle.bucket_meta.specs.Bucket.{version_of}
+use Rattle.bucket_meta.specs.Bucket.{lock_version}
 use Rattle.image_layout.specs.Places.{Shape, bucket_at, buckets}
 use Rattle.map_model.specs.declared.call.Call.{Call}
 use Rattle.map_model.specs.declared.entry.Entry.{Entry}
@@ -82,7 +82,7 @@ module _ (site : Ground) (first last : List ℕ) (scripts : List (List Call)) (l
     slot = slot;
     bucket = near;
     live = live_same (frame_of shape words) (frame_of shape (slice_index last)) s (same_head s slot) lives.live;
-    spent = ap version_of (same_lock s b slot near ∙ ap words (sym at) ∙ is_last);
+    spent = ap lock_version (same_lock s b slot near ∙ ap words (sym at) ∙ is_last);
   }
 
   spent : (e : Entry) → Contains (all_of lists) e → e.reply ≡ Spent → draws (all_of lists) < 2 ^ 63 → HasSpentBucket shape last

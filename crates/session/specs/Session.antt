@@ -11,7 +11,7 @@ use Rattle.map_model.specs.Weave.{all_of, draws, spent_count, weave}
 use Rattle.map_model.specs.Legal.{IsLegal, replay}
 use Rattle.map_model.specs.ByPlaces.{map_at}
 use Rattle.hash_word.specs.Hash.{top}
-use Rattle.sound_image.specs.Bucket.{version_of, last_lock_version}
+use Rattle.sound_image.specs.Bucket.{lock_version, last_lock_version}
 use Rattle.sound_image.specs.HeadWord.{free}
 use Rattle.sound_image.specs.Places.{Shape, front_words, bucket_at, buckets, slots_of_key}
 use Rattle.sound_image.specs.Segments.{frame_of, IsClean, IsLive, state_at}
@@ -48,7 +48,7 @@ pub record HasSpentBucket (shape : Shape) (words : List ℕ) : Type 0 where
   pub slot : s < shape.segments
   pub bucket : b < buckets
   pub live : IsLive (frame_of shape (slice_index words)) s
-  pub spent : version_of (slice_index words (bucket_at shape s b)) ≡ last_lock_version
+  pub spent : lock_version (slice_index words (bucket_at shape s b)) ≡ last_lock_version
 
 -- what a close leaves: every call of the script has its reply, the marker is set, and the pairs are the map's
 pub record IsClosed (shape : Shape) (words : List ℕ) (scripts : List (List Call)) (tolds : List Told) (m : Map) : Type 0 where

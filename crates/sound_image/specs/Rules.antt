@@ -2,7 +2,7 @@
 -- and nothing of others. So the word at which a rule is broken first is one word.
 use Rattle.std.specs.Prelude.{◌≡◌, ◌≢◌, ℕ, ◌+◌, ◌^◌, ◌<◌, ◌≤◌, ◌⊎◌}
 use Rattle.hash_word.specs.Hash.{home_of, finger_of, probing_of}
-use Rattle.image_layout.specs.Bucket.{lock_of, member, finger}
+use Rattle.image_layout.specs.Bucket.{lock_bit, member, finger}
 use Rattle.segment_head.specs.HeadWord.{version_in, normal}
 use Rattle.image_layout.specs.Places.{Shape, homes, buckets, root_word, state_word, entry_at, header_word, link_word, bucket_at, key_at}
 use Rattle.sound_image.specs.Segments.{ImageWords, Frame, frame_of, image_version, IsClean, state_at, IsLive, Owns}
@@ -74,7 +74,7 @@ module _ (shape : Shape) (word : ImageWords) where
   -- and each key once, and has exact overflow notes
   pub record CleanMeansRepaired (w : ℕ) : Type 0 where
     pub head : (s : ℕ) → IsCleanAndCurrent s → w ≡ header_word shape s → state_at frame s ≡ normal
-    pub lock : (s b : ℕ) → IsCleanAndCurrent s → b < buckets → w ≡ bucket_at shape s b → lock_of (word w) ≡ 0
+    pub lock : (s b : ℕ) → IsCleanAndCurrent s → b < buckets → w ≡ bucket_at shape s b → lock_bit (word w) ≡ 0
     pub own : (s b r : ℕ) → IsCleanAndCurrent s → HasRecord shape word s b r → w ≡ key_at shape s b r → Owns frame s (slot_hash shape word s b r)
     pub once : (s b r : ℕ) → IsCleanAndCurrent s → HasRecord shape word s b r → w ≡ key_at shape s b r → NotBefore s b r
     pub notes : (s b : ℕ) → IsCleanAndCurrent s → b < homes → w ≡ bucket_at shape s b + 1 → HasExactNotes shape word s b

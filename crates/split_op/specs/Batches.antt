@@ -1,7 +1,7 @@
 -- WHAT A SPLIT STORES, one store after another: to empty a slot, to link it, the two headers, and the copies.
 use Rattle.std.specs.Prelude.{ℕ, zero, suc, ◌+◌, ◌-◌, ◌*◌, ◌/◌, ◌%◌, ◌^◌, nat_lt, ◌==◌, ◌&&◌, ◌||◌, not, Bool, true, false, Option, None, Some, List, slice_index, if◌then◌else◌}
 use Rattle.word_bits.specs.Bits.{bit}
-use Rattle.bucket_meta.specs.Bucket.{first_key}
+use Rattle.bucket_meta.specs.Bucket.{first_key, lock_bit, lock_version}
 use Rattle.image_layout.specs.Places.{Shape, root_word, head_at, segment_words, buckets, block, header_number, link_number}
 use Rattle.split_op.specs.declared.batch.Batch.{Batch}
 use Rattle.split_op.specs.declared.batch.Batch.TheVariants.{Empty, Link, Mark, New, Copy}
@@ -15,11 +15,11 @@ slot_word shape slot number = if nat_lt slot shape.segments then head_at shape s
 -- ---- a slot is emptied
 -- what a word is emptied to: a lock word to the free value of its version, and another to 0
 abbrev pub empty_value : List ℕ → ℕ → ℕ
-empty_value locks number = if nat_lt number block || nat_lt 0 (number % block) then 0 else slice_index locks (number / block - 1) / 2 * 2
+empty_value locks number = if nat_lt number block || nat_lt 0 (number % block) then 0 else lock_version (slice_index locks (number / block - 1)) * 2
 
 -- the first word of a bucket that is emptied: its lock word where that is not free
 abbrev pub first_of : List ℕ → ℕ → ℕ
-first_of locks bucket = if nat_lt bucket buckets then (if slice_index locks bucket % 2 == 0 then block * bucket + (block + 1) else block * bucket + block) else segment_words
+first_of locks bucket = if nat_lt bucket buckets then (if lock_bit (slice_index locks bucket) == 0 then block * bucket + (block + 1) else block * bucket + block) else segment_words
 
 -- the word that is emptied after one
 abbrev pub after_empty : List ℕ → ℕ → ℕ

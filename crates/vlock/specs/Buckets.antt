@@ -1,7 +1,8 @@
 -- What reading, locking and unlocking a bucket ask and tell.
-use Rattle.std.specs.Prelude.{◌≡◌, ◌≢◌, ◌⊎◌, true, ℕ, zero, suc, ◌+◌, ◌*◌, ◌%◌, ◌^◌, ◌<◌, ◌≤◌, List, [], ◌∷◌, slice_index, length}
+use Rattle.std.specs.Prelude.{◌≡◌, ◌≢◌, ◌⊎◌, true, ℕ, zero, suc, ◌+◌, ◌^◌, ◌<◌, ◌≤◌, List, [], ◌∷◌, slice_index, length}
 use Rattle.op_core.specs.declared.want.Want.{Want}
 use Rattle.op_core.specs.declared.want.Want.TheVariants.{Load, Store, Exchange}
+use Rattle.bucket_meta.specs.Bucket.{lock_bit, free_lock, locked, unlocked, given_back}
 use Rattle.image_layout.specs.Places.{block}
 use Rattle.world.specs.Ground.{Ground, spent_lock}
 use Rattle.world.specs.Views.{Glance, View, Has, IsFirm}
@@ -37,7 +38,7 @@ pub record WasBucket (site : Ground) (v : View) (lock version : ℕ) (bits : Lis
   pub then : View
   pub same_view : IsBesideNotes v then
   pub moment : Moment site then
-  pub free : moment.words lock ≡ 2 * version
+  pub free : moment.words lock ≡ free_lock version
   pub same : (j : ℕ) → j < block → moment.words (lock + j) ≡ slice_index bits j
 
 -- the events that were taken, with loads of the first words of a bucket behind them, the newest first: what each found is in these bits
@@ -57,20 +58,20 @@ ReadToItsEnd lock before after took later = (bits : List ℕ) × (slice_index bi
 -- the view notes that the bucket was read, with its words, and that its lock word was the same behind them
 abbrev pub NotesBucket : ℕ → ℕ → List ℕ → View → Type 0
 NotesBucket lock version bits v =
-    (note : Glance) × Has note v.notes × (note.word ≡ lock) × (note.value ≡ 2 * version) × (note.again ≡ true)
+    (note : Glance) × Has note v.notes × (note.word ≡ lock) × (note.value ≡ free_lock version) × (note.again ≡ true)
     × ((j : ℕ) → 1 ≤ j → j < block → Has (lock + j, slice_index bits j) note.words)
 
 -- WHAT READING A BUCKET TELLS, of what the seat knew before and knows after: where the bucket is clean, its 32 words were loaded, and then the
 -- lock word once more
 abbrev pub ReadSays : Ground → ℕ → Watch → ReadReply → Watch → Type 0
 ReadSays site lock p (Clean version bits) q =
-    WasBucket site p.view lock version bits × (q.took ≡ (Load lock, 2 * version) ∷ with_loads lock bits block p.took) × NotesBucket lock version bits q.view
+    WasBucket site p.view lock version bits × (q.took ≡ (Load lock, free_lock version) ∷ with_loads lock bits block p.took) × NotesBucket lock version bits q.view
 ReadSays site lock p (Moved before after) q =
-    (before ≢ after) × (before % 2 ≡ 0) × (after % 2 ≡ 0) × WasFound site p.view lock before × WasFound site p.view lock after
+    (before ≢ after) × (lock_bit before ≡ 0) × (lock_bit after ≡ 0) × WasFound site p.view lock before × WasFound site p.view lock after
     × ReadToItsEnd lock before after p.took q.took
 ReadSays site lock p (Held seen) q =
-    (seen % 2 ≡ 1) × WasFound site p.view lock seen
-    × (LookedOnce lock seen p.took q.took ⊎ ((before : ℕ) × (before % 2 ≡ 0) × ReadToItsEnd lock before seen p.took q.took))
+    (lock_bit seen ≡ 1) × WasFound site p.view lock seen
+    × (LookedOnce lock seen p.took q.took ⊎ ((before : ℕ) × (lock_bit before ≡ 0) × ReadToItsEnd lock before seen p.took q.took))
 
 -- at a moment that met the invariant, with this view there, the word was this
 abbrev pub WasAt : Ground → View → ℕ → ℕ → Type 0
@@ -83,7 +84,7 @@ pub record IsReading (site : Ground) (v : View) (lock before : ℕ) (bits : List
   pub notes : w.notes ≡ note ∷ rest
   pub lock_is : note.word ≡ lock
   pub value : note.value ≡ before
-  pub even : before % 2 ≡ 0
+  pub even : lock_bit before ≡ 0
   pub has : (j : ℕ) → 1 ≤ j → j < next → Has (lock + j, slice_index bits j) note.words
   pub whole : length bits ≡ block
   pub first : slice_index bits 0 ≡ before
@@ -93,34 +94,34 @@ pub record IsReading (site : Ground) (v : View) (lock before : ℕ) (bits : List
 -- what is said of a lock that was tried: the lock is held now, or the view is as it was, and when it was looked at the word was this; or it is
 -- remembered that its numbers are spent
 abbrev pub LockSays : Ground → ℕ → View → LockReply → View → Type 0
-LockSays site lock v (locking.Locked version) w = (w ≡ record v { held = (lock, 2 * version + 1) ∷ v.held }) × (2 * version + 2 < 2 ^ 64) × WasAt site v lock (2 * version)
-LockSays site lock v (locking.Held seen) w = (w ≡ v) × (seen % 2 ≡ 1) × WasAt site v lock seen
+LockSays site lock v (locking.Locked version) w = (w ≡ record v { held = (lock, locked (free_lock version)) ∷ v.held }) × (given_back (free_lock version) < 2 ^ 64) × WasAt site v lock (free_lock version)
+LockSays site lock v (locking.Held seen) w = (w ≡ v) × (lock_bit seen ≡ 1) × WasAt site v lock seen
 LockSays site lock v (locking.Moved before after) w =
-    (w ≡ v) × (before ≢ after) × (before % 2 ≡ 0) × (after % 2 ≡ 0) × WasAt site v lock before × WasAt site v lock after
+    (w ≡ v) × (before ≢ after) × (lock_bit before ≡ 0) × (lock_bit after ≡ 0) × WasAt site v lock before × WasAt site v lock after
 LockSays site lock v locking.Spent w = (w ≡ record v { spent_locks = lock ∷ v.spent_locks }) × WasAt site v lock spent_lock
 
 -- WHICH EVENTS A TRY TAKES: a look at the lock word, and where that is free and not of the last version one exchange. It gives up a lock as held
 -- where the last of them found an odd value
 abbrev pub LockTook : ℕ → List (Want × ℕ) → LockReply → List (Want × ℕ) → Type 0
-LockTook lock took (locking.Locked version) later = later ≡ (Exchange lock (2 * version) (2 * version + 1), 2 * version) ∷ (Load lock, 2 * version) ∷ took
+LockTook lock took (locking.Locked version) later = later ≡ (Exchange lock (free_lock version) (locked (free_lock version)), free_lock version) ∷ (Load lock, free_lock version) ∷ took
 LockTook lock took (locking.Held seen) later =
-    (seen % 2 ≡ 1)
-    × ((later ≡ (Load lock, seen) ∷ took) ⊎ ((free : ℕ) × (free % 2 ≡ 0) × (free ≢ spent_lock) × (later ≡ (Exchange lock free (free + 1), seen) ∷ (Load lock, free) ∷ took)))
-LockTook lock took (locking.Moved before after) later = later ≡ (Exchange lock before (before + 1), after) ∷ (Load lock, before) ∷ took
+    (lock_bit seen ≡ 1)
+    × ((later ≡ (Load lock, seen) ∷ took) ⊎ ((free : ℕ) × (lock_bit free ≡ 0) × (free ≢ spent_lock) × (later ≡ (Exchange lock free (locked free), seen) ∷ (Load lock, free) ∷ took)))
+LockTook lock took (locking.Moved before after) later = later ≡ (Exchange lock before (locked before), after) ∷ (Load lock, before) ∷ took
 LockTook lock took locking.Spent later = later ≡ (Load lock, spent_lock) ∷ took
 
 -- the same of the exchange alone, of a word that was found to be `free`
 abbrev pub TakeTook : ℕ → ℕ → List (Want × ℕ) → LockReply → List (Want × ℕ) → Type 0
-TakeTook lock free took (locking.Locked version) later = (free ≡ 2 * version) × (later ≡ (Exchange lock free (free + 1), free) ∷ took)
-TakeTook lock free took (locking.Held seen) later = (seen % 2 ≡ 1) × (later ≡ (Exchange lock free (free + 1), seen) ∷ took)
-TakeTook lock free took (locking.Moved before after) later = (before ≡ free) × (later ≡ (Exchange lock free (free + 1), after) ∷ took)
+TakeTook lock free took (locking.Locked version) later = (free ≡ free_lock version) × (later ≡ (Exchange lock free (locked free), free) ∷ took)
+TakeTook lock free took (locking.Held seen) later = (lock_bit seen ≡ 1) × (later ≡ (Exchange lock free (locked free), seen) ∷ took)
+TakeTook lock free took (locking.Moved before after) later = (before ≡ free) × (later ≡ (Exchange lock free (locked free), after) ∷ took)
 TakeTook lock free took locking.Spent later = ⊥
 
 -- WHAT UNLOCKING ASKS: the view holds the lock, no word under it is unsettled, and nothing is planned, under way or owed
 pub record MayUnlock (v : View) (lock : ℕ) : Type 0 where
   pub value : ℕ
   pub held : Has (lock, value) v.held
-  pub fits : value + 1 < 2 ^ 64
+  pub fits : unlocked value < 2 ^ 64
   pub firm : IsFirm v lock
   pub planned : v.planned ≡ []
   pub moving : v.moving ≡ []
@@ -129,4 +130,4 @@ pub record MayUnlock (v : View) (lock : ℕ) : Type 0 where
 -- and what it tells: with the number that the view held the lock with, an odd one, it looked at the lock and then stored the next one, with which the lock is held no more
 abbrev pub Unlocks : Ground → ℕ → ℕ → Watch → Watch → Type 0
 Unlocks site lock x p q =
-    (x % 2 ≡ 1) × (q.view ≡ view_by site.shape (of_call (unlocks lock (x + 1))) x p.view) × (q.past ≡ p.past) × (q.took ≡ (Store lock (x + 1), x) ∷ (Load lock, x) ∷ p.took)
+    (lock_bit x ≡ 1) × (q.view ≡ view_by site.shape (of_call (unlocks lock (unlocked x))) x p.view) × (q.past ≡ p.past) × (q.took ≡ (Store lock (unlocked x), x) ∷ (Load lock, x) ∷ p.took)

@@ -1,7 +1,8 @@
 //! A bucket is read, locked and unlocked by single events, and no call waits.
 
-ghost use Rattle.std.specs.Prelude.{◌≡◌, ℕ, ◌+◌, ◌%◌, ◌<◌, ◌≢◌, None};
+ghost use Rattle.std.specs.Prelude.{◌≡◌, ℕ, ◌+◌, ◌<◌, ◌≢◌, None};
 ghost use Rattle.op_core.specs.declared.want.Want.TheVariants.{Load};
+ghost use Rattle.bucket_meta.specs.Bucket.{lock_bit};
 ghost use Rattle.image_layout.specs.Places.{bucket_at, block, buckets};
 ghost use Rattle.image_layout.specs.Volatile.{all_words_of};
 ghost use Rattle.world.specs.Facts.{Lives, Current};
@@ -179,7 +180,7 @@ fn take(image: &Image, geometry: &Geometry, seat: &mut ImageSeat, lock: u64, fre
     requires table { IsSeatOf image.now.table_id image.now.key seat.old }
     requires geometry { geometry.now ≡ image.now.key.geometry }
     requires lock { IsKnownLock (ground_of image.now.key) seat.old.me.0.view lock × MayCall seat.old.me.0.view }
-    requires free { (free % 2 ≡ 0) × (free ≢ spent_lock) × WasAt (ground_of image.now.key) seat.old.me.0.view lock free }
+    requires free { (lock_bit free ≡ 0) × (free ≢ spent_lock) × WasAt (ground_of image.now.key) seat.old.me.0.view lock free }
     ensures table { IsSeatOf image.now.table_id image.now.key seat.new }
     ensures past { seat.new.me.0.past ≡ seat.old.me.0.past }
     ensures lock { LockSays (ground_of image.now.key) lock seat.old.me.0.view result seat.new.me.0.view }

@@ -1,5 +1,5 @@
 -- What each kind of step asks of the stepping view alone.
-use Rattle.std.specs.Prelude.{◌≡◌, ◌≢◌, ℕ, ◌+◌, ◌%◌, ◌^◌, ◌<◌, ◌≤◌, Bool, true, false, ⊤, Option, Some, List, [], ◌∷◌, ◌⊎◌}
+use Rattle.std.specs.Prelude.{◌≡◌, ◌≢◌, ℕ, ◌+◌, ◌^◌, ◌<◌, ◌≤◌, Bool, true, false, ⊤, Option, Some, List, [], ◌∷◌, ◌⊎◌}
 use Rattle.trace.specs.Events.{Words, with_word}
 use Rattle.image_layout.specs.Places.{Shape, header_word, bucket_at, homes, stash_buckets, buckets}
 use Rattle.map_model.specs.declared.call.Call.{Call}
@@ -8,6 +8,7 @@ use Rattle.map_model.specs.declared.entry.Reply.{Reply}
 use Rattle.map_model.specs.declared.entry.Reply.TheVariants.{Done, Full, Spent}
 use Rattle.map_model.specs.Map.{key_of, is_done}
 use Rattle.map_model.specs.Legal.{IsChange}
+use Rattle.bucket_meta.specs.Bucket.{lock_bit, unlocked}
 use Rattle.bucket_meta.specs.Notes.{AreExact}
 use Rattle.hash_word.specs.Hash.{home_of, probing_of}
 use Rattle.sound_image.specs.Records.{key_hash, stashed_of, HasExactNotes}
@@ -239,7 +240,7 @@ module _ (site : Ground) where
   May (validates lock) v = ⊤
   May (learns i) v = IsGuarded v.held i
   May (meets_lock lock) v = IsKnownLock v lock
-  May (tries lock free) v = IsKnownLock v lock × (free % 2 ≡ 0) × (free ≢ spent_lock)
+  May (tries lock free) v = IsKnownLock v lock × (lock_bit free ≡ 0) × (free ≢ spent_lock)
   May (stores i x) v = IsTidy v i x NoTwin Nowhere Nowhere × IsHarmless v i x
   May (copies i x m) v = IsTidy v i x (IsMoveOf m) Nowhere Nowhere × IsHarmless v i x
       × HoldsMove site.shape v.held m
@@ -258,5 +259,5 @@ module _ (site : Ground) where
       × IsFirm v (bucket_at site.shape s (home_of (key_hash site.shape (key_of call))))
       × IsKept v (bucket_at site.shape s (probing_of (home_of (key_hash site.shape (key_of call)))))
       × ((c : ℕ) → c < stash_buckets → IsKept v (bucket_at site.shape s (homes + c)) ⊎ IsUnvisited v s (key_of call) c)) × HasNoted v
-  May (unlocks lock next) v = (x : ℕ) × Has (lock, x) v.held × IsFirm v lock × (v.planned ≡ []) × (v.moving ≡ []) × (v.owed ≡ []) × (next ≡ x + 1)
+  May (unlocks lock next) v = (x : ℕ) × Has (lock, x) v.held × IsFirm v lock × (v.planned ≡ []) × (v.moving ≡ []) × (v.owed ≡ []) × (next ≡ unlocked x)
   May cuts_power v = ⊤

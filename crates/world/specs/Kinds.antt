@@ -1,8 +1,9 @@
 -- The kinds of step: why an event is made, with its numbers. For each: which event it is, and what the stepping view becomes.
-use Rattle.std.specs.Prelude.{◌-◌, ◌==◌, ◌&&◌, ℕ, suc, ◌+◌, ◌*◌, ◌%◌, ◌^◌, nat_lt, Bool, true, false, Option, None, Some, List, [], ◌∷◌, ◌++◌, length, if◌then◌else◌}
+use Rattle.std.specs.Prelude.{◌-◌, ◌==◌, ◌&&◌, ℕ, suc, ◌+◌, ◌*◌, ◌^◌, nat_lt, Bool, true, false, Option, None, Some, List, [], ◌∷◌, ◌++◌, length, if◌then◌else◌}
 use Rattle.op_core.specs.declared.want.Want.{Want}
 use Rattle.op_core.specs.declared.want.Want.TheVariants.{Load, Store, Exchange, Flush, Fence, Draw, Power}
 use Rattle.trace.specs.Events.{line_of}
+use Rattle.bucket_meta.specs.Bucket.{lock_bit, locked}
 use Rattle.segment_head.specs.HeadWord.{version_in, depth_in, pattern_in, is_live}
 use Rattle.image_layout.specs.Places.{Shape, block, root_word, entry_at, header_word}
 use Rattle.image_layout.specs.Volatile.{counter_word, power_word}
@@ -88,7 +89,7 @@ wanted shape (glances_word lock i) = Load i
 wanted shape (validates i) = Load i
 wanted shape (learns i) = Load i
 wanted shape (meets_lock lock) = Load lock
-wanted shape (tries lock free) = Exchange lock free (free + 1)
+wanted shape (tries lock free) = Exchange lock free (locked free)
 wanted shape (stores i x) = Store i x
 wanted shape (copies i x m) = Store i x
 wanted shape (clears i x m) = Store i x
@@ -200,7 +201,7 @@ with_spent false lock locks = locks
 
 -- a view that won a lock, or not
 abbrev pub with_lock : Bool → ℕ → ℕ → View → View
-with_lock true lock free v = record v { held = (lock, free + 1) ∷ v.held }
+with_lock true lock free v = record v { held = (lock, locked free) ∷ v.held }
 with_lock false lock free v = v
 
 -- a view that drew the place of a change
@@ -241,7 +242,7 @@ view_after shape (pins s b) n v = record v { pinned = (s, n) ∷ v.pinned }
 view_after shape (finds_room call) n v = with_count (nat_lt n spent_count) call n v
 view_after shape (refuses call reply) n v = with_reply v (next_entry v call reply n false)
 view_after shape (places k a) n v = record v { notes = unmarked v.notes; answer = Some (record { key = k; value = a; place = n }) }
-view_after shape (looks lock) n v = with_look (n % 2 == 0) lock n v
+view_after shape (looks lock) n v = with_look (lock_bit n == 0) lock n v
 view_after shape (glances_word lock i) n v = record v { notes = with_noted lock i n v.notes }
 view_after shape (validates i) n v = validated (record v { notes = marked i n v.notes })
 view_after shape (learns i) n v = record v { known = (i, n) ∷ v.known }

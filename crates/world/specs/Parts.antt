@@ -1,6 +1,7 @@
 -- What holds of the newest words and of all views between any two events, from the end of a restart to the close. It is
 -- said object by object: structure, locks, words, planned changes, history, owned records, copies, overflow data, media, notes, room, spent numbers, power.
-use Rattle.std.specs.Prelude.{◌≡◌, ◌≢◌, ℕ, ◌+◌, ◌%◌, ◌<◌, ◌≤◌, true, Some, List, [], ◌∷◌, ◌⊎◌, length, filter}
+use Rattle.std.specs.Prelude.{◌≡◌, ◌≢◌, ℕ, ◌+◌, ◌<◌, ◌≤◌, true, Some, List, [], ◌∷◌, ◌⊎◌, length, filter}
+use Rattle.bucket_meta.specs.Bucket.{lock_bit}
 use Rattle.trace.specs.Events.{Words}
 use Rattle.image_layout.specs.Volatile.{counter_word, power_word}
 use Rattle.map_model.specs.declared.call.Call.{Call}
@@ -32,8 +33,8 @@ IsPinned site words v s x = (b : ℕ) × (b < buckets) × HasLock v.held (bucket
 -- a holder
 pub record Locks (site : Ground) (words : Words) (views : List View) : Type 0 where
   pub alone : (i j : ℕ) (u v : View) (lock x y : ℕ) → At views i u → At views j v → Has (lock, x) u.held → Has (lock, y) v.held → i ≡ j
-  pub locked : (j : ℕ) (v : View) (lock x : ℕ) → At views j v → Has (lock, x) v.held → IsLockWord site.shape lock × (words lock ≡ x) × (x % 2 ≡ 1)
-  pub odd : (lock : ℕ) → IsCurrentLock site words lock → words lock % 2 ≡ 1 → (j : ℕ) × (v : View) × At views j v × HasLock v.held lock
+  pub locked : (j : ℕ) (v : View) (lock x : ℕ) → At views j v → Has (lock, x) v.held → IsLockWord site.shape lock × (words lock ≡ x) × (lock_bit x ≡ 1)
+  pub odd : (lock : ℕ) → IsCurrentLock site words lock → lock_bit (words lock) ≡ 1 → (j : ℕ) × (v : View) × At views j v × HasLock v.held lock
 
 -- PLANNED CHANGES: its view holds the lock of the key's home, the newest words have what the change leaves, and over the
 -- history it is still to be answered as done
@@ -71,7 +72,7 @@ NobodyOwes views s b = (j : ℕ) (v : View) (o : Owed) → At views j v → Has 
 -- a noted lock word of a current segment has not fallen below the free value that it had
 pub record IsPastLock (site : Ground) (words : Words) (note : Glance) : Type 0 where
   pub lock : IsCurrentLock site words note.word
-  pub free : note.value % 2 ≡ 0
+  pub free : lock_bit note.value ≡ 0
   pub past : note.value ≤ words note.word
 
 -- a noted word was found the same after the answer's place was loaded, or is the same now

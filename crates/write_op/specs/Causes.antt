@@ -1,11 +1,11 @@
 -- By what a change is made and answered, in any state; and its ends in a world, beside any other callers.
-use Rattle.std.specs.Prelude.{◌≡◌, ◌≢◌, ℕ, ◌%◌, ◌<◌, ◌≤◌, true, None, Some, List, ◌⊎◌, ◌↔◌, count_ones, slice_index}
+use Rattle.std.specs.Prelude.{◌≡◌, ◌≢◌, ℕ, ◌<◌, ◌≤◌, true, None, Some, List, ◌⊎◌, ◌↔◌, count_ones, slice_index}
 use Rattle.op_core.specs.declared.want.Want.TheVariants.{Load, Done as DoneWant}
 use Rattle.op_core.specs.declared.want.Ans.{Ans}
 use Rattle.op_core.specs.declared.want.Ans.TheVariants.{Value, Drawn}
 use Rattle.op_core.specs.declared.why.Why.TheVariants.{Busy}
 use Rattle.word_bits.specs.Bits.{bits}
-use Rattle.bucket_meta.specs.Bucket.{record_slots}
+use Rattle.bucket_meta.specs.Bucket.{lock_bit, record_slots}
 use Rattle.bucket_meta.specs.Search.{IsThere, lowest_free}
 use Rattle.trace.specs.Events.{Words}
 use Rattle.image_layout.specs.Volatile.{counter_word}
@@ -105,7 +105,7 @@ pub record Decides (site : Ground) (op : WriteOp) (words : Words) (outcome : Out
 -- where nobody else has a lock, none is found taken
 abbrev pub NeverBusy : Type 0
 NeverBusy = (site : Ground) (here : Site) (call : Call) (op : WriteOp) (words : Words) (views : List View) (j : ℕ) (before v : View) → Holds site words views → At views j v
-    → Suits change_part site here call op before v → wanted op ≢ DoneWant → ((lock : ℕ) → IsLockWord site.shape lock → words lock % 2 ≡ 1 → HasLock v.held lock)
+    → Suits change_part site here call op before v → wanted op ≢ DoneWant → ((lock : ℕ) → IsLockWord site.shape lock → lock_bit (words lock) ≡ 1 → HasLock v.held lock)
     → (word value : ℕ) → Decides site op words (again (Busy word value)) → ⊥
 
 -- where each live segment has the site's version, no segment is stale

@@ -7,7 +7,7 @@ use Rattle.trace.specs.Media.{IsPossible}
 use Rattle.trace.proofs.Media.{may_of_had, newest_may}
 use Rattle.trace.proofs.Replaced.{replaced_other}
 use Rattle.segment_head.specs.HeadWord.{state_in}
-use Rattle.bucket_meta.specs.Bucket.{version_of}
+use Rattle.bucket_meta.specs.Bucket.{lock_version}
 use Rattle.map_model.specs.declared.call.Call.{Call}
 use Rattle.map_model.specs.Weave.{all_of}
 use Rattle.image_layout.specs.Places.{Shape, head_at, bucket_at, state_word, words_of}
@@ -68,7 +68,7 @@ module _ (shape : Shape) (words after : Words) (medium : List ℕ) (x : ℕ) (sh
         slot = slot;
         bucket = low;
         live = live_same (frame_of shape words) (frame_of shape (slice_index medium)) s (header s slot) lock.1.0.5.live;
-        spent = ap version_of there;
+        spent = ap lock_version there;
       }
 
 -- the newest words may be left

@@ -3,7 +3,7 @@ use Rattle.std.proofs.Common.{◌≡◌, ◌≢◌, ℕ, ◌+◌, ◌*◌, ◌%�
 use Rattle.std.specs.Prelude.{◌==◌}
 use Rattle.std.proofs.lemmas.Bool.{cases_lt}
 use Rattle.std.proofs.lemmas.Bool.Decides.{nat_tests}
-use Rattle.bucket_meta.specs.Bucket.{lock_of}
+use Rattle.bucket_meta.specs.Bucket.{lock_bit}
 use Rattle.segment_head.specs.HeadWord.{normal}
 use Rattle.image_layout.specs.Places.{Shape, head_at, bucket_at}
 use Rattle.sound_image.specs.Segments.{ImageWords, frame_of, state_at, IsClean}
@@ -21,7 +21,7 @@ module _ (shape : Shape) (word : ImageWords) where
       record {
         head = λ s current at. (each s current).head at;
         lock = λ s b current below at.
-            ap (λ (v : ℕ). lock_of (word v)) (at ∙ omega arith) ∙ ((each s current).in_buckets b below).lock at;
+            ap (λ (v : ℕ). lock_bit (word v)) (at ∙ omega arith) ∙ ((each s current).in_buckets b below).lock at;
         own = λ s b r current there at. (((each s current).in_buckets b there.bucket).once r there.slot there.is_allocated at).0;
         once = λ s b r current there at. (((each s current).in_buckets b there.bucket).once r there.slot there.is_allocated at).1;
         notes = λ s b current below at. ((each s current).in_buckets b (omega arith)).notes below at;
@@ -31,7 +31,7 @@ module _ (shape : Shape) (word : ImageWords) where
   bucket_from : (s b w : ℕ) → IsCleanAndCurrent shape word s → b < 66 → CleanMeansRepaired shape word w → IsRepairedAt shape word s b w
   bucket_from s b w current below rule =
       record {
-        lock = λ at. ap (λ (v : ℕ). lock_of (word v)) (omega (arith, at)) ∙ rule.lock s b current below at;
+        lock = λ at. ap (λ (v : ℕ). lock_bit (word v)) (omega (arith, at)) ∙ rule.lock s b current below at;
         notes = λ home at. rule.notes s b current home at;
         once = λ r slot taken at.
             let there : HasRecord shape word s b r = record { segment = current.slot; bucket = below; slot = slot; is_allocated = taken } in
@@ -114,7 +114,7 @@ module _ (shape : Shape) (word : ImageWords) where
   unclean_repaired unclean w = repaired_at w (λ s current. absurd (unclean current.clean))
 
 -- a lock word that is not locked
-pub unlocked_word : (w : ℕ) → false ≡ (lock_of w == 1) → w % 2 ≢ 1
+pub unlocked_word : (w : ℕ) → false ≡ (lock_bit w == 1) → w % 2 ≢ 1
 unlocked_word w test = grind (arith, nat_tests, test)
 
 -- ONE BUCKET: its least broken word, where it is unlocked and its notes are exact, is the first key that is not its
@@ -122,7 +122,7 @@ unlocked_word w test = grind (arith, nat_tests, test)
 pub once_breaks : (shape : Shape) (word : ImageWords) (s b r at : ℕ) → at ≡ bucket_at shape s b → word at % 2 ≢ 1
     → (b < 64 → HasExactNotes shape word s b) → IsFirstBroken shape word Once s b r → IsBrokenIn shape word s b (at + 4 + 2 * r)
 once_breaks shape word s b r at is unlocked exact first =
-    let lock : lock_of (word_in shape word s b 0) ≡ 0 =
+    let lock : lock_bit (word_in shape word s b 0) ≡ 0 =
     let same : word (bucket_at shape s b + 0) ≡ word at = ap word (omega (arith, is)) in
     omega (arith, same, unlocked) in
     record {
@@ -140,7 +140,7 @@ once_breaks shape word s b r at is unlocked exact first =
 pub notes_break : (shape : Shape) (word : ImageWords) (s b at : ℕ) → at ≡ bucket_at shape s b → word at % 2 ≢ 1
     → ((b < 64 → HasExactNotes shape word s b) → ⊥) → IsBrokenIn shape word s b (at + 1)
 notes_break shape word s b at is unlocked wrong =
-    let lock : lock_of (word_in shape word s b 0) ≡ 0 =
+    let lock : lock_bit (word_in shape word s b 0) ≡ 0 =
     let same : word (bucket_at shape s b + 0) ≡ word at = ap word (omega (arith, is)) in
     omega (arith, same, unlocked) in
     record {
@@ -158,7 +158,7 @@ notes_break shape word s b at is unlocked wrong =
 pub none_breaks : (shape : Shape) (word : ImageWords) (s b at : ℕ) → at ≡ bucket_at shape s b → word at % 2 ≢ 1
     → (b < 64 → HasExactNotes shape word s b) → FollowBelow shape word Once s b 14 → (w : ℕ) → IsRepairedAt shape word s b w
 none_breaks shape word s b at is unlocked exact each w =
-    let lock : lock_of (word_in shape word s b 0) ≡ 0 =
+    let lock : lock_bit (word_in shape word s b 0) ≡ 0 =
     let same : word (bucket_at shape s b + 0) ≡ word at = ap word (omega (arith, is)) in
     omega (arith, same, unlocked) in
     record { lock = λ _. lock; notes = λ home _. exact home; once = λ r slot taken _. each r slot taken }

@@ -5,7 +5,7 @@ use Rattle.std.specs.Prelude.{slice_index}
 use Rattle.std.specs.FinMap.{get}
 use Rattle.std.proofs.lemmas.Bool.{cases_eq, cases_lt}
 use Rattle.std.proofs.lemmas.List.{get_or_past}
-use Rattle.bucket_meta.specs.Bucket.{lock_of}
+use Rattle.bucket_meta.specs.Bucket.{lock_bit}
 use Rattle.segment_head.specs.HeadWord.{normal}
 use Rattle.trace.specs.Events.{Words, Trace, with_word, value_at}
 use Rattle.trace.specs.Media.{IsPossible}
@@ -87,13 +87,13 @@ module _ (site : Ground) (start : Words) (world : World) (quiet : AllAreQuiet si
   not_whole : (s j : ℕ) (v : View) → At world.views j v → Has (Whole s) v.areas → ⊥
   not_whole s j v at h = subst (λ (areas : List Area). Has (Whole s) areas) (quiet.nothing j v at).areas h
 
-  free_now : (s b : ℕ) → IsCurrentIn site was s → b < buckets → lock_of (was (bucket_at shape s b)) ≡ 0
+  free_now : (s b : ℕ) → IsCurrentIn site was s → b < buckets → lock_bit (was (bucket_at shape s b)) ≡ 0
   free_now s b current near = elim (cases_eq (was (bucket_at shape s b) % 2) 1) [
     | inl odd ↦ let h = quiet.well.holds.locks.odd (bucket_at shape s b) (s, b, current.live.slot, near, refl, current) odd in absurd (not_locked (bucket_at shape s b) h.1 h.0 h.2 h.3)
     | inr even ↦ unlocked (was (bucket_at shape s b)) even
   ]
     where
-      unlocked : (x : ℕ) → (x % 2 ≡ 1 → ⊥) → lock_of x ≡ 0
+      unlocked : (x : ℕ) → (x % 2 ≡ 1 → ⊥) → lock_bit x ≡ 0
       unlocked x even = omega (arith, even)
 
   -- a current segment is watched

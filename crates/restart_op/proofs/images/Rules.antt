@@ -1,6 +1,6 @@
 -- The seven rules of an image whose structure is sound: they say a table; and where the marker is set, one at rest.
 use Rattle.std.proofs.Common.{◌≡◌, ℕ, ◌^◌, ◌<◌, refl, ap, ◌∙◌, arith}
-use Rattle.bucket_meta.specs.Bucket.{lock_of}
+use Rattle.bucket_meta.specs.Bucket.{lock_bit}
 use Rattle.segment_head.specs.HeadWord.{normal}
 use Rattle.trace.specs.Events.{Words}
 use Rattle.image_layout.specs.Places.{Shape, IsShape, state_word}
@@ -78,7 +78,7 @@ module _ (shape : Shape) (word : Words) where
       repaired : (w : ℕ) → CleanMeansRepaired shape word w
       repaired w = record {
         head = λ s c _. takes_calls s (current_of s c);
-        lock = λ s b c near at. ap (λ i. lock_of (word i)) at ∙ (rest s (current_of s c)).free b near;
+        lock = λ s b c near at. ap (λ i. lock_bit (word i)) at ∙ (rest s (current_of s c)).free b near;
         own = λ s b r c there _. owns_record s b r (current_of s c) there;
         once = λ s b r c there _. not_before s b r (current_of s c) there;
         notes = λ s b c near _. (rest s (current_of s c)).exact b near;

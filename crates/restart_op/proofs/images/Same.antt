@@ -1,6 +1,6 @@
 -- Words of an image that differ in versions alone have the same records, notes and pairs.
 use Rattle.std.proofs.Common.{◌≡◌, ℕ, ◌+◌, ◌<◌, sym, ap, ◌∙◌, arith}
-use Rattle.bucket_meta.specs.Bucket.{lock_of, overflow_count, record_slots}
+use Rattle.bucket_meta.specs.Bucket.{lock_bit, overflow_count, record_slots}
 use Rattle.hash_word.specs.Hash.{probing_of}
 use Rattle.trace.specs.Events.{Words}
 use Rattle.image_layout.specs.Places.{Shape, IsShape, first_segment, bucket_at, block, homes, buckets}
@@ -47,7 +47,7 @@ module _ (shape : Shape) (word other : Words) (is : IsShape shape) (sound : HasS
 
   pub same_rest : (s : ℕ) → s < shape.segments → IsAtRest shape word s → IsAtRest shape other s
   same_rest s slot rest = record {
-    free = λ b near. ap lock_of (first b near) ∙ rest.free b near;
+    free = λ b near. ap lock_bit (first b near) ∙ rest.free b near;
     once = λ b r c t k h g. rest.once b r c t k (hit_back s b r k h) (hit_back s c t k g);
     exact = λ b near. exact_same shape word other s b (same_notes s b slot near) (rest.exact b near);
   }

@@ -1,7 +1,8 @@
 -- What each kind of step at the structure asks of the stepping view alone.
-use Rattle.std.specs.Prelude.{◌≡◌, ◌≢◌, ℕ, suc, ◌%◌, ◌^◌, ◌<◌, ◌⊎◌, ⊤, Some, []}
+use Rattle.std.specs.Prelude.{◌≡◌, ◌≢◌, ℕ, suc, ◌^◌, ◌<◌, ◌⊎◌, ⊤, Some, []}
 use Rattle.trace.specs.Events.{Words, with_word}
 use Rattle.hash_word.specs.Hash.{home_of}
+use Rattle.bucket_meta.specs.Bucket.{lock_bit}
 use Rattle.segment_head.specs.HeadWord.{state_in, depth_in, pattern_in, normal, splitting, HasLiveState}
 use Rattle.image_layout.specs.Places.{Shape, root_word, state_word, bucket_at, homes, buckets}
 use Rattle.sound_image.specs.Segments.{frame_of}
@@ -107,7 +108,7 @@ module _ (site : Ground) where
 
   -- the lock words of a slot are known, and free
   abbrev pub KnowsFree : View → ℕ → Type 0
-  KnowsFree v s = (b : ℕ) → b < buckets → (x : ℕ) × Has (bucket_at site.shape s b, x) v.known × (x % 2 ≡ 0)
+  KnowsFree v s = (b : ℕ) → b < buckets → (x : ℕ) × Has (bucket_at site.shape s b, x) v.known × (lock_bit x ≡ 0)
 
   -- a word under a lock that is held lies in a segment that the view has whole
   abbrev pub IsUnderWhole : View → ℕ → Type 0
@@ -131,7 +132,7 @@ module _ (site : Ground) where
     pub under_dead : IsUnderDead v i
     pub planned : v.planned ≡ []
     pub owed : v.owed ≡ []
-    pub even : IsLockWord site.shape i → x % 2 ≡ 0
+    pub even : IsLockWord site.shape i → lock_bit x ≡ 0
     pub spent : (words : Words) → MayBeNewest v words → IsSpentLock site.shape words i → x ≡ spent_lock
     pub harmless : IsHarmlessStore v EndsNothing i x
 

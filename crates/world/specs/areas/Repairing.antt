@@ -1,9 +1,9 @@
 -- What the holder of a stale segment has to know to repair it: to take back a split that had no ready side, to direct the entries of a ready
 -- side to it, to clear records and end that split, and to mend what is left and give the segment the image's version.
-use Rattle.std.specs.Prelude.{◌≡◌, ◌≢◌, ℕ, suc, ◌+◌, ◌*◌, ◌-◌, ◌/◌, ◌%◌, ◌^◌, ◌<◌, ◌≤◌, ◌⊎◌, Bool, true, false, [], ◌∷◌}
+use Rattle.std.specs.Prelude.{◌≡◌, ◌≢◌, ℕ, suc, ◌+◌, ◌*◌, ◌-◌, ◌/◌, ◌^◌, ◌<◌, ◌≤◌, ◌⊎◌, Bool, true, false, [], ◌∷◌}
 use Rattle.trace.specs.Events.{Words}
 use Rattle.hash_word.specs.Hash.{Covers}
-use Rattle.bucket_meta.specs.Bucket.{record_slots, allocated, member}
+use Rattle.bucket_meta.specs.Bucket.{lock_bit, record_slots, allocated, member}
 use Rattle.segment_head.specs.HeadWord.{version_in, state_in, depth_in, pattern_in, free, fresh, normal, splitting}
 use Rattle.image_layout.specs.Places.{block, root_word, entry_at, bucket_at, homes, buckets}
 use Rattle.sound_image.specs.Records.{key_hash, HasExactNotes}
@@ -139,7 +139,7 @@ pub record MayMend (site : Ground) (v : View) : Type 0 where
       → Has (lacks_side site s word) v.facts → Has (deep_side site s word) v.facts
       → IsHeader x normal (side_depth_in (head_now site s word)) (2 * pattern_in (head_now site s word)) (version_in (head_now site s word)) → MayAt site (moves finishes s x) v
   -- a lock that is taken is freed, its version kept
-  pub unlock : (s b x w : ℕ) (word : Words) → HasStale site v s word → HasNoSides v.areas → b < buckets → KnowsWord v (bucket_at site.shape s b) w → w ≡ suc x → x % 2 ≡ 0
+  pub unlock : (s b x w : ℕ) (word : Words) → HasStale site v s word → HasNoSides v.areas → b < buckets → KnowsWord v (bucket_at site.shape s b) w → w ≡ suc x → lock_bit x ≡ 0
       → MayAt site (sets (bucket_at site.shape s b) x) v
   -- spoiled records are cleared of a bucket of which none was cleared yet
   pub mend : (s b x : ℕ) (word : Words) (spoiled : ℕ → ℕ → Bool) → IsMendable site s word spoiled → IsMending site s word spoiled v → b < buckets

@@ -1,9 +1,9 @@
 -- What the holder of a guarded segment has to know to split it: to empty a slot, to link it, to begin the split, to copy records, to make
 -- the side live, to double the directory and to store entries, to clear what moved, to end the split and to open the segment again.
-use Rattle.std.specs.Prelude.{◌≡◌, ◌≢◌, ℕ, suc, ◌+◌, ◌*◌, ◌-◌, ◌/◌, ◌%◌, ◌^◌, ◌<◌, ◌≤◌, ◌⊎◌, [], ◌∷◌}
+use Rattle.std.specs.Prelude.{◌≡◌, ◌≢◌, ℕ, suc, ◌+◌, ◌*◌, ◌-◌, ◌/◌, ◌^◌, ◌<◌, ◌≤◌, ◌⊎◌, [], ◌∷◌}
 use Rattle.trace.specs.Events.{Words}
 use Rattle.hash_word.specs.Hash.{Covers}
-use Rattle.bucket_meta.specs.Bucket.{record_slots, allocated, member}
+use Rattle.bucket_meta.specs.Bucket.{lock_bit, record_slots, allocated, member}
 use Rattle.segment_head.specs.HeadWord.{version_in, state_in, depth_in, pattern_in, free, fresh, normal, splitting, HasLiveState}
 use Rattle.image_layout.specs.Places.{Shape, block, root_word, entry_at, bucket_at, key_at, value_at, homes, buckets}
 use Rattle.sound_image.specs.Records.{key_hash, HasExactNotes}
@@ -57,7 +57,7 @@ module _ (shape : Shape) (v : View) where
 -- ---- words of slots
 -- the stores to a slot of one's own, to any word but the header; and of a link, where the segment is not splitting
 pub record MayFill (site : Ground) (v : View) : Type 0 where
-  pub word : (n i x head : ℕ) → IsSettledHolder site.shape v → HasOwnSlot site.shape v n head → IsPlainInSlot site.shape n i → (IsLockWord site.shape i → x % 2 ≡ 0)
+  pub word : (n i x head : ℕ) → IsSettledHolder site.shape v → HasOwnSlot site.shape v n head → IsPlainInSlot site.shape n i → (IsLockWord site.shape i → lock_bit x ≡ 0)
       → MayAt site (sets i x) v
   pub side_link : (n l head : ℕ) → IsSettledHolder site.shape v → HasOwnSlot site.shape v n head → l ≤ site.shape.segments → MayAt site (sets (link_word site.shape n) l) v
   pub link : (s l head : ℕ) → IsSettledHolder site.shape v → s < site.shape.segments → Has (Segment s) v.areas → (Has (Side s) v.areas → ⊥) → KnowsWord v (header_word site.shape s) head → state_in head ≢ splitting

@@ -4,7 +4,7 @@ use Rattle.std.specs.Prelude.{slice_index}
 use Rattle.std.proofs.lemmas.List.{get_or_past}
 use Rattle.trace.specs.Events.{Words}
 use Rattle.hash_word.specs.Hash.{probing_of}
-use Rattle.bucket_meta.specs.Bucket.{lock_of, overflow_count, record_slots}
+use Rattle.bucket_meta.specs.Bucket.{lock_bit, overflow_count, record_slots}
 use Rattle.segment_head.specs.HeadWord.{version_in}
 use Rattle.image_layout.specs.Places.{Shape, IsShape, root_word, state_word, first_segment, entry_at, head_at, bucket_at, key_at, block, homes, buckets, words_of}
 use Rattle.image_layout.proofs.Areas.{entry_before}
@@ -245,8 +245,8 @@ module _ (site : Ground) (image : List ℕ) (world : World) (of : IsRestartOf si
           (hit_back site.shape word world.words is of.left framed s b r key h) (hit_back site.shape word world.words is of.left framed s d t key g);
       exact = λ b near. exact_after site.shape word world.words is of.left framed s b c.live.slot near ((in_order site word is of.sound.each_fits of.sound.follows s current).exact b near);
     };
-    free = λ b near. even (world.words (bucket_at site.shape s b))
-        (ap lock_of (first b near) ∙ (repaired site word is of.sound.each_fits of.sound.follows s current (bucket_at site.shape s b)).lock s b current near refl);
+    free = λ b near. ap lock_bit (first b near)
+        ∙ (repaired site word is of.sound.each_fits of.sound.follows s current (bucket_at site.shape s b)).lock s b current near refl;
   }
     where
       current : IsCleanAndCurrent site.shape word s
@@ -260,9 +260,6 @@ module _ (site : Ground) (image : List ℕ) (world : World) (of : IsRestartOf si
       first : (b : ℕ) → b < buckets → world.words (bucket_at site.shape s b) ≡ word (bucket_at site.shape s b)
       first b near = let e : bucket_at site.shape s b + 0 ≡ bucket_at site.shape s b = omega arith in
           subst (λ i. world.words i ≡ word i) e (in_bucket site.shape word world.words is of.left framed s b 0 c.live.slot near (omega arith))
-
-      even : (x : ℕ) → lock_of x ≡ 0 → x % 2 ≡ 0
-      even x clear = omega (arith, clear)
 
   -- where the version is above that of each header, there is none
   raised : RaisesVersion site.shape word world.words → (s : ℕ) → IsCurrentIn site world.words s → ⊥
