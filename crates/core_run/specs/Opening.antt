@@ -3,11 +3,10 @@ use Rattle.std.specs.Prelude.{ℕ, zero, suc, ◌*◌, ◌/◌, ◌%◌, Bool, f
 use Rattle.std.specs.FinMap.{empty, insert}
 use Rattle.map_model.specs.Map.{Map}
 use Rattle.bucket_meta.specs.Bucket.{allocated, record_slots}
-use Rattle.image_layout.specs.Places.{Shape, buckets}
+use Rattle.image_layout.specs.Places.{Shape, buckets, segment_slots}
 use Rattle.sound_image.specs.Segments.{ImageWords, frame_of}
 use Rattle.sound_image.specs.Records.{key_hash, word_in, slot_key, slot_value}
 use Rattle.segment_table.specs.Owner.{owner}
-use Rattle.image_rules.specs.Own.{segment_slots}
 
 -- the owner that was found is this segment
 abbrev pub is_owner : Option ℕ → ℕ → Bool

@@ -1,9 +1,10 @@
 -- The machine as a part of a call: the kind of each event, how the view stands, how it ends, and that it wins a guard that is free.
-use Rattle.std.specs.Prelude.{◌≡◌, ◌≢◌, ℕ, suc, ◌+◌, ◌-◌, ◌*◌, ◌/◌, ◌<◌, ◌≤◌, ⊤, Bool, true, false, Option, None, Some, List, [], ◌∷◌}
+use Rattle.std.specs.Prelude.{◌≡◌, ◌≢◌, ℕ, ◌+◌, ◌-◌, ◌/◌, ◌<◌, ◌≤◌, ⊤, Bool, true, false, Option, None, Some, List, [], ◌∷◌}
 use Rattle.op_core.specs.declared.want.Want.{Want}
 use Rattle.op_core.specs.declared.want.Want.TheVariants as want
 use Rattle.trace.specs.Events.{Words}
 use Rattle.segment_head.specs.HeadWord.{depth_in, pattern_in}
+use Rattle.segment_head.specs.SplitHeads.{side_depth_in, side_pattern_in}
 use Rattle.image_layout.specs.Places.{root_word}
 use Rattle.image_layout.specs.Volatile.{directory_guard}
 use Rattle.way.specs.Ways.{head_word}
@@ -40,7 +41,7 @@ use Rattle.directory_op.specs.Fits.{SuitsStep, KeepsPublished}
 -- what is relied on behind the fences of a stage: behind the last one, that of the 1-side all entries name a deeper segment, and that the
 -- segment which is split has nothing of it
 abbrev pub facts_of : DirectoryOp → Stage → List Fact
-facts_of op Entered = Deep (depth_in op.head) (suc (depth_in op.head)) (2 * pattern_in op.head + 1) ∷ Lacks op.copied.whole.segment (suc (depth_in op.head)) (2 * pattern_in op.head + 1) ∷ []
+facts_of op Entered = Deep (depth_in op.head) (side_depth_in op.head) (side_pattern_in op.head) ∷ Lacks op.copied.whole.segment (side_depth_in op.head) (side_pattern_in op.head) ∷ []
 facts_of op other = []
 
 -- the store of the side's header makes it live, and the fence behind that settles it as live; all else is an event of the rounds

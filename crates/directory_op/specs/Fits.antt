@@ -1,10 +1,11 @@
 -- How the view of the caller stands in each step: what it holds and knows of the segment, of its side and of the directory, and what is
 -- not settled.
-use Rattle.std.specs.Prelude.{◌≡◌, ◌≢◌, None, ℕ, suc, ◌+◌, ◌-◌, ◌*◌, ◌/◌, ◌%◌, ◌^◌, ◌<◌, ◌≤◌, ◌⊎◌, List, [], ◌∷◌}
+use Rattle.std.specs.Prelude.{◌≡◌, ◌≢◌, None, ℕ, suc, ◌+◌, ◌-◌, ◌/◌, ◌%◌, ◌^◌, ◌<◌, ◌≤◌, ◌⊎◌, List, [], ◌∷◌}
 use Rattle.trace.specs.Events.{HasLine}
 use Rattle.bucket_meta.specs.Bucket.{record_slots}
-use Rattle.segment_head.specs.HeadWord.{depth_in, pattern_in}
+use Rattle.segment_head.specs.HeadWord.{depth_in}
 use Rattle.image_layout.specs.Places.{Shape, block, root_word, entry_at, bucket_at, key_at, value_at, buckets, words_of}
+use Rattle.segment_head.specs.SplitHeads.{side_depth_in, side_pattern_in}
 use Rattle.bucket_words.specs.Buckets.{IsTaken}
 use Rattle.frame_facts.specs.Facts.{Owns, Lacks, Deep}
 use Rattle.map_model.specs.declared.call.Call.{Call}
@@ -31,10 +32,10 @@ use Rattle.directory_op.specs.Steps.{next_store}
 
 -- ---- the depth and the pattern of the side
 abbrev pub side_depth : Copied → ℕ
-side_depth c = suc (depth_in c.whole.head)
+side_depth c = side_depth_in c.whole.head
 
 abbrev pub side_pattern : Copied → ℕ
-side_pattern c = 2 * pattern_in c.whole.head + 1
+side_pattern c = side_pattern_in c.whole.head
 
 -- entry i of the root's area lies in the 1-side
 abbrev pub IsOfSide : Copied → ℕ → ℕ → Type 0

@@ -1,6 +1,7 @@
 -- Which words are loaded and stored: entries of the directory, and the header of the side.
 use Rattle.std.specs.Prelude.{ℕ, ◌+◌, ◌-◌, ◌*◌, ◌^◌, nat_le, nat_lt, min, ◌&&◌, if◌then◌else◌}
-use Rattle.segment_head.specs.HeadWord.{version_in, depth_in, pattern_in, header_of, normal}
+use Rattle.segment_head.specs.HeadWord.{depth_in, pattern_in, normal}
+use Rattle.segment_head.specs.SplitHeads.{with_state}
 use Rattle.image_layout.specs.Places.{Shape, most_depth, root_word, entry_at}
 
 -- how many entries the area of a depth has; no area is deeper than an image allows
@@ -23,4 +24,4 @@ side_last root head = min ((pattern_in head + 1) * run_of root head) (entries_of
 
 -- the header of a normal segment, which is else as this one
 abbrev pub live_head : ℕ → ℕ
-live_head head = header_of (version_in head) normal (depth_in head) (pattern_in head)
+live_head head = with_state head normal

@@ -1,15 +1,17 @@
 -- WHAT IS ENCLOSED: a segment whose guard and locks are all held and whose words are all known, as one machine of a split hands it on to the
 -- next.
-use Rattle.std.specs.Prelude.{◌≡◌, ℕ, min, ◌%◌, suc, ◌+◌, ◌*◌, ◌-◌, ◌^◌, ◌<◌, ◌≤◌, ◌==◌, ◌⊎◌, true, [], ◌∷◌, length, slice_index, if◌then◌else◌}
+use Rattle.std.specs.Prelude.{◌≡◌, ℕ, min, ◌+◌, ◌*◌, ◌-◌, ◌^◌, ◌<◌, ◌≤◌, ◌==◌, ◌⊎◌, true, [], ◌∷◌, length, slice_index, if◌then◌else◌}
 use Rattle.trace.specs.Events.{Words}
 use Rattle.bucket_meta.specs.Bucket.{record_slots, first_key, locked}
-use Rattle.hash_word.specs.Hash.{Covers, home_of}
+use Rattle.hash_word.specs.Hash.{Covers, home_of, hash_bits}
 use Rattle.segment_head.specs.HeadWord.{version_in, depth_in, pattern_in}
+use Rattle.segment_head.specs.SplitHeads.{side_depth_in, side_pattern_in, one_pattern_field}
 use Rattle.image_layout.specs.Places.{bucket_at, buckets, block, words_of_buckets}
 use Rattle.image_layout.specs.Volatile.{segment_guard}
 use Rattle.sound_image.specs.Records.{key_hash}
 use Rattle.way.specs.Ways.{head_word, bucket_word, is_leading}
 use Rattle.whole_segment.specs.declared.loaded.Loaded.{Loaded}
+use Rattle.whole_segment.specs.Words.{word_of_bucket}
 use Rattle.whole_segment.specs.Records.{first_in, third_in, key_in, covered_set}
 use Rattle.whole_segment.specs.Room.{has_no_room}
 use Rattle.bucket_words.specs.Hits.{Hit}
@@ -32,7 +34,7 @@ use Rattle.enclose_op.specs.declared.enclosed.Enclosed.{Enclosed}
 -- ---- its words
 -- word n of bucket b, as it is kept
 abbrev pub kept_word : Enclosed → ℕ → ℕ → ℕ
-kept_word e b n = slice_index e.buckets (block * b + n)
+kept_word e b n = word_of_bucket e.buckets b n
 
 -- THE WORDS THAT ARE KEPT, as one function of all words: the header, and the words of the buckets
 abbrev pub kept_words : Enclosed → Words
@@ -57,14 +59,14 @@ pub record HasKept (e : Enclosed) (loaded : Loaded) : Type 0 where
 -- ---- the records that go to its side where it is split
 -- the depth and the pattern of the side: one deeper, with a 1 behind the pattern of the segment
 abbrev pub side_depth : Enclosed → ℕ
-side_depth e = suc (depth_in e.head)
+side_depth e = side_depth_in e.head
 
 abbrev pub side_pattern : Enclosed → ℕ
-side_pattern e = 2 * pattern_in e.head + 1
+side_pattern e = side_pattern_in e.head
 
 -- the slots of bucket b with records that the side covers, as a set; whatever the header is, the depth is at most 64, and the pattern has 32 bits
 abbrev pub side_slots : Enclosed → ℕ → ℕ
-side_slots e b = covered_set (kept_first e) (kept_key e) (key_hash e.site.geometry) (min (side_depth e) 64) (side_pattern e % 2 ^ 32) b
+side_slots e b = covered_set (kept_first e) (kept_key e) (key_hash e.site.geometry) (min (side_depth e) hash_bits) (one_pattern_field e.head) b
 
 -- ---- what is so of what is kept, whatever the view
 -- it runs here, in a call that inserts, as a caller that has a number, in an image of this version; and what is kept are words

@@ -8,19 +8,13 @@ ghost use Rattle.enclose_op.specs.Steps.{begun, giving, next_lock, locked_to, is
 
 use crate::enclosed::Enclosed;
 use crate::give::{Give, give_from, given};
-use image_layout::{BLOCK, BUCKETS, LAST_OF_BUCKETS, WORDS_OF_BUCKETS};
+use image_layout::{BLOCK_WORDS, BUCKETS, LAST_OF_BUCKETS, WORDS_OF_BUCKETS};
 use map_model::{Change, Reply};
 use op_core::{Ans, Machine, Want, Why};
 use phase::{Take, Taken, take_next, take_want};
 use segment_head::word::{depth_of, version_of};
 use way::{bucket_word, head_word, is_leading, key_hash};
 use world::Site;
-
-/// How many words a bucket has.
-const BLOCK_WORDS: u16 = BLOCK as u16;
-
-/// The number of the last word of the buckets.
-const LAST: u16 = LAST_OF_BUCKETS as u16;
 
 /// How an attempt is to end once all is given back.
 #[derive(Clone, Copy, Debug)]
@@ -184,7 +178,7 @@ fn filled(op: &mut EncloseOp, at: u16, seen: u64)
     ensures { op.new ≡ filled op.old.enclosed at seen }
 {
     op.enclosed.set_word(at, seen);
-    op.step = if at < LAST {
+    op.step = if at < LAST_OF_BUCKETS {
         EncloseStep::Fill(word_after(at))
     } else {
         op.enclosed.decided()

@@ -2,11 +2,12 @@
 use Rattle.std.specs.Prelude.{map, take, ◌≤◌, ◌≡◌, ℕ, ◌<◌, false, Option, None, Some, List, [], ◌∷◌, ◌++◌, ◌⊎◌, length, replicate}
 use Rattle.std.specs.List.{AllByRecursion, AllZip}
 use Rattle.std.specs.FinMap.{get}
-use Rattle.restart_op.specs.Closing.{SaysShapeInFront, HaveFit, AllAreQuiet}
+use Rattle.restart_op.specs.Closing.{HaveFit, AllAreQuiet}
 use Rattle.trace.specs.Progress.{pending}
 use Rattle.trace.specs.Events.{Words}
 use Rattle.image_layout.specs.Places.{Shape}
 use Rattle.image_layout.specs.Volatile.{power_word}
+use Rattle.sound_image.specs.Image.{SaysShape}
 use Rattle.map_model.specs.declared.call.Call.{Call}
 use Rattle.map_model.specs.declared.entry.Entry.{Entry}
 use Rattle.map_model.specs.Map.{Map}
@@ -112,7 +113,7 @@ pub record CoreHolds (site : Ground) (start : Words) (core : Core) : Type 0 wher
   -- the power is on
   pub powered : core.words (power_word site.shape) ≡ 0
   pub fits : HaveFit start core.trace
-  pub says : SaysShapeInFront site.shape site.front
+  pub says : SaysShape site.shape site.front
   pub served : IsServedGround site
   -- a slot that is free in the image is free at the start
   pub freed : KeepsFree site start

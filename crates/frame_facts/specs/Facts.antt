@@ -1,8 +1,8 @@
 -- What a caller may rely on of the structure, beside the words that it holds: facts that each store of other callers leaves true.
-use Rattle.std.specs.Prelude.{◌≡◌, ◌≢◌, ℕ, suc, ◌+◌, ◌*◌, ◌^◌, ◌<◌, ◌≤◌, ◌⊎◌}
+use Rattle.std.specs.Prelude.{◌≡◌, ◌≢◌, ℕ, ◌+◌, ◌*◌, ◌^◌, ◌<◌, ◌≤◌, ◌⊎◌}
 use Rattle.trace.specs.Events.{Words}
 use Rattle.hash_word.specs.Hash.{Covers}
-use Rattle.segment_head.specs.HeadWord.{version_in, free, splitting, fresh}
+use Rattle.segment_head.specs.HeadWord.{version_in, free, splitting, fresh, link_to}
 use Rattle.image_layout.specs.Places.{Shape, root_word, entry_at}
 use Rattle.sound_image.specs.Segments.{Frame, frame_of, state_at, depth_at, pattern_at, IsLive}
 use Rattle.segment_table.specs.Claims.{Claims, named_for}
@@ -45,7 +45,7 @@ module _ (frame : Frame) where
     pub slot : s < frame.segments
     pub splits : state_at frame s ≡ splitting
     pub current : version_in (frame.header s) ≡ version
-    pub linked : frame.link s ≡ suc n
+    pub linked : frame.link s ≡ link_to n
     pub side_slot : n < frame.segments
     pub new : state_at frame n ≡ fresh
     pub depth : depth_at frame n ≡ depth_at frame s + 1

@@ -2,6 +2,7 @@
 
 ghost use Rattle.std.specs.Prelude.{◌≡◌, ℕ, ◌+◌, ◌*◌, ◌/◌, ◌^◌, ◌<◌, ◌≤◌};
 ghost use Rattle.trace.specs.Events.{Words, with_word};
+ghost use Rattle.hash_word.specs.Hash.{hash_bits};
 ghost use Rattle.segment_head.specs.HeadWord.{HasLiveState, version_in, normal};
 ghost use Rattle.image_layout.specs.Places.{Shape, IsShape, root_word, entry_at, header_word};
 ghost use Rattle.sound_image.specs.Segments.{frame_of, state_at, depth_at, pattern_at, IsReadySide, HasReadySide};
@@ -58,13 +59,13 @@ pub fn live_sides_tell()
 /// What is so of a region is so of each part of it, whose pattern has some bits more; and what entries of all its parts name is as deep
 /// as each of them says.
 pub fn regions_have_parts()
-    ensures owns { (shape : Shape) (version : ℕ) (words medium : Words) (s d k p q : ℕ) → d + k ≤ 64 → q / 2 ^ k ≡ p
+    ensures owns { (shape : Shape) (version : ℕ) (words medium : Words) (s d k p q : ℕ) → d + k ≤ hash_bits → q / 2 ^ k ≡ p
         → HoldsFact shape version words (Owns s d p) medium → HoldsFact shape version words (Owns s (d + k) q) medium }
-    ensures lacks { (shape : Shape) (version : ℕ) (words medium : Words) (s d k p q : ℕ) → d + k ≤ 64 → q / 2 ^ k ≡ p
+    ensures lacks { (shape : Shape) (version : ℕ) (words medium : Words) (s d k p q : ℕ) → d + k ≤ hash_bits → q / 2 ^ k ≡ p
         → HoldsFact shape version words (Lacks s d p) medium → HoldsFact shape version words (Lacks s (d + k) q) medium }
-    ensures deep { (shape : Shape) (version : ℕ) (words medium : Words) (f d k p q : ℕ) → d + k ≤ 64 → q / 2 ^ k ≡ p
+    ensures deep { (shape : Shape) (version : ℕ) (words medium : Words) (f d k p q : ℕ) → d + k ≤ hash_bits → q / 2 ^ k ≡ p
         → HoldsFact shape version words (Deep f d p) medium → HoldsFact shape version words (Deep f (d + k) q) medium }
-    ensures joined { (shape : Shape) (version : ℕ) (words medium : Words) (f d k p : ℕ) → d + k ≤ 64
+    ensures joined { (shape : Shape) (version : ℕ) (words medium : Words) (f d k p : ℕ) → d + k ≤ hash_bits
         → ((q : ℕ) → q < 2 ^ (d + k) → q / 2 ^ k ≡ p → HoldsFact shape version words (Deep f (d + k) q) medium) → HoldsFact shape version words (Deep f d p) medium }
 {}
 
@@ -100,7 +101,7 @@ pub fn facts_allow_stores()
         → HoldsFact shape version words
         (Deep (depth_at (frame_of shape medium) s) (depth_at (frame_of shape medium) s + 1) (2 * pattern_at (frame_of shape medium) s + 1)) medium
         → EntriesAreDeep (frame_of shape medium) s }
-    ensures claimer { (shape : Shape) (version : ℕ) (words medium : Words) (n d k p i : ℕ) → medium root_word ≡ d + k → d + k ≤ 64 → i < 2 ^ medium root_word → i / 2 ^ k ≡ p
+    ensures claimer { (shape : Shape) (version : ℕ) (words medium : Words) (n d k p i : ℕ) → medium root_word ≡ d + k → d + k ≤ hash_bits → i < 2 ^ medium root_word → i / 2 ^ k ≡ p
         → HoldsFact shape version words (Owns n d p) medium → NamesClaimer (frame_of shape medium) i n }
     ensures side { (shape : Shape) (version : ℕ) (words medium : Words) → IsShape shape → HasSoundFrame shape medium → (s n i b : ℕ)
         → IsReadySide (frame_of shape medium) s n → s < shape.segments → i < 2 ^ medium root_word → IsSideEntry (frame_of shape medium) s i

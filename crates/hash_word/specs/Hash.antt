@@ -40,9 +40,17 @@ next_of home = (home + 2) % homes
 abbrev pub previous_of : ℕ → ℕ
 previous_of home = (home + (homes - 1)) % homes
 
--- the top d of the 64 bits
+-- how many bits a hash has
+abbrev pub hash_bits : ℕ
+hash_bits = 64
+
+-- the top d of them
 abbrev pub top : ℕ → ℕ → ℕ
-top d h = h / 2 ^ (64 - d)
+top d h = h / 2 ^ (hash_bits - d)
+
+-- the first of the hashes whose top bits, as many as the depth, are this number
+abbrev pub first_hash_of : ℕ → ℕ → ℕ
+first_hash_of depth number = number * 2 ^ (hash_bits - depth)
 
 -- the place of a hash in a directory of depth g
 abbrev pub index_of : ℕ → ℕ → ℕ

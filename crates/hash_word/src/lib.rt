@@ -5,7 +5,10 @@
 #![tactic(auto)]
 
 ghost use Rattle.std.specs.Prelude.{◌≡◌, ◌<◌, ◌≤◌, ◌^◌, ◌↔◌, IsTrue};
-ghost use Rattle.hash_word.specs.Hash.{homes, hash_of, home_of, probing_of, next_of, previous_of, finger_of, index_of, Covers};
+ghost use Rattle.hash_word.specs.Hash.{hash_bits, homes, hash_of, home_of, probing_of, next_of, previous_of, finger_of, index_of, Covers};
+
+/// How many bits a hash has.
+pub const HASH_BITS: u8 = 64;
 
 /// How many home buckets a segment has.
 pub const HOMES: u8 = 64;
@@ -80,15 +83,15 @@ pub fn finger(h: u64) -> u8
 
 /// The place of the hash in a directory of depth `g`, from 0 to 64: its top `g` bits.
 pub fn dir_index(h: u64, g: u8) -> u64
-    requires { g ≤ 64 }
+    requires { g ≤ hash_bits }
     ensures { result ≡ index_of g h }
 {
-    if g == 0 { 0 } else { h >> (64 - g) }
+    if g == 0 { 0 } else { h >> (HASH_BITS - g) }
 }
 
 /// Whether a segment of this depth, from 0 to 64, and pattern covers the hash.
 pub fn covers(depth: u8, pattern: u32, h: u64) -> bool
-    requires { depth ≤ 64 }
+    requires { depth ≤ hash_bits }
     ensures { IsTrue result ↔ Covers depth pattern h }
 {
     dir_index(h, depth) == u64::from(pattern)

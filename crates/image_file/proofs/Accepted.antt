@@ -41,7 +41,7 @@ module _ (bytes words : List ℕ) (file : bytes ≡ image_bytes words) (fits : (
     kind_is : shape.kind ≡ word_in_file bytes 1 / 2 ^ 32
     kind_is = ap (λ (s : Shape). s.kind) is
 
-    says_shape : SaysShape shape words
+    says_shape : SaysShape shape (slice_index words)
     says_shape =
         record {
           magic_word = sym (at_word 0) ∙ framed.magic_there;

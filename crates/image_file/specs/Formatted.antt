@@ -13,7 +13,7 @@ first_header shape = header_word shape 0
 -- and covers every hash; each other word is 0
 pub record IsFormatted (shape : Shape) (words : List ℕ) : Type 0 where
   pub whole : length words ≡ words_of shape
-  pub says_shape : SaysShape shape words
+  pub says_shape : SaysShape shape (slice_index words)
   pub status : slice_index words state_word ≡ with_marker first_version
   pub header : slice_index words (first_header shape) ≡ header_of first_version normal 0 0
   pub others : (i : ℕ) → front_words ≤ i → i ≢ state_word → i ≢ first_header shape → slice_index words i ≡ 0

@@ -1,9 +1,8 @@
 //! What an image holds.
 
 ghost use Rattle.std.specs.Prelude.{◌≡◌, ℕ, ◌*◌, ◌<◌, ◌↔◌, List, length, slice_index, IfOk, IsTrue};
-ghost use Rattle.image_rules.specs.Own.{segment_slots};
 ghost use Rattle.std.specs.List.Sorted.{IsStrictlyIncreasing};
-ghost use Rattle.image_layout.specs.Places.{words_of};
+ghost use Rattle.image_layout.specs.Places.{words_of, segment_slots};
 ghost use Rattle.sound_image.specs.Segments.{frame_of, image_version, IsClean};
 ghost use Rattle.sound_image.specs.Image.{IsSoundImage};
 ghost use Rattle.sound_image.specs.Rules.{KeysHaveOneValue};
@@ -11,8 +10,8 @@ ghost use Rattle.image_rules.specs.Slots.{IsStanding};
 ghost use Rattle.image_file.specs.Pairs.{live_slots, keys_of, ArePairs, ArePairsBelow};
 
 use crate::medium::Medium;
-use image_layout::{Geometry, HEADER, ROOT_WORD, STATE_WORD, state};
-use image_rules::{RECORD_SLOTS, is_first_at, pair_in};
+use image_layout::{Geometry, HEADER, ROOT_WORD, SEGMENT_SLOTS, STATE_WORD, state};
+use image_rules::{is_first_at, pair_in};
 use map_model::NoMemory;
 use segment_head::word::is_live;
 use std::alloc::Global;
@@ -54,7 +53,7 @@ fn count_pairs(geometry: &Geometry, words: &[u64]) -> u64
     ensures { (pairs : List (ℕ × ℕ)) × ArePairsBelow geometry.now (slice_index words.now) (segment_slots * geometry.now.segments) pairs × (result ≡ length pairs) }
 {
     let mut count = 0;
-    for n in 0..RECORD_SLOTS * geometry.segments() {
+    for n in 0..SEGMENT_SLOTS * geometry.segments() {
         if is_first_at(geometry, words, n) {
             count += 1;
         }
@@ -70,7 +69,7 @@ fn all_pairs(alloc: Global, geometry: &Geometry, words: &[u64]) -> Result<Vec<(u
     ensures { IfOk result (λ pairs. ArePairsBelow geometry.now (slice_index words.now) (segment_slots * geometry.now.segments) pairs.items) }
 {
     let mut pairs = Vec::new(alloc);
-    for n in 0..RECORD_SLOTS * geometry.segments() {
+    for n in 0..SEGMENT_SLOTS * geometry.segments() {
         match pair_in(geometry, words, n) {
             Some(pair) => {
                 pairs.push(pair)?;

@@ -40,6 +40,14 @@ buckets = homes + stash_buckets
 abbrev pub slots_of_key : ℕ
 slots_of_key = (2 + stash_buckets) * record_slots
 
+-- how many record slots a segment has, in all its buckets
+abbrev pub segment_slots : ℕ
+segment_slots = buckets * record_slots
+
+-- how many words have notes: two in each home
+abbrev pub note_words : ℕ
+note_words = 2 * homes
+
 -- how many words a segment has: a header and its buckets
 abbrev pub segment_words : ℕ
 segment_words = block * (1 + buckets)

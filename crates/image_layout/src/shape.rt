@@ -31,7 +31,13 @@ pub const SEGMENT_WORDS: u64 = BLOCK * (1 + BUCKETS as u64);
 /// How many words the buckets of a segment have together.
 pub const WORDS_OF_BUCKETS: u64 = SEGMENT_WORDS - BLOCK;
 /// The last one of these words, counted from the first, which is 0.
-pub const LAST_OF_BUCKETS: u64 = WORDS_OF_BUCKETS - 1;
+pub const LAST_OF_BUCKETS: u16 = WORDS_OF_BUCKETS as u16 - 1;
+/// How many words a header and a bucket have, where the words of a segment are numbered.
+pub const BLOCK_WORDS: u16 = BLOCK as u16;
+/// How many words have notes: two in each home.
+pub const NOTE_WORDS: u8 = 2 * HOMES;
+/// How many record slots a segment has, in all its buckets.
+pub const SEGMENT_SLOTS: u64 = BUCKETS as u64 * SLOTS as u64;
 /// The most slots for segments that an image may have.
 pub const MOST_SEGMENTS: u64 = 16384;
 /// The greatest depth that a directory may have.

@@ -1,5 +1,6 @@
 -- What is known of an image whose first rules hold: its numbers are in their ranges, and each hash has one owner.
-use Rattle.std.specs.Prelude.{◌≡◌, ℕ, suc, ◌^◌, ◌<◌}
+use Rattle.std.specs.Prelude.{◌≡◌, ℕ, ◌^◌, ◌<◌}
+use Rattle.segment_head.specs.HeadWord.{link_to}
 use Rattle.image_layout.specs.Places.{Shape, IsShape}
 use Rattle.sound_image.specs.Segments.{ImageWords, Frame, depth_at, pattern_at, InOneSide, HasReadySide}
 use Rattle.sound_image.specs.Rules.{NumbersFit, HashesAreOwned}
@@ -23,7 +24,7 @@ pub record IsPrefixOf (frame : Frame) (s : ℕ) (prefix : Prefix) : Type 0 where
 
 -- the side link of a segment names a slot
 pub record IsNamed (frame : Frame) (s n : ℕ) : Type 0 where
-  pub named : frame.link s ≡ suc n
+  pub named : frame.link s ≡ link_to n
   pub slot : n < frame.segments
 
 -- a segment has a ready side, and the hash is in its 1-side

@@ -1,16 +1,12 @@
 -- The pairs of an image by record slots: those of records that are their segment's own and the first of their key there.
-use Rattle.std.specs.Prelude.{ℕ, ◌*◌, ◌/◌, ◌%◌}
+use Rattle.std.specs.Prelude.{ℕ, ◌/◌, ◌%◌}
 use Rattle.bucket_meta.specs.Bucket.{record_slots}
-use Rattle.image_layout.specs.Places.{Shape, buckets}
+use Rattle.image_layout.specs.Places.{Shape, segment_slots}
 use Rattle.sound_image.specs.Segments.{ImageWords, frame_of, Owns}
 use Rattle.sound_image.specs.Records.{slot_key, slot_value, slot_hash}
 use Rattle.sound_image.specs.Rules.{NotBefore}
 use Rattle.image_rules.specs.declared.record_slot.RecordSlot.{RecordSlot}
 use Rattle.image_rules.specs.Slots.{IsTaken}
-
--- how many record slots a segment has, in all its buckets
-abbrev pub segment_slots : ℕ
-segment_slots = buckets * record_slots
 
 -- record slot n of an image, bucket by bucket of each segment
 abbrev pub record_slot_at : ℕ → RecordSlot

@@ -1,6 +1,7 @@
 //! Rule 3: each entry of the directory leads to the owner of its hashes.
 
-ghost use Rattle.std.specs.Prelude.{◌≡◌, ℕ, ◌+◌, ◌-◌, ◌*◌, ◌^◌, ◌<◌, ◌≤◌, ◌↔◌, IfSome, IfNone, IsTrue, length, slice_index};
+ghost use Rattle.std.specs.Prelude.{◌≡◌, ℕ, ◌+◌, ◌^◌, ◌<◌, ◌≤◌, ◌↔◌, IfSome, IfNone, IsTrue, length, slice_index};
+ghost use Rattle.hash_word.specs.Hash.{first_hash_of};
 ghost use Rattle.image_layout.specs.Places.{words_of, root_word, most_depth};
 ghost use Rattle.sound_image.specs.Segments.{frame_of, LeadsToOwner};
 ghost use Rattle.sound_image.specs.Directory.{EntryLeads};
@@ -14,6 +15,9 @@ use crate::leaves::power;
 use hash_word::covers;
 use image_layout::{Geometry, ROOT_WORD};
 use segment_head::prefix::in_one_side;
+
+/// How many bits a hash has.
+const HASH_BITS: u64 = hash_word::HASH_BITS as u64;
 
 /// Where a hash is looked for after a segment.
 #[derive(Clone, Copy)]
@@ -71,9 +75,9 @@ fn leads(geometry: &Geometry, words: &[u64], hash: u64, start: u64) -> bool
 fn first_hash(root: u64, i: u64) -> u64
     requires root { root ≤ most_depth }
     requires entry { i < 2 ^ root }
-    ensures { result ≡ i * 2 ^ (64 - root) }
+    ensures { result ≡ first_hash_of root i }
 {
-    if root == 0 { 0 } else { i << (64 - root) }
+    if root == 0 { 0 } else { i << (HASH_BITS - root) }
 }
 
 /// The depth of the directory.

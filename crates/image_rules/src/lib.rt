@@ -16,5 +16,5 @@ mod rules;
 mod sound_segments;
 
 pub use breach::{Breach, Rule, first_breach};
-pub use own::{RECORD_SLOTS, is_first_at, pair_in};
+pub use own::{is_first_at, pair_in};
 pub use record_slot::RecordSlot;

@@ -1,20 +1,17 @@
 //! The pairs of an image, by record slots.
 
 ghost use Rattle.std.specs.Prelude.{◌≡◌, ◌*◌, ◌<◌, ◌↔◌, length, slice_index, IfSome, IfNone, IsTrue};
-ghost use Rattle.image_layout.specs.Places.{words_of, buckets, most_segments};
+ghost use Rattle.image_layout.specs.Places.{words_of, segment_slots, most_segments};
 ghost use Rattle.image_rules.specs.Slots.{IsStanding};
-ghost use Rattle.image_rules.specs.Own.{record_slot_at, pair_at, IsFirstAt, segment_slots};
+ghost use Rattle.image_rules.specs.Own.{record_slot_at, pair_at, IsFirstAt};
 
 use crate::record_slot::{RecordSlot, is_taken, key_in, value_in};
 use crate::records::{RecordRule, is_own};
 use bucket_meta::words::SLOTS;
-use image_layout::{BUCKETS, Geometry};
+use image_layout::{Geometry, SEGMENT_SLOTS};
 
 /// How many record slots a bucket has.
 const BUCKET_SLOTS: u64 = SLOTS as u64;
-
-/// How many record slots a segment has, in all its buckets.
-pub const RECORD_SLOTS: u64 = BUCKETS as u64 * BUCKET_SLOTS;
 
 /// Record slot `n` of an image, of the 924 of each segment, bucket by bucket.
 fn record_slot_of(n: u64) -> RecordSlot
@@ -22,8 +19,8 @@ fn record_slot_of(n: u64) -> RecordSlot
     ensures { result ≡ record_slot_at n }
 {
     RecordSlot {
-        segment: n / RECORD_SLOTS,
-        bucket: (n % RECORD_SLOTS / BUCKET_SLOTS) as u8,
+        segment: n / SEGMENT_SLOTS,
+        bucket: (n % SEGMENT_SLOTS / BUCKET_SLOTS) as u8,
         slot: (n % BUCKET_SLOTS) as u8,
     }
 }

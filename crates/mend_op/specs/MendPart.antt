@@ -1,7 +1,7 @@
 -- A mending as a part of a call: with what it begins, and how it ends.
 use Rattle.std.specs.Prelude.{◌≡◌, ℕ, suc, ◌+◌, ◌-◌, ◌*◌, ◌^◌, ◌<◌, ⊤, false, Option, None, Some, length, slice_index}
 use Rattle.op_core.specs.declared.want.Want.TheVariants as want
-use Rattle.image_layout.specs.Places.{homes, words_of_buckets}
+use Rattle.image_layout.specs.Places.{note_words, words_of_buckets}
 use Rattle.map_model.specs.declared.call.Call.{Call}
 use Rattle.world.specs.declared.site.Site.{Site}
 use Rattle.world.specs.Ground.{Ground, version_of}
@@ -39,7 +39,7 @@ after_notes = 4
 
 -- the notes from one on
 abbrev pub notes_left : ℕ → ℕ
-notes_left n = 2 * homes - n + after_notes
+notes_left n = note_words - n + after_notes
 
 -- behind the rounds of a stage: those that follow store each of their words at most
 abbrev pub after_stage : Stage → ℕ

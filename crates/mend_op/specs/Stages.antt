@@ -1,6 +1,6 @@
 -- The three stages in which words are stored: which words each may change, one after another, and what they are to be.
 use Rattle.std.specs.Prelude.{ℕ, ◌+◌, ◌*◌, ◌/◌, ◌%◌, List}
-use Rattle.image_layout.specs.Places.{Shape, homes, buckets, block, words_of_buckets}
+use Rattle.image_layout.specs.Places.{Shape, buckets, block, note_words, words_of_buckets}
 use Rattle.whole_segment.specs.Words.{words_by}
 use Rattle.mend_op.specs.declared.stage.Stage.{Stage}
 use Rattle.mend_op.specs.declared.stage.Stage.TheVariants.{Clear, Mend, Note}
@@ -10,7 +10,7 @@ use Rattle.mend_op.specs.Words.{halved, mended, noted}
 abbrev pub most : Stage → ℕ
 most Clear = buckets
 most Mend = 2 * buckets
-most Note = 2 * homes
+most Note = note_words
 
 -- which word of the buckets is the one of this number among them
 abbrev pub place : Stage → ℕ → ℕ

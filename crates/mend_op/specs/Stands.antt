@@ -1,10 +1,10 @@
 -- How a mending fits the world: the kind of each event, and how the view of its caller stands in each step.
 use Rattle.std.specs.Prelude.{◌≡◌, ◌≢◌, ℕ, ◌+◌, ◌*◌, ◌^◌, ◌<◌, ◌≤◌, ◌⊎◌, Option, None, Some, List, [], ◌∷◌, slice_index}
 use Rattle.trace.specs.Events.{line_of}
-use Rattle.hash_word.specs.Hash.{Covers}
+use Rattle.hash_word.specs.Hash.{Covers, hash_bits}
 use Rattle.bucket_meta.specs.Bucket.{lock_bit}
 use Rattle.segment_head.specs.HeadWord.{version_in, state_in, depth_in, pattern_in, normal, splitting}
-use Rattle.image_layout.specs.Places.{root_word, bucket_at, homes, buckets, block, words_of_buckets}
+use Rattle.image_layout.specs.Places.{root_word, bucket_at, buckets, block, note_words, words_of_buckets}
 use Rattle.sound_image.specs.Records.{key_hash}
 use Rattle.whole_segment.specs.Records.{Stands}
 use Rattle.whole_segment.specs.Mending.{IsLookedFor}
@@ -95,7 +95,7 @@ module _ (site : Ground) (guarded : Guarded) where
   -- what is known while words of a stage are stored in rounds: of a split that ends, and then of what is mended. Notes are stored alone
   abbrev pub IsInStage : Stage → List ℕ → View → Type 0
   IsInStage stage.Clear base v = IsSplit v
-  IsInStage stage.Mend base v = (state_in guarded.head ≡ normal) × (depth_in guarded.head ≤ 64) × AreLookedFor base
+  IsInStage stage.Mend base v = (state_in guarded.head ≡ normal) × (depth_in guarded.head ≤ hash_bits) × AreLookedFor base
   IsInStage stage.Note base v = ⊥
 
   -- only the header may be loose
@@ -181,8 +181,8 @@ module _ (site : Ground) (op : MendOp) where
   SuitsStep Finish v = HasAll site op.guarded op.words v × IsSplit site op.guarded v × IsSettled v
   SuitsStep FinishFlush v = HasFinished site op.guarded op.words v
   SuitsStep FinishFence v = HasFlushed site op.guarded op.words v
-  SuitsStep (Note n) v = (n < 2 * homes) × IsNoting site op.guarded op.words op.next n v
-  SuitsStep Renew v = IsNoting site op.guarded op.words op.next (2 * homes) v
+  SuitsStep (Note n) v = (n < note_words) × IsNoting site op.guarded op.words op.next n v
+  SuitsStep Renew v = IsNoting site op.guarded op.words op.next note_words v
   SuitsStep RenewFlush v = HasGuard site op.guarded v × (v.flushed ≡ []) × IsHeadAlone site op.guarded v.dirty
   SuitsStep RenewFence v = HasGuard site op.guarded v × (v.dirty ≡ [])
   SuitsStep Give v = HasGuard site op.guarded v × IsSettled v

@@ -1,7 +1,7 @@
 -- What a mending wants in each step, and what an answer makes of it; and how it ends.
-use Rattle.std.specs.Prelude.{ℕ, ◌+◌, ◌-◌, ◌*◌, ◌==◌, not, nat_lt, Bool, true, false, Option, None, Some, replicate, slice_index, slice_set, if◌then◌else◌}
+use Rattle.std.specs.Prelude.{ℕ, ◌+◌, ◌-◌, ◌==◌, not, nat_lt, Bool, true, false, Option, None, Some, replicate, slice_index, slice_set, if◌then◌else◌}
 use Rattle.trace.specs.Events.{line_of}
-use Rattle.image_layout.specs.Places.{homes, words_of_buckets, last_of_buckets}
+use Rattle.image_layout.specs.Places.{note_words, words_of_buckets, last_of_buckets}
 use Rattle.way.specs.Ways.{head_word, bucket_word}
 use Rattle.op_core.specs.declared.want.Want.{Want}
 use Rattle.op_core.specs.declared.want.Want.TheVariants as want
@@ -63,7 +63,7 @@ module _ (op : MendOp) (stage : Stage) where
 
 -- ---- notes are stored alone; then the segment gets the image's version
 abbrev pub noting : MendOp → ℕ → MendOp
-noting op n = at_step op (if nat_lt n (2 * homes) then Note n else Renew)
+noting op n = at_step op (if nat_lt n note_words then Note n else Renew)
 
 abbrev pub noted_from : MendOp → ℕ → MendOp
 noted_from op n = noting op (changed_from op stage.Note n)
@@ -111,7 +111,7 @@ finished op = record { guarded = with_head op.guarded (finished_head op.guarded.
 
 -- ---- a word of the notes
 abbrev pub noted : MendOp → ℕ → MendOp
-noted op n = if nat_lt n (2 * homes) then noted_from (with_stored op (place stage.Note n)) (n + 1) else at_step op Renew
+noted op n = if nat_lt n note_words then noted_from (with_stored op (place stage.Note n)) (n + 1) else at_step op Renew
 
 -- ---- the machine
 -- the store that is to come, where one is

@@ -1,12 +1,15 @@
 -- The words of the buckets of a segment, by their numbers: word n of bucket b is number 32 * b + n. And what a mending makes of them, in its
 -- three stages: of a split that ends the records of the 1-side leave, then locks are free and spoiled records leave, and then notes are exact.
-use Rattle.std.specs.Prelude.{◌≡◌, ℕ, min, suc, ◌+◌, ◌-◌, ◌*◌, ◌/◌, ◌%◌, ◌^◌, ◌<◌, ◌==◌, ◌&&◌, nat_lt, List, slice_index, if◌then◌else◌}
+use Rattle.std.specs.Prelude.{◌≡◌, ℕ, min, ◌+◌, ◌-◌, ◌*◌, ◌/◌, ◌%◌, ◌<◌, ◌==◌, ◌&&◌, nat_lt, List, slice_index, if◌then◌else◌}
 use Rattle.bucket_meta.specs.Bucket.{record_slots, first_key, lock_bit}
-use Rattle.segment_head.specs.HeadWord.{version_in, depth_in, pattern_in, header_of, normal}
+use Rattle.segment_head.specs.HeadWord.{depth_in, pattern_in, header_of, normal}
+use Rattle.hash_word.specs.Hash.{hash_bits}
+use Rattle.segment_head.specs.SplitHeads.{side_depth_in, one_pattern_field, zero_side_head}
 use Rattle.image_layout.specs.Places.{Shape, homes, buckets, block}
 use Rattle.sound_image.specs.Records.{key_hash}
 use Rattle.whole_segment.specs.declared.loaded.Loaded.{Loaded}
 use Rattle.whole_segment.specs.Slots.{cleared_mark}
+use Rattle.whole_segment.specs.Words.{word_of_bucket}
 use Rattle.whole_segment.specs.Records.{first_in, third_in, key_in, covered_set}
 use Rattle.whole_segment.specs.Mending.{spoiled_set}
 use Rattle.whole_segment.specs.Rebuilding.{Overflow, first_with, third_with, rebuilt}
@@ -15,18 +18,18 @@ use Rattle.whole_segment.specs.Rebuilding.{Overflow, first_with, third_with, reb
 -- the depth and the pattern of the 1-side of a segment with this header; whatever the header is, the depth is at most 64, and the pattern
 -- has 32 bits
 abbrev pub side_depth : ℕ → ℕ
-side_depth head = min (suc (depth_in head)) 64
+side_depth head = min (side_depth_in head) hash_bits
 
 abbrev pub side_pattern : ℕ → ℕ
-side_pattern head = (2 * pattern_in head + 1) % 2 ^ 32
+side_pattern head = one_pattern_field head
 
 -- the depth of the segment itself, at most 64
 abbrev pub own_depth : ℕ → ℕ
-own_depth head = min (depth_in head) 64
+own_depth head = min (depth_in head) hash_bits
 
 -- the header when its split ends: normal, one deeper, with a 0 behind its pattern
 abbrev pub finished_head : ℕ → ℕ
-finished_head head = header_of (version_in head) normal ((depth_in head + 1) % 2 ^ 8) (2 * pattern_in head % 2 ^ 32)
+finished_head head = zero_side_head normal head
 
 -- the header when it is mended: normal, with this version
 abbrev pub renewed_head : ℕ → ℕ → ℕ
@@ -40,10 +43,10 @@ freed w = w - lock_bit w
 module _ (words : List ℕ) where
   -- words 1 and 3 of each bucket, and the key in each record slot
   abbrev pub first_of : ℕ → ℕ
-  first_of b = slice_index words (block * b + 1)
+  first_of b = word_of_bucket words b 1
 
   abbrev pub third_of : ℕ → ℕ
-  third_of b = slice_index words (block * b + 3)
+  third_of b = word_of_bucket words b 3
 
   abbrev pub key_of : ℕ → ℕ → ℕ
   key_of b r = slice_index words (block * b + first_key + 2 * r)

@@ -3,13 +3,14 @@
 ghost use Rattle.std.specs.Prelude.{◌≡◌};
 ghost use Rattle.mend_op.specs.Words.{side_depth, side_pattern, own_depth, finished_head, renewed_head};
 
-use segment_head::word::{NORMAL, depth_of, header_of, pattern_of, version_of};
+use hash_word::HASH_BITS;
+use segment_head::word::{DEEPEST_SPLIT, NORMAL, depth_of, header_of, pattern_of, version_of};
 
 /// The depth of the 1-side of a segment with this header, at most 64.
 pub(crate) fn side_depth(head: u64) -> u8
     ensures { result ≡ side_depth head }
 {
-    depth_of(head).min(63) + 1
+    depth_of(head).min(DEEPEST_SPLIT) + 1
 }
 
 /// The pattern of that side, its lower 32 bits.
@@ -23,7 +24,7 @@ pub(crate) fn side_pattern(head: u64) -> u32
 pub(crate) fn own_depth(head: u64) -> u8
     ensures { result ≡ own_depth head }
 {
-    depth_of(head).min(64)
+    depth_of(head).min(HASH_BITS)
 }
 
 /// The header when its split ends: normal, of the version that it had, one deeper, with a 0 behind its pattern.

@@ -1,7 +1,7 @@
 //! The machine, its steps, and how it ends.
 
-ghost use Rattle.std.specs.Prelude.{◌≡◌, ◌*◌, ◌<◌, ◌≤◌, ◌↔◌, IsTrue};
-ghost use Rattle.image_layout.specs.Places.{homes};
+ghost use Rattle.std.specs.Prelude.{◌≡◌, ◌<◌, ◌≤◌, ◌↔◌, IsTrue};
+ghost use Rattle.image_layout.specs.Places.{note_words};
 ghost use Rattle.op_core.specs.declared.want.Want.TheVariants as want;
 ghost use Rattle.mend_op.specs.Stages.{most};
 ghost use Rattle.mend_op.specs.Steps.{head_at, word_at, with_word, with_stored, prepared, is_changed, changed_from, due, noting, noted_from, begin_notes, over, rounding, begin, rounded, loaded_by, filled_to, finished, noted, store_wanted, wanted, taken, begun, end_of};
@@ -9,18 +9,12 @@ ghost use Rattle.mend_op.specs.Steps.{head_at, word_at, with_word, with_stored, 
 use crate::heads::{finished_head, renewed_head};
 use crate::make::made;
 use crate::stage::Stage;
-use image_layout::{HOMES, LAST_OF_BUCKETS, WORDS_OF_BUCKETS};
+use image_layout::{LAST_OF_BUCKETS, NOTE_WORDS, WORDS_OF_BUCKETS};
 use op_core::{Ans, Machine, Want};
 use repair_op::Guarded;
 use rounds::Rounds;
 use trace::line_of;
 use way::{bucket_word, head_word};
-
-/// How many words have notes: two in each home.
-const NOTES: u8 = 2 * HOMES;
-
-/// The number of the last word of the buckets.
-const LAST: u16 = LAST_OF_BUCKETS as u16;
 
 /// How a mending ends.
 #[derive(Clone, Copy, Debug)]
@@ -104,7 +98,7 @@ impl MendOp {
     fn set_word(&mut self, number: u16, seen: u64)
         ensures { self.new ≡ with_word self.old number seen }
     {
-        if number <= LAST {
+        if number <= LAST_OF_BUCKETS {
             self.words[usize::from(number)] = seen;
         }
     }
@@ -113,7 +107,7 @@ impl MendOp {
     fn set_stored(&mut self, number: u16)
         ensures { self.new ≡ with_stored self.old number }
     {
-        if number <= LAST {
+        if number <= LAST_OF_BUCKETS {
             self.words[usize::from(number)] = self.next[usize::from(number)];
         }
     }
@@ -166,7 +160,7 @@ impl MendOp {
     fn note(&mut self, number: u8)
         ensures { self.new ≡ noting self.old number }
     {
-        self.step = if number < NOTES {
+        self.step = if number < NOTE_WORDS {
             MendStep::Note(number)
         } else {
             MendStep::Renew
@@ -175,7 +169,7 @@ impl MendOp {
 
     /// That of the first one from a number on.
     fn note_from(&mut self, from: u8)
-        requires { from ≤ 2 * homes }
+        requires { from ≤ note_words }
         ensures { self.new ≡ noted_from self.old from }
     {
         let number = self.changed_from(Stage::Note, from);
@@ -236,7 +230,7 @@ impl MendOp {
         ensures { self.new ≡ filled_to number (with_word self.old number seen) }
     {
         self.set_word(number, seen);
-        if number < LAST {
+        if number < LAST_OF_BUCKETS {
             self.step = MendStep::Fill(number + 1);
         } else if self.guarded.side.is_some() {
             self.begin(Stage::Clear);
@@ -257,7 +251,7 @@ impl MendOp {
     fn noted(&mut self, number: u8)
         ensures { self.new ≡ noted self.old number }
     {
-        if number < NOTES {
+        if number < NOTE_WORDS {
             self.set_stored(Stage::Note.place(number));
             self.note_from(number + 1);
         } else {

@@ -4,10 +4,7 @@ ghost use Rattle.std.specs.Prelude.{◌≡◌, ◌<◌};
 ghost use Rattle.image_layout.specs.Places.{words_of_buckets};
 ghost use Rattle.mend_op.specs.Stages.{most, place};
 
-use image_layout::{BLOCK, BUCKETS, HOMES};
-
-/// How many words a bucket has.
-const BLOCK_WORDS: u16 = BLOCK as u16;
+use image_layout::{BLOCK_WORDS, BUCKETS, NOTE_WORDS};
 
 /// What is stored, and in which words.
 #[derive(Clone, Copy)]
@@ -28,11 +25,11 @@ impl Stage {
         match self {
             Stage::Clear => BUCKETS,
             Stage::Mend => 2 * BUCKETS,
-            Stage::Note => 2 * HOMES,
+            Stage::Note => NOTE_WORDS,
         }
     }
 
-    /// Which word of the buckets is the one of this number among them: word `n` of bucket `b` is number `BLOCK * b + n`.
+    /// Which word of the buckets is the one of this number among them: word `n` of bucket `b` is number `BLOCK_WORDS * b + n`.
     pub(crate) fn place(self, number: u8) -> u16
         ensures is { result ≡ place self number }
         ensures within { number < most self → result < words_of_buckets }

@@ -1,5 +1,5 @@
 -- How the phases fit the world: the kind of each event, what is known in each state, and how many events are left.
-use Rattle.std.specs.Prelude.{◌≡◌, ℕ, ◌+◌, ◌-◌, ◌^◌, ◌<◌, ◌≤◌, nat_le, nat_lt, ⊤, true, false, None, List, [], ◌∷◌, length, slice_index, if◌then◌else◌}
+use Rattle.std.specs.Prelude.{◌≡◌, ℕ, ◌+◌, ◌-◌, ◌^◌, ◌<◌, ◌≤◌, nat_le, nat_lt, ⊤, true, None, List, [], ◌∷◌, length, slice_index, if◌then◌else◌}
 use Rattle.hash_word.specs.Hash.{index_of}
 use Rattle.trace.specs.Events.{Words}
 use Rattle.segment_head.specs.HeadWord.{version_in, is_live}
@@ -9,7 +9,7 @@ use Rattle.way.specs.Ways.{entry_word, is_leading}
 use Rattle.world.specs.declared.site.Site.{Site}
 use Rattle.world.specs.Ground.{Ground}
 use Rattle.world.specs.Views.{Glance, View, Has}
-use Rattle.world.specs.Kinds.{Kind, peeks, asks_power, meets_root, meets_entry, meets_head}
+use Rattle.world.specs.Kinds.{Kind, peeks, asks_power, meets_root, meets_entry, meets_head, noted_header}
 use Rattle.part.specs.Part.{IsKnownLive}
 use Rattle.phase.specs.declared.walk.Path.{Path}
 use Rattle.phase.specs.declared.walk.Walk.{Walk}
@@ -89,7 +89,7 @@ HasBegun walk v = IsBare v
 
 -- the note of a header
 abbrev pub head_note : Shape → Path → Glance
-head_note shape path = record { word = header_word shape path.segment; value = path.head; words = []; again = false }
+head_note shape path = noted_header shape path.segment path.head
 
 -- at the end of the way it has that one
 pub record NotesHead (shape : Shape) (path : Path) (v : View) : Type 0 where

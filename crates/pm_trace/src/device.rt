@@ -9,13 +9,14 @@ ghost use Rattle.pm_trace.specs.Memory.{IsLine, unfenced};
 ghost use Rattle.pm_trace.specs.TraceOf.{IsTraceOf, Follows, MayLeave};
 ghost use Rattle.pm_trace.specs.Choice.{kept};
 
-use crate::flushes::{self, Flush, LINE};
+use crate::flushes::{self, Flush};
 use crate::picks::pick;
 use image_file::{Medium, Words};
 use image_layout::Geometry;
 use map_model::NoMemory;
 use std::alloc::{AllocError, Global};
 use std::marker::Model;
+use trace::LINE_WORDS;
 
 /// How many lines a caller may have flushed and not fenced.
 const LINES: usize = trace::MOST_UNFENCED as usize;
@@ -182,9 +183,9 @@ impl Device {
         ensures callers { self.new.callers ≡ self.old.callers }
     {
         let newest = self.newest.as_slice();
-        let at = LINE * line as usize;
-        let mut words = [0; LINE];
-        words.copy_from_slice(&newest[at..at + LINE]);
+        let at = LINE_WORDS * line as usize;
+        let mut words = [0; LINE_WORDS];
+        words.copy_from_slice(&newest[at..at + LINE_WORDS]);
         flushes::add(
             &mut self.flushes,
             Flush {

@@ -5,15 +5,14 @@ ghost use Rattle.trace.specs.Events.{HasLine};
 ghost use Rattle.pm_trace.specs.Memory.{flushes_of};
 ghost use Rattle.pm_trace.specs.FlushLists.{is_of, added, with_line, settled_by, renewed, renewed_by, left_by};
 
-/// How many words a line has.
-pub(crate) const LINE: usize = trace::LINE as usize;
+use trace::LINE_WORDS;
 
 /// A line that a caller flushed, with its words then, or with later ones that were settled since.
 #[derive(Clone, Copy)]
 pub struct Flush {
     pub(crate) caller: u8,
     pub(crate) line: u64,
-    pub(crate) words: [u64; LINE],
+    pub(crate) words: [u64; LINE_WORDS],
 }
 
 /// How many flushes a caller has.
@@ -45,12 +44,12 @@ pub(crate) fn add(flushes: &mut Vec<Flush>, flush: Flush)
     flushes.push_reserved(flush);
 }
 
-fn settle_line(words: &mut [u64], line: u64, values: &[u64; LINE])
+fn settle_line(words: &mut [u64], line: u64, values: &[u64; LINE_WORDS])
     requires { HasLine (length words.old) line }
     ensures { words.new ≡ with_line words.old line values.now }
 {
-    let at = LINE * line as usize;
-    words[at..at + LINE].copy_from_slice(values);
+    let at = LINE_WORDS * line as usize;
+    words[at..at + LINE_WORDS].copy_from_slice(values);
 }
 
 /// Settles what a caller flushed.
@@ -66,7 +65,7 @@ pub(crate) fn settle(words: &mut [u64], flushes: &[Flush], caller: u8)
 }
 
 /// The flushes of a line hold these words.
-fn renew(flushes: &mut [Flush], line: u64, words: &[u64; LINE])
+fn renew(flushes: &mut [Flush], line: u64, words: &[u64; LINE_WORDS])
     ensures { flushes.new ≡ map (renewed line words.now) flushes.old }
 {
     for at in 0..flushes.len() {

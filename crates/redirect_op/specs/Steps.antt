@@ -1,6 +1,7 @@
 -- What the redirecting of entries wants in each step, and what an answer makes of it; and how it ends.
-use Rattle.std.specs.Prelude.{ℕ, ◌+◌, ◌*◌, ◌%◌, ◌^◌, nat_le, nat_lt, min, Bool, true, false, Option, None, Some, if◌then◌else◌}
-use Rattle.segment_head.specs.HeadWord.{depth_in, pattern_in, header_of}
+use Rattle.std.specs.Prelude.{ℕ, ◌+◌, nat_le, nat_lt, min, Bool, true, false, Option, None, Some, if◌then◌else◌}
+use Rattle.segment_head.specs.HeadWord.{depth_in}
+use Rattle.segment_head.specs.SplitHeads.{one_side_head}
 use Rattle.image_layout.specs.Places.{Shape, root_word}
 use Rattle.image_layout.specs.Volatile.{directory_guard}
 use Rattle.op_core.specs.declared.want.Want.{Want}
@@ -26,7 +27,7 @@ shape_of op = op.guarded.site.geometry
 -- ---- which entries
 -- a header with the depth and the pattern of the 1-side
 abbrev pub side_head : ℕ → ℕ
-side_head head = header_of 0 0 ((depth_in head + 1) % 2 ^ 8) ((2 * pattern_in head + 1) % 2 ^ 32)
+side_head head = one_side_head 0 0 head
 
 -- the first and the last entry of the 1-side
 abbrev pub first_entry : RedirectOp → ℕ

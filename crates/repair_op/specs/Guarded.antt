@@ -1,7 +1,7 @@
 -- WHAT IS GUARDED: a stale segment whose guard is held, as one machine of a repair hands it on to the next.
-use Rattle.std.specs.Prelude.{◌≡◌, ◌≢◌, ℕ, ⊤, suc, ◌^◌, ◌<◌, ◌⊎◌, nat_lt, Option, None, Some, [], ◌∷◌, if◌then◌else◌}
+use Rattle.std.specs.Prelude.{◌≡◌, ◌≢◌, ℕ, ⊤, ◌^◌, ◌<◌, ◌⊎◌, nat_lt, Option, None, Some, [], ◌∷◌, if◌then◌else◌}
 use Rattle.trace.specs.Events.{Words}
-use Rattle.segment_head.specs.HeadWord.{version_in, state_in, depth_in, normal, splitting}
+use Rattle.segment_head.specs.HeadWord.{version_in, state_in, depth_in, normal, splitting, link_to}
 use Rattle.image_layout.specs.Places.{Shape, root_word}
 use Rattle.frame_facts.specs.Facts.{Lacks, Deep, Begins}
 use Rattle.map_model.specs.declared.call.Call.{Call}
@@ -47,7 +47,7 @@ module _ (site : Ground) (g : Guarded) where
   pub record KnowsReadySide (side : ℕ) (v : View) : Type 0 where
     pub splits : state_in g.head ≡ splitting
     pub slot : side < site.shape.segments
-    pub linked : Has (link_word site.shape g.segment, suc side) v.known
+    pub linked : Has (link_word site.shape g.segment, link_to side) v.known
     pub begins : Has (Begins side (first_of_region (side_depth_in g.head) (side_pattern_in g.head))) v.facts
     pub lacks : Has (Lacks g.segment (side_depth_in g.head) (side_pattern_in g.head)) v.facts
 

@@ -1,7 +1,7 @@
 -- How the beginning of a repair fits the world: the kind of each event, and how the view of its caller stands in each step.
-use Rattle.std.specs.Prelude.{◌≡◌, ◌≢◌, ℕ, ◌^◌, ◌<◌, ◌⊎◌, ⊤, suc, true, None, List, [], ◌∷◌}
+use Rattle.std.specs.Prelude.{◌≡◌, ◌≢◌, ℕ, ◌^◌, ◌<◌, ◌⊎◌, ⊤, true, None, List, [], ◌∷◌}
 use Rattle.trace.specs.Events.{line_of}
-use Rattle.segment_head.specs.HeadWord.{state_in, depth_in, pattern_in, free, normal, splitting}
+use Rattle.segment_head.specs.HeadWord.{state_in, depth_in, pattern_in, free, normal, splitting, link_to}
 use Rattle.image_layout.specs.Places.{root_word}
 use Rattle.frame_facts.specs.Facts.{Fact, Lives, Owns}
 use Rattle.way.specs.Ways.{head_word}
@@ -88,7 +88,7 @@ module _ (site : Ground) (g : Guarded) where
   -- it has linked this slot, and beside these words none is known but the header of that
   pub record KnowsSide (slot : ℕ) (v : View) : Type 0 where
     pub header : Has (header_word site.shape g.segment, g.head) v.known
-    pub link : Has (link_word site.shape g.segment, suc slot) v.known
+    pub link : Has (link_word site.shape g.segment, link_to slot) v.known
     pub only : (p : ℕ × ℕ) → Has p v.known → IsOfHead site g p.0 ⊎ (p.0 ≡ header_word site.shape slot)
 
   -- it claims all of its 1-side
@@ -158,7 +158,7 @@ module _ (site : Ground) (here : Site) (call : Call) (g : Guarded) where
   SuitsStep Head v = (g.segment < site.shape.segments) × HoldsJust (guard_area site g) v × (v.known ≡ []) × IsSettled v × Has (Lives g.segment) v.facts × (g.side ≡ None)
   SuitsStep Link v = IsCutOff site g × HoldsJust (stale_areas site g) v × KnowsHeadAs site g g.head v × IsSettled v
   SuitsStep (LoadSide slot) v = IsCutOff site g × (slot < site.shape.segments) × HoldsJust (stale_areas site g) v
-      × KnowsHeadAs site g g.head v × Has (link_word site.shape g.segment, suc slot) v.known × IsSettled v
+      × KnowsHeadAs site g g.head v × Has (link_word site.shape g.segment, link_to slot) v.known × IsSettled v
   SuitsStep (Slots slot side) v = IsSideFound site g slot side v × HoldsJust (Side slot ∷ stale_areas site g) v × Has (header_word site.shape slot, side) v.known × IsSettled v
   SuitsStep (Free slot side settling) v = IsSideFound site g slot side v × HoldsSide site g settling slot side v × IsSettling settling (header_word site.shape slot) v
   SuitsStep GiveSlots v = HasFreed site g v

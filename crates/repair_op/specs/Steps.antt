@@ -1,7 +1,8 @@
 -- What the beginning of a repair wants in each step, and what an answer makes of it; and how it ends.
 use Rattle.std.specs.Prelude.{ℕ, zero, suc, ◌==◌, Bool, true, false, Option, None, Some, if◌then◌else◌}
 use Rattle.trace.specs.Events.{line_of}
-use Rattle.segment_head.specs.HeadWord.{version_in, state_in, depth_in, pattern_in, header_of, free, normal, splitting}
+use Rattle.segment_head.specs.HeadWord.{version_in, state_in, depth_in, pattern_in, free, normal, splitting}
+pub use Rattle.segment_head.specs.SplitHeads.{with_state}
 use Rattle.image_layout.specs.Volatile.{allocation_guard}
 use Rattle.way.specs.Ways.{head_word}
 use Rattle.op_core.specs.declared.want.Want.{Want}
@@ -20,11 +21,6 @@ use Rattle.repair_op.specs.declared.step.RepairStep.{RepairStep}
 use Rattle.repair_op.specs.declared.step.RepairStep.TheVariants.{Guard, Head, Link, Side, Slots, Free, GiveSlots, Unmark, Give, Ended}
 use Rattle.repair_op.specs.declared.op.RepairOp.{RepairOp}
 use Rattle.repair_op.specs.Guarded.{guard_of, link_of}
-
--- ---- headers
--- a header with another state, and else as it was
-abbrev pub with_state : ℕ → ℕ → ℕ
-with_state head state = header_of (version_in head) state (depth_in head) (pattern_in head)
 
 -- ---- a word is settled
 -- the event that comes next, of a value in a word

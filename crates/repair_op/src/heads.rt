@@ -1,9 +1,9 @@
 //! Headers of a split that was cut off: of its side, and as they are when it is taken back.
 
-ghost use Rattle.std.specs.Prelude.{◌≡◌, ◌==◌, ◌≤◌, ◌<◌, ◌*◌, ◌+◌, ◌^◌};
+ghost use Rattle.std.specs.Prelude.{◌≡◌, ◌==◌, ◌≤◌, ◌<◌, ◌*◌, ◌^◌};
 ghost use Rattle.segment_head.specs.HeadWord.{version_in, depth_in, pattern_in};
 ghost use Rattle.world.specs.areas.Kinds.{is_new_side, is_ready_side};
-ghost use Rattle.repair_op.specs.Steps.{with_state};
+ghost use Rattle.segment_head.specs.SplitHeads.{side_pattern_in, with_state};
 
 use segment_head::word::{FRESH, depth_of, header_of, is_live, pattern_of, state_of, version_of};
 
@@ -16,7 +16,7 @@ pub(crate) fn with_state(head: u64, state: u8) -> u64
 
 /// The pattern of the 1-side of a segment with this header: its own with a 1 behind it.
 fn side_pattern(head: u64) -> u64
-    ensures is { result ≡ 2 * pattern_in head + 1 }
+    ensures is { result ≡ side_pattern_in head }
     ensures most { result < 2 ^ 33 }
     ensures some { 1 ≤ result }
 {

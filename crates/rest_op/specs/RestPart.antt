@@ -3,7 +3,7 @@ use Rattle.std.specs.Prelude.{◌≡◌, ℕ, suc, ◌+◌, ◌-◌, ◌*◌, �
 use Rattle.op_core.specs.declared.want.Want.TheVariants as want
 use Rattle.op_core.specs.declared.want.Ans.{Ans}
 use Rattle.segment_head.specs.HeadWord.{version_in, depth_in, pattern_in, normal, splitting}
-use Rattle.image_layout.specs.Places.{homes, buckets}
+use Rattle.image_layout.specs.Places.{buckets, note_words}
 use Rattle.frame_facts.specs.Facts.{Lacks, Deep}
 use Rattle.map_model.specs.declared.call.Call.{Call}
 use Rattle.way.specs.Ways.{head_word}
@@ -39,11 +39,11 @@ outcome_at step = None
 -- ---- at most so many events are left
 -- the notes, the locks and the guard
 abbrev pub after_head : ℕ
-after_head = 2 * homes + (buckets + 1)
+after_head = note_words + (buckets + 1)
 
 -- a word of the notes and those behind it, the locks and the guard
 abbrev pub notes_left : ℕ → ℕ
-notes_left n = suc (2 * homes - 1 - n) + (buckets + 1)
+notes_left n = suc (note_words - 1 - n) + (buckets + 1)
 
 -- while buckets are cleared, no round has touched more lines than it may
 abbrev pub clear_left : ℕ → Rounds → ℕ

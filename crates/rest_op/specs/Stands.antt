@@ -3,7 +3,7 @@ use Rattle.std.specs.Prelude.{◌≡◌, ◌≢◌, ℕ, ◌+◌, ◌*◌, ◌<�
 use Rattle.trace.specs.Events.{line_of}
 use Rattle.bucket_meta.specs.Bucket.{given_back}
 use Rattle.segment_head.specs.HeadWord.{version_in, depth_in, pattern_in, splitting}
-use Rattle.image_layout.specs.Places.{root_word, bucket_at, homes, buckets, block}
+use Rattle.image_layout.specs.Places.{root_word, bucket_at, homes, buckets, block, note_words}
 use Rattle.frame_facts.specs.Facts.{Lacks, Deep}
 use Rattle.way.specs.Ways.{head_word}
 use Rattle.world.specs.Ground.{Ground}
@@ -124,7 +124,7 @@ module _ (site : Ground) (op : RestOp) where
   SuitsStep Head v = IsSplit site op.whole (λ c. slice_index op.cleared c) v × IsSettled v
   SuitsStep HeadFlush v = HasEnded v
   SuitsStep HeadFence v = HasFlushed v
-  SuitsStep (Note n) v = (n < 2 * homes) × IsNoting n v
-  SuitsStep Open v = IsNoting (2 * homes) v
+  SuitsStep (Note n) v = (n < note_words) × IsNoting n v
+  SuitsStep Open v = IsNoting note_words v
   SuitsStep (Give give) v = SuitsGive site op.whole give v
   SuitsStep Ended v = HoldsOnly [] v

@@ -1,8 +1,9 @@
 -- What the rest of a split wants in each step, and what an answer makes of it; and how it ends.
-use Rattle.std.specs.Prelude.{ℕ, ◌+◌, ◌-◌, ◌*◌, ◌/◌, ◌%◌, ◌^◌, ◌==◌, not, nat_lt, Bool, true, false, Option, None, Some, List, slice_index, if◌then◌else◌}
+use Rattle.std.specs.Prelude.{ℕ, ◌+◌, ◌-◌, ◌/◌, ◌%◌, ◌==◌, not, nat_lt, Bool, true, false, Option, None, Some, List, slice_index, if◌then◌else◌}
 use Rattle.trace.specs.Events.{line_of}
-use Rattle.segment_head.specs.HeadWord.{version_in, depth_in, pattern_in, header_of, normal}
-use Rattle.image_layout.specs.Places.{homes, buckets}
+use Rattle.segment_head.specs.HeadWord.{normal}
+use Rattle.segment_head.specs.SplitHeads.{zero_side_head}
+use Rattle.image_layout.specs.Places.{homes, buckets, note_words}
 use Rattle.way.specs.Ways.{head_word}
 use Rattle.op_core.specs.declared.want.Want.{Want}
 use Rattle.op_core.specs.declared.want.Want.TheVariants as want
@@ -26,7 +27,7 @@ use Rattle.rounds.specs.Seeking.{seek}
 
 -- the header of the segment when its split is made: normal, one deeper, with a 0 behind its pattern
 abbrev pub rest_head : Enclosed → ℕ
-rest_head e = header_of (version_in e.head) normal ((depth_in e.head + 1) % 2 ^ 8) (2 * pattern_in e.head % 2 ^ 32)
+rest_head e = zero_side_head normal e.head
 
 -- the home of a word of the notes, and its number in the bucket
 abbrev pub note_home : ℕ → ℕ
@@ -76,7 +77,7 @@ module _ (op : RestOp) where
   is_noted n = not (note_value n == note_old n)
 
   abbrev pub note_from : ℕ → ℕ
-  note_from n = seek is_noted (2 * homes - n) n
+  note_from n = seek is_noted (note_words - n) n
 
   -- where it stands
   abbrev pub note_word : ℕ → ℕ
@@ -84,7 +85,7 @@ module _ (op : RestOp) where
 
 -- where all notes are stored, the segment is opened
 abbrev pub noting : ℕ → RestStep
-noting n = if nat_lt n (2 * homes) then Note n else Open
+noting n = if nat_lt n note_words then Note n else Open
 
 -- ---- what is held is given back
 -- from the lock of a bucket on
@@ -117,7 +118,7 @@ module _ (op : RestOp) where
   next_in Head Passed = HeadFlush
   next_in HeadFlush Passed = HeadFence
   next_in HeadFence Passed = noting (note_from op 0)
-  next_in (Note n) Passed = if nat_lt n (2 * homes) then noting (note_from op (n + 1)) else Open
+  next_in (Note n) Passed = if nat_lt n note_words then noting (note_from op (n + 1)) else Open
   next_in Open Passed = Give (locks_from 1)
   next_in (Give give) Passed = given_to give
   next_in same ans = same

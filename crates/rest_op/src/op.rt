@@ -1,22 +1,19 @@
 //! The machine, its steps, and how it ends.
 
-ghost use Rattle.std.specs.Prelude.{◌≡◌, ◌*◌, ◌<◌, ◌≤◌, ◌↔◌, IsTrue};
-ghost use Rattle.image_layout.specs.Places.{homes, buckets};
+ghost use Rattle.std.specs.Prelude.{◌≡◌, ◌<◌, ◌≤◌, ◌↔◌, IsTrue};
+ghost use Rattle.image_layout.specs.Places.{buckets, note_words};
 ghost use Rattle.op_core.specs.declared.want.Want.TheVariants as want;
 ghost use Rattle.rest_op.specs.Steps.{is_cleared, clear_from, note_old, note_value, is_noted, note_from, note_word, due, clearing, noting, locks_from, given_to, cleared, begun, begun_in, wanted, taken, end_of};
 
 use crate::heads::rest_head;
 use bucket_meta::words::BUCKET_WORDS;
 use enclose_op::{Enclosed, Give, given};
-use image_layout::{BUCKETS, HOMES};
+use image_layout::{BUCKETS, HOMES, NOTE_WORDS};
 use op_core::{Ans, Machine, Want};
 use rounds::Rounds;
 use trace::line_of;
 use way::head_word;
 use whole_segment::Notes;
-
-/// How many words have notes: two in each home.
-const NOTES: u8 = 2 * HOMES;
 
 /// How the rest of a split ends.
 #[derive(Clone, Copy, Debug)]
@@ -175,15 +172,15 @@ impl RestOp {
 
     /// The first such word from a number on; the number of all where there is none.
     fn note_from(&self, from: u8) -> u8
-        requires { from ≤ 2 * homes }
+        requires { from ≤ note_words }
         ensures is { result ≡ note_from self.now from }
     {
-        for number in from..NOTES {
+        for number in from..NOTE_WORDS {
             if self.is_noted(number) {
                 return number;
             }
         }
-        NOTES
+        NOTE_WORDS
     }
 
     /// Where it stands.
@@ -197,7 +194,7 @@ impl RestOp {
     fn noting(&self, number: u8) -> RestStep
         ensures { result ≡ noting number }
     {
-        if number < NOTES {
+        if number < NOTE_WORDS {
             RestStep::Note(number)
         } else {
             RestStep::Open
@@ -271,7 +268,7 @@ fn step_after(op: &RestOp, ans: Ans) -> RestStep
         (RestStep::Head, Ans::Passed) => RestStep::HeadFlush,
         (RestStep::HeadFlush, Ans::Passed) => RestStep::HeadFence,
         (RestStep::HeadFence, Ans::Passed) => op.noting(op.note_from(0)),
-        (RestStep::Note(number), Ans::Passed) if number < NOTES => {
+        (RestStep::Note(number), Ans::Passed) if number < NOTE_WORDS => {
             op.noting(op.note_from(number + 1))
         }
         (RestStep::Note(_), Ans::Passed) => RestStep::Open,

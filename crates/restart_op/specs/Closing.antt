@@ -10,7 +10,7 @@ use Rattle.trace.specs.Media.{IsPossible}
 use Rattle.image_layout.specs.Places.{Shape, IsShape, state_word, words_of, front_words}
 use Rattle.image_layout.specs.StateWord.{marker}
 use Rattle.sound_image.specs.Segments.{frame_of, IsClean}
-use Rattle.sound_image.specs.Image.{magic, format_word, IsSoundImage}
+use Rattle.sound_image.specs.Image.{SaysShape, IsSoundImage}
 use Rattle.sound_image.specs.Left.{HasPairsOf}
 use Rattle.bucket_words.specs.Owners.{IsStructure}
 use Rattle.bucket_words.specs.Hits.{find}
@@ -65,13 +65,6 @@ FewWait = (shape : Shape) (words : Words) (trace : Trace) → pending 0 trace �
     → length (pending 0 (close_after shape words trace n).trace) ≤ most_unfenced
 
 -- ---- before a close
--- the first four words say what the image is and how it is laid out
-pub record SaysShapeInFront (shape : Shape) (front : Words) : Type 0 where
-  pub magic_word : front 0 ≡ magic
-  pub format : front 1 ≡ format_word shape
-  pub segments : front 2 ≡ shape.segments
-  pub depth : front 3 ≡ shape.depth
-
 -- all values that a word ever had have 64 bits
 abbrev pub HaveFit : Words → Trace → Type 0
 HaveFit start es = (i t : ℕ) → value_at start es t i < 2 ^ 64
@@ -81,7 +74,7 @@ pub record AllAreQuiet (site : Ground) (start : Words) (world : World) : Type 0 
   pub well : IsWell site start world
   pub nothing : (j : ℕ) (v : View) → At world.views j v → OwesNothing v
   pub fits : HaveFit start world.trace
-  pub says : SaysShapeInFront site.shape site.front
+  pub says : SaysShape site.shape site.front
   pub structure : IsOpenStructure site.shape world.words
   pub fenced : pending 0 world.trace ≡ []
 

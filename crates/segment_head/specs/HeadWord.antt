@@ -1,25 +1,53 @@
 -- The fields of the header word of a segment.
-use Rattle.std.specs.Prelude.{◌≡◌, ◌⊎◌, ℕ, Bool, ◌==◌, ◌||◌, ◌+◌, ◌*◌, ◌/◌, ◌%◌, ◌^◌}
+use Rattle.std.specs.Prelude.{◌≡◌, ◌⊎◌, ℕ, suc, Bool, ◌==◌, ◌||◌, ◌+◌, ◌*◌, ◌/◌, ◌%◌, ◌^◌}
+
+-- how many bits each field has, and the lowest bit of each; they follow one another from bit 0 on, and spare bits are no field
+abbrev pub version_bits : ℕ
+version_bits = 8
+
+abbrev pub state_bits : ℕ
+state_bits = 8
+
+abbrev pub depth_bits : ℕ
+depth_bits = 8
+
+abbrev pub spare_bits : ℕ
+spare_bits = 8
+
+abbrev pub pattern_bits : ℕ
+pattern_bits = 32
+
+abbrev pub state_from : ℕ
+state_from = version_bits
+
+abbrev pub depth_from : ℕ
+depth_from = state_from + state_bits
+
+abbrev pub spare_from : ℕ
+spare_from = depth_from + depth_bits
+
+abbrev pub pattern_from : ℕ
+pattern_from = spare_from + spare_bits
 
 -- bits 0 to 7: the version of the image when the segment was last current
 abbrev pub version_in : ℕ → ℕ
-version_in h1 = h1 % 2 ^ 8
+version_in h1 = h1 % 2 ^ version_bits
 
 -- bits 8 to 15: the state
 abbrev pub state_in : ℕ → ℕ
-state_in h1 = h1 / 2 ^ 8 % 2 ^ 8
+state_in h1 = h1 / 2 ^ state_from % 2 ^ state_bits
 
 -- bits 16 to 23: the local depth
 abbrev pub depth_in : ℕ → ℕ
-depth_in h1 = h1 / 2 ^ 16 % 2 ^ 8
+depth_in h1 = h1 / 2 ^ depth_from % 2 ^ depth_bits
 
 -- bits 32 to 63: the pattern
 abbrev pub pattern_in : ℕ → ℕ
-pattern_in h1 = h1 / 2 ^ 32
+pattern_in h1 = h1 / 2 ^ pattern_from
 
 -- a header word of these fields, with bits 24 to 31 zero
 abbrev pub header_of : ℕ → ℕ → ℕ → ℕ → ℕ
-header_of version state depth pattern = version + 2 ^ 8 * state + 2 ^ 16 * depth + 2 ^ 32 * pattern
+header_of version state depth pattern = version + 2 ^ state_from * state + 2 ^ depth_from * depth + 2 ^ pattern_from * pattern
 
 -- the numbers of the four states
 abbrev pub free : ℕ
@@ -40,3 +68,7 @@ is_live h1 = (state_in h1 == normal) || (state_in h1 == splitting)
 
 abbrev pub HasLiveState : ℕ → Type 0
 HasLiveState h1 = (state_in h1 ≡ normal) ⊎ (state_in h1 ≡ splitting)
+
+-- THE LINK, the header word behind that one, where it links this slot; where it links none it is 0
+abbrev pub link_to : ℕ → ℕ
+link_to slot = suc slot

@@ -1,6 +1,7 @@
 -- The version byte of a header word, taken out.
 use Rattle.std.specs.Prelude.{ℕ, ◌*◌, ◌/◌, ◌^◌}
+use Rattle.segment_head.specs.HeadWord.{version_bits}
 
 -- the header word with 0 as its version byte, and all its other bits
 abbrev pub unversioned : ℕ → ℕ
-unversioned h1 = h1 / 2 ^ 8 * 2 ^ 8
+unversioned h1 = h1 / 2 ^ version_bits * 2 ^ version_bits

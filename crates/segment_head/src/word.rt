@@ -4,7 +4,26 @@
 ghost use Rattle.std.specs.Prelude.{◌≡◌, ◌↔◌, ◌⊎◌, IsTrue};
 ghost use Rattle.segment_head.specs.HeadWord.{version_in, state_in, depth_in, pattern_in, header_of, is_live, HasLiveState, normal};
 
+use hash_word::HASH_BITS;
 use word_bits::with_bits;
+
+/// How many bits the version has, the lowest ones of the word.
+pub(crate) const VERSION_BITS: u32 = 8;
+/// How many bits the state byte has.
+const STATE_BITS: u32 = 8;
+/// How many bits the depth has.
+const DEPTH_BITS: u32 = 8;
+/// How many bits behind the depth no field has.
+const SPARE_BITS: u32 = 8;
+
+/// The lowest bit of the state byte, which stands behind the version.
+const STATE_FROM: u32 = VERSION_BITS;
+/// That of the depth.
+const DEPTH_FROM: u32 = STATE_FROM + STATE_BITS;
+/// That of the bits that no field has.
+const SPARE_FROM: u32 = DEPTH_FROM + DEPTH_BITS;
+/// That of the pattern, which has all bits from there on.
+const PATTERN_FROM: u32 = SPARE_FROM + SPARE_BITS;
 
 /// The state byte of a segment that holds nothing, and may be taken by a split.
 pub const FREE: u8 = 0;
@@ -14,6 +33,9 @@ pub const NORMAL: u8 = 1;
 pub const SPLITTING: u8 = 2;
 /// That of a segment that takes records from a splitting one, and is not looked at yet.
 pub const FRESH: u8 = 3;
+
+/// How deep a segment is at the most that can be split: its sides have one more bit of a hash.
+pub const DEEPEST_SPLIT: u8 = HASH_BITS - 1;
 
 /// The version of the image when the segment was last current.
 pub fn version_of(h1: u64) -> u8
@@ -26,30 +48,30 @@ pub fn version_of(h1: u64) -> u8
 pub fn state_of(h1: u64) -> u8
     ensures { result ≡ state_in h1 }
 {
-    ((h1 >> 8) & 0xFF) as u8
+    ((h1 >> STATE_FROM) & 0xFF) as u8
 }
 
 /// How many top bits of a hash the pattern is compared with.
 pub fn depth_of(h1: u64) -> u8
     ensures { result ≡ depth_in h1 }
 {
-    ((h1 >> 16) & 0xFF) as u8
+    ((h1 >> DEPTH_FROM) & 0xFF) as u8
 }
 
 /// What these bits are in the hashes that the segment covers.
 pub fn pattern_of(h1: u64) -> u32
     ensures { result ≡ pattern_in h1 }
 {
-    (h1 >> 32) as u32
+    (h1 >> PATTERN_FROM) as u32
 }
 
 /// The header word of these fields: a version, a state byte, a depth and a pattern. Its bits 24 to 31 are 0.
 pub fn header_of(version: u8, state: u8, depth: u8, pattern: u32) -> u64
     ensures { result ≡ header_of version state depth pattern }
 {
-    let word = with_bits(u64::from(version), 8, u64::from(state));
-    let word = with_bits(word, 16, u64::from(depth));
-    with_bits(word, 32, u64::from(pattern))
+    let word = with_bits(u64::from(version), STATE_FROM, u64::from(state));
+    let word = with_bits(word, DEPTH_FROM, u64::from(depth));
+    with_bits(word, PATTERN_FROM, u64::from(pattern))
 }
 
 /// Whether the segment is live: normal or splitting.

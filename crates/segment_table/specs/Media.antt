@@ -1,10 +1,11 @@
 -- What the frame of a medium and that of the newest words have in common, though some stores are not settled.
-use Rattle.std.specs.Prelude.{◌≡◌, ℕ, ◌-◌, ◌*◌, ◌^◌, ◌<◌, ◌≤◌}
+use Rattle.std.specs.Prelude.{◌≡◌, ℕ, ◌<◌, ◌≤◌}
+use Rattle.hash_word.specs.Hash.{first_hash_of}
 use Rattle.sound_image.specs.Segments.{Frame, depth_at, pattern_at, IsLive}
 
 -- the first of the hashes that a segment covers
 abbrev pub first_hash : Frame → ℕ → ℕ
-first_hash frame s = pattern_at frame s * 2 ^ (64 - depth_at frame s)
+first_hash frame s = first_hash_of (depth_at frame s) (pattern_at frame s)
 
 -- a segment that is live in the one is live in the other, where it begins at the same hash and is no less deep
 abbrev pub StaysLive : Frame → Frame → ℕ → Type 0

@@ -1,8 +1,8 @@
 -- The stores to headers, links, the root and the directory: for each what it must find in a sound frame, and what it leaves.
-use Rattle.std.specs.Prelude.{◌≡◌, ◌≢◌, ℕ, suc, ◌+◌, ◌*◌, ◌/◌, ◌^◌, ◌<◌, ◌≤◌, ◌⊎◌}
+use Rattle.std.specs.Prelude.{◌≡◌, ◌≢◌, ℕ, ◌+◌, ◌*◌, ◌/◌, ◌^◌, ◌<◌, ◌≤◌, ◌⊎◌}
 use Rattle.trace.specs.Events.{with_word}
 use Rattle.hash_word.specs.Hash.{index_of}
-use Rattle.segment_head.specs.HeadWord.{version_in, state_in, depth_in, pattern_in, free, normal, splitting, fresh}
+use Rattle.segment_head.specs.HeadWord.{version_in, state_in, depth_in, pattern_in, free, normal, splitting, fresh, link_to}
 use Rattle.sound_image.specs.Places.{Shape, root_word, state_word, entry_at, header_word, link_word}
 use Rattle.sound_image.specs.StateWord.{image_version_in}
 use Rattle.sound_image.specs.Segments.{ImageWords, Frame, frame_of, image_version, state_at, depth_at, pattern_at, InOneSide, IsReadySide, HasReadySide}
@@ -72,7 +72,7 @@ module _ (frame : Frame) where
   pub record GoesLive (s n x : ℕ) : Type 0 where
     pub slot : s < frame.segments
     pub splits : state_at frame s ≡ splitting
-    pub linked : frame.link s ≡ suc n
+    pub linked : frame.link s ≡ link_to n
     pub side_slot : n < frame.segments
     pub was : state_at frame n ≡ fresh
     pub becomes : state_in x ≡ normal

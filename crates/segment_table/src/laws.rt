@@ -2,7 +2,7 @@
 
 ghost use Rattle.std.specs.Prelude.{◌≡◌, ◌≢◌, ◌↔◌, ℕ, ◌+◌, ◌^◌, ◌<◌, ◌≤◌, Option, None, Some};
 ghost use Rattle.trace.specs.Events.{with_word};
-ghost use Rattle.hash_word.specs.Hash.{index_of};
+ghost use Rattle.hash_word.specs.Hash.{index_of, hash_bits};
 ghost use Rattle.sound_image.specs.Places.{Shape, IsShape, most_depth, block, buckets, root_word, state_word, entry_at, header_word, link_word, bucket_at, words_of};
 ghost use Rattle.sound_image.specs.Segments.{ImageWords, Frame, frame_of, depth_at, IsLive, CoversHash, IsLiveFor, Owns, InOneSide, IsReadySide, HasReadySide};
 ghost use Rattle.segment_table.specs.Claims.{Claims, ClaimsNoOneSide, ClaimsOneSide, IsSideEntry, IsSoundFrame, HasSoundFrame, FollowsFrameRules};
@@ -38,7 +38,7 @@ pub fn claims_tell_ready_sides()
 
 /// The entries of the 1-side of a segment stand in a row, where the root is deeper than the segment.
 pub fn side_entries_stand_in_a_row()
-    ensures { (frame : Frame) (s h : ℕ) → depth_at frame s < frame.root → frame.root ≤ 64
+    ensures { (frame : Frame) (s h : ℕ) → depth_at frame s < frame.root → frame.root ≤ hash_bits
         → InOneSide frame s h ↔ IsSideEntry frame s (index_of frame.root h) }
 {}
 

@@ -16,7 +16,7 @@ use Rattle.map_model.specs.Map.{Map, key_of, reply_of, after}
 use Rattle.map_model.specs.Weave.{weave}
 use Rattle.map_model.specs.Legal.{replay, IsLegal}
 use Rattle.sound_image.specs.Records.{HasAt}
-use Rattle.sound_image.specs.Image.{IsSoundImage}
+use Rattle.sound_image.specs.Image.{SaysShape, IsSoundImage}
 use Rattle.sound_image.specs.Left.{AgreesAt, IsLeft}
 use Rattle.bucket_words.specs.Core.{core_of}
 use Rattle.bucket_words.specs.Hits.{find}
@@ -27,7 +27,6 @@ use Rattle.world.specs.Media.{IsPossible}
 use Rattle.world.specs.StepLaws.{IsGoodMedium}
 use Rattle.world.specs.Attempts.{OwesNothing}
 use Rattle.world.proofs.Legality.{after_has}
-use Rattle.restart_op.specs.Closing.{SaysShapeInFront}
 use Rattle.restart_op.proofs.images.Rules.{unmarked_rules}
 use Rattle.restart_op.proofs.images.Pairs.{has_of_found}
 use Rattle.vlock.specs.declared.knows.Watch.{Watch}
@@ -79,7 +78,7 @@ planned_with p (pass ∷ passes) = planned_with (both p pass.me.0) passes ∙ ap
 -- ---- a cut
 module _ (site : Ground) (before newest : List ℕ) (p : Watch) (passes : List (Seat ℕ Watch)) (is_shape : IsShape site.shape)
     (cut : IsPowerCut site (word before) ((with_all p passes).view ∷ (with_all p passes).past)) (nothing : OwesNothing p.view) (own : map (λ v. v.own) ((with_all p passes).view ∷ (with_all p passes).past) ≡ replies_of passes)
-    (says : SaysShapeInFront site.shape site.front) (unmarked : marker_in (site.front state_word) ≡ 0)
+    (says : SaysShape site.shape site.front) (unmarked : marker_in (site.front state_word) ≡ 0)
     (given : newest ≡ take (words_of site.shape) before) (long : words_of site.shape ≤ length before) (fits : (i : ℕ) → slice_index newest i < 2 ^ 64) where
   abbrev keeper : View
   keeper = (with_all p passes).view
@@ -169,7 +168,7 @@ module _ (site : Ground) (before newest : List ℕ) (p : Watch) (passes : List (
 
 -- A CUT LEAVES GOOD MEDIA, by other names of the shape and of what the keeper knows
 pub cut_leaves : (site : Ground) (shape : Shape) (before newest : List ℕ) (p q : Watch) (passes : List (Seat ℕ Watch)) → shape ≡ site.shape → IsShape site.shape → q ≡ with_all p passes
-    → IsPowerCut site (word before) (q.view ∷ q.past) → OwesNothing p.view → map (λ v. v.own) (q.view ∷ q.past) ≡ replies_of passes → SaysShapeInFront site.shape site.front
+    → IsPowerCut site (word before) (q.view ∷ q.past) → OwesNothing p.view → map (λ v. v.own) (q.view ∷ q.past) ≡ replies_of passes → SaysShape site.shape site.front
     → marker_in (site.front state_word) ≡ 0 → newest ≡ take (words_of shape) before → words_of site.shape ≤ length before → ((i : ℕ) → slice_index newest i < 2 ^ 64) → LeavesGoodMedia site passes newest
 cut_leaves site shape before newest p q passes same is_shape is cut nothing own says unmarked given long fits =
     leaves_good site before newest p passes is_shape (subst (λ (w : Watch). IsPowerCut site (word before) (w.view ∷ w.past)) is cut) nothing

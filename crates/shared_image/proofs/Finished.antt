@@ -15,13 +15,13 @@ use Rattle.map_model.specs.declared.entry.Entry.{Entry}
 use Rattle.map_model.specs.Weave.{weave}
 use Rattle.map_model.specs.Legal.{replay}
 use Rattle.sound_image.specs.Segments.{frame_of, IsClean}
-use Rattle.sound_image.specs.Image.{IsSoundImage}
+use Rattle.sound_image.specs.Image.{SaysShape, IsSoundImage}
 use Rattle.world.specs.Ground.{Ground}
 use Rattle.world.specs.Views.{View}
 use Rattle.world.specs.World.{World}
 use Rattle.world.specs.Wants.{word_of, event_of}
 use Rattle.restart_op.specs.Close.{wanted}
-use Rattle.restart_op.specs.Closing.{close_after, SaysShapeInFront, AllAreQuiet, IsKept}
+use Rattle.restart_op.specs.Closing.{close_after, AllAreQuiet, IsKept}
 use Rattle.restart_op.proofs.Currents.{current_in}
 use Rattle.restart_op.proofs.Quiet.{fits_at_first}
 use Rattle.restart_op.proofs.closes.CloseAlong.{changes_state_alone}
@@ -44,7 +44,7 @@ length_taken (suc n) [] h = absurd (omega (arith, h))
 length_taken (suc n) (x ∷ xs) h = let r = length_taken n xs (omega (arith, h)) in omega (arith, r)
 
 module _ (site : Ground) (before last : List ℕ) (views : List View) (ended : IsEnd site (word before) views) (fits : (i : ℕ) → slice_index before i < 2 ^ 64)
-    (says : SaysShapeInFront site.shape site.front) (unmarked : marker_in (site.front state_word) ≡ 0) (run : IsClosedFrom site.shape (word before) (word last))
+    (says : SaysShape site.shape site.front) (unmarked : marker_in (site.front state_word) ≡ 0) (run : IsClosedFrom site.shape (word before) (word last))
     (long : words_of site.shape ≤ length last) where
   abbrev world : World
   world = record { words = word before; trace = []; views = ended.nobody.views }
@@ -111,7 +111,7 @@ module _ (site : Ground) (before last : List ℕ) (views : List View) (ended : I
 
 -- THE CLOSE IS FINISHED, by another name of the shape, and of the words that are given
 pub finish : (site : Ground) (shape : Shape) (before last out : List ℕ) (views : List View) (replies : List (List Entry)) → shape ≡ site.shape → IsEnd site (word before) views
-    → ((i : ℕ) → slice_index before i < 2 ^ 64) → SaysShapeInFront site.shape site.front → marker_in (site.front state_word) ≡ 0 → IsClosedFrom shape (word before) (word last)
+    → ((i : ℕ) → slice_index before i < 2 ^ 64) → SaysShape site.shape site.front → marker_in (site.front state_word) ≡ 0 → IsClosedFrom shape (word before) (word last)
     → words_of site.shape ≤ length last → out ≡ take (words_of shape) last → map (λ v. v.own) views ≡ replies
     → IsSoundImage site.shape out × IsClean (frame_of site.shape (slice_index out)) × HasWhatWasReplied site replies out × WasEnded site replies out
 finish site shape before last out views replies same ended fits says unmarked run long is told =

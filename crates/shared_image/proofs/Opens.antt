@@ -7,7 +7,7 @@ use Rattle.image_layout.specs.Places.{Shape, state_word}
 use Rattle.image_layout.specs.Volatile.{all_words_of}
 use Rattle.image_layout.specs.StateWord.{marker_in}
 use Rattle.map_model.specs.Map.{Map}
-use Rattle.sound_image.specs.Image.{IsSoundImage}
+use Rattle.sound_image.specs.Image.{SaysShape, IsSoundImage}
 use Rattle.sound_image.specs.Left.{HasPairsOf}
 use Rattle.segment_table.specs.Claims.{HasSoundFrame}
 use Rattle.bucket_words.specs.Standing.{IsTable}
@@ -16,7 +16,6 @@ use Rattle.world.specs.Ground.{Ground, IsCurrentIn, version_of}
 use Rattle.world.specs.areas.Beginning.{Begins, IsRepaired}
 use Rattle.restart_op.specs.Restart.{started_for}
 use Rattle.restart_op.specs.Restarted.{words_at_end, site_of, world_of}
-use Rattle.restart_op.specs.Closing.{SaysShapeInFront}
 use Rattle.restart_op.proofs.restarts.Beginning.{ends_started, restart_begins, keeps_pairs}
 use Rattle.restart_op.proofs.Quiet.{quiet_after_restart}
 use Rattle.vlock.specs.declared.table.Opening.{Opening}
@@ -61,8 +60,8 @@ module _ (key : Opening) (base : List ℕ) (o : IsOfRestart key base) where
       let state : word key.words.value.items state_word ≡ (started_for (slice_index base state_word)).version = ap (λ (ws : Words). ws state_word) o.words_are ∙ ends.left.state in
       sym (ap (λ (n : ℕ). n % 2 ^ 8) state ∙ omega (arith, fits))
 
-  says : SaysShapeInFront key.geometry (word key.words.value.items)
-  says = subst (λ (ws : Words). SaysShapeInFront key.geometry ws) (sym o.words_are) (quiet_after_restart key.geometry base key.callers o.sound o.few).says
+  says : SaysShape key.geometry (word key.words.value.items)
+  says = subst (λ (ws : Words). SaysShape key.geometry ws) (sym o.words_are) (quiet_after_restart key.geometry base key.callers o.sound o.few).says
 
   unmarked : marker_in (word key.words.value.items state_word) ≡ 0
   unmarked = ap (λ (ws : Words). marker_in (ws state_word)) o.words_are ∙ (quiet_after_restart key.geometry base key.callers o.sound o.few).structure.not_clean
@@ -83,7 +82,7 @@ module _ (key : Opening) (base : List ℕ) (o : IsOfRestart key base) where
       laid_out = geometry ∙ sym (ap (λ (k : Opening). k.geometry) same);
       version = ap (λ s. s.version) started ∙ version_is ∙ sym (ap (λ (k : Opening). version_of (ground_of k)) same);
       room = ap length room ∙ o.whole ∙ sym (ap (λ (k : Opening). all_words_of k.geometry) same) ∙ sym whole.words;
-      says = subst (λ (k : Opening). SaysShapeInFront k.geometry (word k.words.value.items)) (sym same) says;
+      says = subst (λ (k : Opening). SaysShape k.geometry (word k.words.value.items)) (sym same) says;
       unmarked = subst (λ (k : Opening). marker_in (word k.words.value.items state_word) ≡ 0) (sym same) unmarked;
     }
 

@@ -3,7 +3,7 @@ use Rattle.std.specs.Prelude.{◌≡◌, ℕ, ◌<◌, [], length}
 use Rattle.atomic_table.specs.declared.shared.Seat.{Seat}
 use Rattle.image_layout.specs.Places.{state_word}
 use Rattle.image_layout.specs.StateWord.{marker_in}
-use Rattle.restart_op.specs.Closing.{SaysShapeInFront}
+use Rattle.sound_image.specs.Image.{SaysShape}
 use Rattle.world.specs.Ground.{Ground, version_of}
 use Rattle.vlock.specs.declared.knows.Watch.{Watch}
 use Rattle.vlock.specs.declared.table.Opening.{Opening}
@@ -31,7 +31,7 @@ pub record IsOn (image : SharedImage) : Type 0 where
   pub laid_out : image.geometry ≡ (opening image).geometry
   pub version : image.started.version ≡ version_of (ground_in image)
   pub room : length image.room.items ≡ image.table.shared.table_id.words
-  pub says : SaysShapeInFront (ground_in image).shape (ground_in image).front
+  pub says : SaysShape (ground_in image).shape (ground_in image).front
   pub unmarked : marker_in ((ground_in image).front state_word) ≡ 0
 
 -- what a keeper knows, which takes no event of its own: it stands for a caller, owes nothing, has replied nothing, and took in nobody yet

@@ -1,6 +1,6 @@
 -- What a sound image says of its numbers, its segments and its directory, place by place.
-use Rattle.std.specs.Prelude.{◌≡◌, ◌≢◌, ℕ, ◌-◌, ◌*◌, ◌^◌, ◌<◌, ◌≤◌, ◌⊎◌}
-use Rattle.hash_word.specs.Hash.{index_of}
+use Rattle.std.specs.Prelude.{◌≡◌, ◌≢◌, ℕ, ◌^◌, ◌<◌, ◌≤◌, ◌⊎◌}
+use Rattle.hash_word.specs.Hash.{index_of, first_hash_of}
 use Rattle.segment_head.specs.HeadWord.{version_in, free, fresh}
 use Rattle.sound_image.specs.Segments.{Frame, image_version, state_at, depth_at, pattern_at, IsLive, CoversHash, IsLiveFor, Owns, InOneSide, HasReadySide, LeadsToOwner}
 
@@ -37,7 +37,7 @@ module _ (frame : Frame) where
 
   -- A DIRECTORY ENTRY LEADS to the owner of its hashes
   abbrev pub EntryLeads : ℕ → Type 0
-  EntryLeads i = LeadsToOwner frame (i * 2 ^ (64 - frame.root)) (frame.entry i)
+  EntryLeads i = LeadsToOwner frame (first_hash_of frame.root i) (frame.entry i)
 
   -- NO VERSION BYTE IS ABOVE V
   abbrev pub VersionIsPast : ℕ → Type 0

@@ -3,6 +3,7 @@ use Rattle.std.specs.Prelude.{◌≡◌, ℕ, ◌+◌, ◌*◌, ◌^◌, ◌<◌
 use Rattle.std.specs.List.{flat_map}
 use Rattle.byteorder.specs.Endian.{little_bytes}
 use Rattle.image_layout.specs.Places.{Shape, IsShape, format_number, kind_from, words_of}
+use Rattle.sound_image.specs.Segments.{ImageWords}
 use Rattle.sound_image.specs.Rules.{FollowsRules}
 
 -- how many bytes a word has
@@ -22,16 +23,16 @@ abbrev pub format_word : Shape → ℕ
 format_word shape = format_number + shape.kind * 2 ^ kind_from
 
 -- the first four words say what the image is and how it is laid out
-pub record SaysShape (shape : Shape) (words : List ℕ) : Type 0 where
-  pub magic_word : slice_index words 0 ≡ magic
-  pub format : slice_index words 1 ≡ format_word shape
-  pub segments : slice_index words 2 ≡ shape.segments
-  pub depth : slice_index words 3 ≡ shape.depth
+pub record SaysShape (shape : Shape) (word : ImageWords) : Type 0 where
+  pub magic_word : word 0 ≡ magic
+  pub format : word 1 ≡ format_word shape
+  pub segments : word 2 ≡ shape.segments
+  pub depth : word 3 ≡ shape.depth
 
 -- a sound image: all words of a shape in range, each of 64 bits, which say that shape and follow the rules
 pub record IsSoundImage (shape : Shape) (words : List ℕ) : Type 0 where
   pub in_range : IsShape shape
   pub whole : length words ≡ words_of shape
   pub each_fits : (i : ℕ) → slice_index words i < 2 ^ 64
-  pub says_shape : SaysShape shape words
+  pub says_shape : SaysShape shape (slice_index words)
   pub follows : FollowsRules shape (slice_index words)

@@ -1,9 +1,9 @@
 -- Live segments, owners and ready sides, read from the headers and the directory of an image.
-use Rattle.std.specs.Prelude.{◌≡◌, ℕ, suc, ◌+◌, ◌-◌, ◌*◌, ◌^◌, ◌<◌, ◌≤◌}
+use Rattle.std.specs.Prelude.{◌≡◌, ℕ, ◌+◌, ◌-◌, ◌*◌, ◌^◌, ◌<◌, ◌≤◌}
 use Rattle.hash_word.specs.Hash.{Covers}
 use Rattle.image_layout.specs.Places.{Shape, root_word, state_word, entry_at, header_word, link_word}
 use Rattle.image_layout.specs.StateWord.{image_version_in, IsMarked}
-use Rattle.segment_head.specs.HeadWord.{state_in, depth_in, pattern_in, splitting, HasLiveState}
+use Rattle.segment_head.specs.HeadWord.{state_in, depth_in, pattern_in, splitting, HasLiveState, link_to}
 
 -- the words of an image, by their numbers
 abbrev pub ImageWords : Type 0
@@ -74,7 +74,7 @@ module _ (frame : Frame) where
   -- is that of the 1-side of s, followed by zeros alone
   pub record IsReadySide (s n : ℕ) : Type 0 where
     pub splits : state_at s ≡ splitting
-    pub named : frame.link s ≡ suc n
+    pub named : frame.link s ≡ link_to n
     pub slot : n < frame.segments
     pub live : IsLive n
     pub deeper : depth_at s < depth_at n

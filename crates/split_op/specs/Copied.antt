@@ -1,8 +1,9 @@
 -- WHAT IS COPIED: a segment that is being split and whole, and the slot of its side, which has its records of the 1-side, as a split hands
 -- it on to who publishes the side.
-use Rattle.std.specs.Prelude.{◌≡◌, ◌≢◌, ℕ, suc, ◌+◌, ◌*◌, ◌-◌, ◌%◌, ◌^◌, ◌<◌, ◌==◌, ◌⊎◌, [], ◌∷◌, length, slice_index, if◌then◌else◌}
+use Rattle.std.specs.Prelude.{◌≡◌, ◌≢◌, ℕ, ◌-◌, ◌<◌, ◌==◌, ◌⊎◌, [], ◌∷◌, length, slice_index, if◌then◌else◌}
 use Rattle.trace.specs.Events.{Words}
-use Rattle.segment_head.specs.HeadWord.{version_in, depth_in, pattern_in, header_of, splitting, fresh}
+use Rattle.segment_head.specs.HeadWord.{splitting, fresh, link_to}
+use Rattle.segment_head.specs.SplitHeads.{with_state, one_side_head}
 use Rattle.image_layout.specs.Places.{bucket_at, homes, words_of_buckets}
 use Rattle.sound_image.specs.Records.{HasExactNotes}
 use Rattle.bucket_words.specs.Hits.{Hit}
@@ -25,11 +26,11 @@ use Rattle.split_op.specs.declared.copied.Copied.{Copied}
 -- ---- headers
 -- that of a segment while it is split
 abbrev pub split_head : Enclosed → ℕ
-split_head e = header_of (version_in e.head) splitting (depth_in e.head) (pattern_in e.head)
+split_head e = with_state e.head splitting
 
 -- that of its new side
 abbrev pub side_head : Enclosed → ℕ
-side_head e = header_of e.site.version fresh ((depth_in e.head + 1) % 2 ^ 8) ((2 * pattern_in e.head + 1) % 2 ^ 32)
+side_head e = one_side_head e.site.version fresh e.head
 
 -- ---- words
 -- those of a side, of which these are the words of its buckets
@@ -40,7 +41,7 @@ side_words c i = if i == header_word c.whole.site.geometry c.side then side_head
 abbrev pub split_words : Copied → Words
 split_words c i =
     if i == header_word c.whole.site.geometry c.whole.segment then split_head c.whole
-    else if i == link_word c.whole.site.geometry c.whole.segment then suc c.side else kept_words c.whole i
+    else if i == link_word c.whole.site.geometry c.whole.segment then link_to c.side else kept_words c.whole i
 
 -- THE WORDS of both
 abbrev pub copied_words : Copied → Words

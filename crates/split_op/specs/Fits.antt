@@ -4,7 +4,7 @@ use Rattle.trace.specs.Events.{HasLine}
 use Rattle.op_core.specs.declared.want.Want.{Want}
 use Rattle.op_core.specs.declared.want.Want.TheVariants.{Store}
 use Rattle.bucket_meta.specs.Bucket.{first_key}
-use Rattle.segment_head.specs.HeadWord.{state_in, free}
+use Rattle.segment_head.specs.HeadWord.{state_in, free, link_to}
 use Rattle.image_layout.specs.Places.{root_word, words_of, head_at, header_number, bucket_at, buckets, block, segment_words, words_of_buckets}
 use Rattle.map_model.specs.declared.call.Call.{Call}
 use Rattle.map_model.specs.declared.entry.Reply.TheVariants.{Full}
@@ -183,7 +183,7 @@ module _ (site : Ground) (here : Site) (call : Call) where
     head_of (Copy number) = split_head c.whole
 
     abbrev pub IsLinked : View → Type 0
-    IsLinked v = Has (link_word site.shape c.whole.segment, suc c.side) v.known
+    IsLinked v = Has (link_word site.shape c.whole.segment, link_to c.side) v.known
 
     -- its link, once it is stored
     abbrev pub KnowsLink : Batch → View → Type 0

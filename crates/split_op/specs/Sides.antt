@@ -7,7 +7,7 @@ use Rattle.bucket_meta.specs.Marks.{with_finger}
 use Rattle.image_layout.specs.Places.{homes, buckets, block, words_of_buckets}
 use Rattle.sound_image.specs.Records.{key_hash}
 use Rattle.whole_segment.specs.Slots.{copied_mark}
-use Rattle.whole_segment.specs.Words.{words_by}
+use Rattle.whole_segment.specs.Words.{words_by, word_of_bucket}
 use Rattle.whole_segment.specs.Records.{first_in}
 use Rattle.whole_segment.specs.Rebuilding.{Overflow, first_with, third_with, rebuilt}
 use Rattle.whole_segment.specs.declared.loaded.Loaded.{Loaded}
@@ -17,7 +17,7 @@ use Rattle.enclose_op.specs.Whole.{kept_word, kept_first, kept_third, kept_key, 
 
 -- word m of bucket b of a side
 abbrev pub side_word : List ℕ → ℕ → ℕ → ℕ
-side_word words b m = slice_index words (block * b + m)
+side_word words b m = word_of_bucket words b m
 
 -- ---- fingerprints
 -- a word of fingerprints in which so many slots, from one on, have none where they are not taken

@@ -9,7 +9,7 @@ use crate::copied::Copied;
 use crate::seek::copied_from;
 use bucket_meta::words;
 use enclose_op::Enclosed;
-use image_layout::{BLOCK, BUCKETS, Geometry, HEADER, LINK, ROOT_WORD, SEGMENT_WORDS};
+use image_layout::{BLOCK_WORDS, BUCKETS, Geometry, HEADER, LINK, ROOT_WORD, SEGMENT_WORDS};
 use segment_head::word::{FRESH, SPLITTING, depth_of, header_of, pattern_of, version_of};
 
 /// What is stored. Words of a slot are numbered from its first header word on: number 1 is its header, number 2 its link, and number
@@ -32,8 +32,6 @@ pub enum Batch {
 pub const HEADER_NUMBER: u16 = HEADER as u16;
 /// That of the word of its link.
 const LINK_NUMBER: u16 = LINK as u16;
-/// How many words a header and a bucket have.
-pub const BLOCK_WORDS: u16 = BLOCK as u16;
 /// How many words a slot has.
 pub const SLOT_WORDS: u16 = SEGMENT_WORDS as u16;
 /// The word of a bucket in which the key of its first record slot stands.

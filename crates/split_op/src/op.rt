@@ -11,7 +11,7 @@ use crate::copy::side_words;
 use crate::step::{SplitEnd, SplitStep};
 use crate::taking::go_on;
 use enclose_op::Enclosed;
-use image_layout::BUCKETS;
+use image_layout::{BLOCK_WORDS, BUCKETS};
 use op_core::{Ans, Machine, Want};
 
 /// An enclosed segment is split, up to the copies.

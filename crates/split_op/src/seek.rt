@@ -5,8 +5,8 @@ ghost use Rattle.word_bits.specs.Bits.{bit};
 ghost use Rattle.image_layout.specs.Places.{segment_words};
 ghost use Rattle.split_op.specs.Batches.{is_copied, copied_from};
 
-use crate::batch::{BLOCK_WORDS, FIRST_KEY, SLOT_WORDS};
-use image_layout::WORDS_OF_BUCKETS;
+use crate::batch::{FIRST_KEY, SLOT_WORDS};
+use image_layout::{BLOCK_WORDS, WORDS_OF_BUCKETS};
 use word_bits::is_set;
 
 /// Whether a word of the side is copied, by its number in the slot: of each bucket the metadata that is not 0, and key and value of

@@ -3,12 +3,12 @@
 ghost use Rattle.std.specs.Prelude.{◌≡◌};
 ghost use Rattle.split_op.specs.Steps.{go, back, searched, looked, finished, put_to, stored, given_to, next_in, last_slot};
 
-use crate::batch::{BLOCK_WORDS, Batch, after, due};
+use crate::batch::{Batch, after, due};
 use crate::op::SplitOp;
 use crate::seek::copied_from;
 use crate::step::{SplitEnd, SplitStep};
 use enclose_op::{Give, give_from, given};
-use image_layout::{BUCKETS, Geometry, MOST_SEGMENTS};
+use image_layout::{BLOCK_WORDS, BUCKETS, Geometry, MOST_SEGMENTS};
 use op_core::{Ans, Why};
 use rounds::Rounds;
 use segment_head::word::{FREE, state_of};

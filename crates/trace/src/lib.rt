@@ -11,4 +11,4 @@ pub use laws::{
     events_add, fences_settle, media_by_events, media_by_progress, settled_by_progress,
     settled_values,
 };
-pub use lines::{LINE, MOST_UNFENCED, line_of};
+pub use lines::{LINE, LINE_WORDS, MOST_UNFENCED, line_of};

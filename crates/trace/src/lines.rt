@@ -5,6 +5,8 @@ ghost use Rattle.trace.specs.Events.{line_of};
 
 /// How many words a line has.
 pub const LINE: u64 = 8;
+/// That many, as a place among words that are held.
+pub const LINE_WORDS: usize = LINE as usize;
 
 /// How many lines a caller may have flushed and not fenced.
 pub const MOST_UNFENCED: u8 = 8;

@@ -1,5 +1,5 @@
 -- What finding the segment of a hash tells.
-use Rattle.std.specs.Prelude.{◌≡◌, ◌≢◌, true, false, ℕ, ◌<◌, ◌≤◌, Some, List, [], ◌∷◌}
+use Rattle.std.specs.Prelude.{◌≡◌, ◌≢◌, true, false, ℕ, ◌<◌, ◌≤◌, Some, List, ◌∷◌}
 use Rattle.hash_word.specs.Hash.{index_of}
 use Rattle.segment_head.specs.HeadWord.{version_in, HasLiveState}
 use Rattle.image_layout.specs.Places.{Shape, root_word, entry_at, header_word}
@@ -9,7 +9,8 @@ use Rattle.op_core.specs.declared.want.Want.TheVariants.{Load}
 use Rattle.bucket_words.specs.Owners.{owner_of}
 use Rattle.world.specs.Facts.{Fact, Lives, Current, Rooted}
 use Rattle.world.specs.Ground.{Ground, version_of}
-use Rattle.world.specs.Views.{Glance, View, Has}
+use Rattle.world.specs.Kinds.{noted_header}
+use Rattle.world.specs.Views.{View, Has}
 use Rattle.vlock.specs.declared.knows.Watch.{Watch}
 use Rattle.vlock.specs.declared.find.FindReply.{FindReply}
 use Rattle.vlock.specs.declared.find.FindReply.TheVariants.{Found, Astray, Stale}
@@ -35,10 +36,6 @@ pub record WasOwner (site : Ground) (v : View) (segment header hash : ℕ) : Typ
 abbrev pub three_loads : Shape → ℕ → ℕ → ℕ → ℕ → List (Want × ℕ) → List (Want × ℕ)
 three_loads shape hash root segment header took =
     (Load (header_word shape segment), header) ∷ (Load (entry_at root (index_of root hash)), segment) ∷ (Load root_word, root) ∷ took
-
--- the note of a header
-abbrev pub noted_header : Shape → ℕ → ℕ → Glance
-noted_header shape segment header = record { word = header_word shape segment; value = header; words = []; again = false }
 
 -- THE WAY WAS GONE to a live segment: the root depth, the entry of the hash in its directory and the header of the segment that the entry named
 -- were loaded, each as it was at a moment. The view relies on what it relied on before, on the depth, and on the segment to be live; it has

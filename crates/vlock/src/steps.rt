@@ -10,9 +10,8 @@ ghost use Rattle.vlock.specs.Plays.{IsSeatOf, MayDo, Tells, Answers};
 use crate::table::{Acting, Acts, Image, ImageSeat};
 use image_layout::Geometry;
 use op_core::{Ans, Want};
+use trace::LINE_WORDS;
 
-/// How many words a line has.
-const LINE: usize = trace::LINE as usize;
 /// How many words behind the commit counter the power word stands.
 const POWER: usize = image_layout::POWER as usize;
 
@@ -44,7 +43,7 @@ pub fn step<N: Acting, E>(
             image.compare_exchange::<Acts<N>>(seat, word as usize, old, new)
         }
         Want::Draw => image.fetch_add::<Acts<N>>(seat, counter, 1),
-        Want::Flush(line) => image.load::<Acts<N>>(seat, LINE * line as usize),
+        Want::Flush(line) => image.load::<Acts<N>>(seat, LINE_WORDS * line as usize),
         Want::Fence => image.load::<Acts<N>>(seat, counter),
         Want::Power => image.load::<Acts<N>>(seat, counter + POWER),
         Want::Done => unreachable!(),

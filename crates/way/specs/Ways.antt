@@ -2,7 +2,7 @@
 use Rattle.std.specs.Prelude.{ℕ, nat_le, nat_lt, Bool, ◌==◌, ◌&&◌, if◌then◌else◌}
 use Rattle.image_layout.specs.Places.{Shape, root_word, entry_at, header_word, bucket_at}
 use Rattle.image_layout.specs.Volatile.{segment_guard}
-use Rattle.hash_word.specs.Hash.{index_of, top}
+use Rattle.hash_word.specs.Hash.{hash_bits, index_of, top}
 use Rattle.segment_head.specs.HeadWord.{state_in, depth_in, pattern_in, normal}
 
 -- the entry of a hash in the directory of a depth; a depth that the image has not gives the root's word
@@ -23,7 +23,7 @@ bucket_word shape segment b = if nat_lt segment shape.segments then bucket_at sh
 
 -- a header covers a hash whose top bits, as many as its depth, are its pattern
 abbrev pub is_covering : ℕ → ℕ → Bool
-is_covering h1 hash = nat_le (depth_in h1) 64 && (top (depth_in h1) hash == pattern_in h1)
+is_covering h1 hash = nat_le (depth_in h1) hash_bits && (top (depth_in h1) hash == pattern_in h1)
 
 -- a header leads to the hash where it is that of a normal segment and covers it: such a segment owns the hash
 abbrev pub is_leading : ℕ → ℕ → Bool

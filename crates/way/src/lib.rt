@@ -10,7 +10,7 @@ ghost use Rattle.image_layout.specs.Places.{words_of, root_word, buckets, most_w
 ghost use Rattle.sound_image.specs.Records.{key_hash};
 ghost use Rattle.way.specs.Ways.{entry_word, head_word, bucket_word};
 
-use hash_word::{Kind, dir_index, hash};
+use hash_word::{Kind, dir_index, hash, HASH_BITS};
 use image_layout::{Geometry, HEADER, ROOT_WORD};
 use segment_head::word::{NORMAL, depth_of, pattern_of, state_of};
 
@@ -66,7 +66,7 @@ pub fn is_covering(head: u64, hash: u64) -> bool
     ensures { result ≡ Rattle.way.specs.Ways.is_covering head hash }
 {
     let depth = depth_of(head);
-    depth <= 64 && dir_index(hash, depth) == u64::from(pattern_of(head))
+    depth <= HASH_BITS && dir_index(hash, depth) == u64::from(pattern_of(head))
 }
 
 /// Whether a header leads to a hash: it is that of a normal segment, and covers it.

@@ -1,7 +1,7 @@
 //! The two halves of a segment that is split, as they are stored.
 
 ghost use Rattle.std.specs.Prelude.{◌≡◌, ℕ, ◌<◌, ◌≤◌, ◌↔◌};
-ghost use Rattle.hash_word.specs.Hash.{Covers};
+ghost use Rattle.hash_word.specs.Hash.{hash_bits, Covers};
 ghost use Rattle.image_layout.specs.Places.{buckets};
 ghost use Rattle.sound_image.specs.Records.{key_hash};
 
@@ -17,7 +17,7 @@ impl Loaded {
     /// The segment with those records alone that a segment of this depth and pattern covers, and without overflow notes: the copy that a
     /// split makes.
     pub fn half(&self, geometry: &Geometry, depth: u8, pattern: u32) -> Loaded
-        requires { depth ≤ 64 }
+        requires { depth ≤ hash_bits }
         ensures is { (b : ℕ) → b < buckets → first_in result b
             ≡ copied_mark (first_in self.now b) (covered_set (first_in self.now) (key_in self.now) (key_hash geometry.now) depth pattern b) }
         ensures records { (b r k : ℕ) → Stands (first_in result) (key_in result) b r k
@@ -38,7 +38,7 @@ impl Loaded {
     /// The segment without the records that a segment of this depth and pattern covers, and with its overflow notes as they are: what a
     /// split leaves of it.
     pub fn without_half(&self, geometry: &Geometry, depth: u8, pattern: u32) -> Loaded
-        requires { depth ≤ 64 }
+        requires { depth ≤ hash_bits }
         ensures is { (b : ℕ) → b < buckets → first_in result b
             ≡ cleared_mark (first_in self.now b) (covered_set (first_in self.now) (key_in self.now) (key_hash geometry.now) depth pattern b) }
         ensures records { (b r k : ℕ) → Stands (first_in result) (key_in result) b r k

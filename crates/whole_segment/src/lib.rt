@@ -17,7 +17,7 @@ pub use laws::{
     loaded_segments_are_of_images, marks_are_halves, repairs_mend, rounds_keep_their_lines,
     rounds_settle, segments_are_halved, tests_tell,
 };
-pub use loaded::{KEYS, Loaded};
+pub use loaded::Loaded;
 pub use marks::{cleared_mark, copied_mark};
 pub use notes::{Notes, rebuilt_notes};
 pub use round::{MOST_LINES, Round};

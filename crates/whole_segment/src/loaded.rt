@@ -2,18 +2,15 @@
 
 ghost use Rattle.std.specs.Prelude.{◌≡◌, ◌≢◌, ℕ, ◌+◌, ◌*◌, ◌^◌, ◌<◌, ◌≤◌, ◌↔◌, IsTrue, length};
 ghost use Rattle.bucket_meta.specs.Bucket.{allocated, record_slots};
-ghost use Rattle.hash_word.specs.Hash.{Covers};
+ghost use Rattle.hash_word.specs.Hash.{hash_bits, Covers};
 ghost use Rattle.image_layout.specs.Places.{buckets};
 ghost use Rattle.sound_image.specs.Records.{key_hash};
 
 use bucket_meta::words::{SLOTS, is_taken};
 use hash_word::covers;
-use image_layout::{BUCKETS, Geometry};
+use image_layout::{BUCKETS, Geometry, SEGMENT_SLOTS};
 use way::key_hash;
 use word_bits::mask;
-
-/// How many record slots a segment has.
-pub const KEYS: usize = BUCKETS as usize * SLOTS as usize;
 
 /// What is loaded of a segment.
 #[derive(Clone, Copy)]
@@ -23,7 +20,7 @@ pub struct Loaded {
     /// Word 3 of each bucket: fingerprints of its slots and of its notes.
     pub third: [u64; BUCKETS as usize],
     /// The keys in all record slots: that of slot `r` of bucket `b` is number `14 * b + r`.
-    pub keys: [u64; KEYS],
+    pub keys: [u64; SEGMENT_SLOTS as usize],
     pub ghost each_first: { length first ≡ buckets },
     pub ghost each_third: { length third ≡ buckets },
     pub ghost each_key: { length keys ≡ record_slots * buckets },
@@ -42,7 +39,7 @@ impl Loaded {
         Loaded {
             first: [0; BUCKETS as usize],
             third: [0; BUCKETS as usize],
-            keys: [0; KEYS],
+            keys: [0; SEGMENT_SLOTS as usize],
         }
     }
 
@@ -111,7 +108,7 @@ impl Loaded {
     fn is_covered(&self, geometry: &Geometry, bucket: u8, slot: u8, depth: u8, pattern: u32) -> bool
         requires bucket { bucket < buckets }
         requires slot { slot < record_slots }
-        requires depth { depth ≤ 64 }
+        requires depth { depth ≤ hash_bits }
         ensures { IsTrue result ↔ IsCovered (first_in self.now) (key_in self.now) (key_hash geometry.now) depth pattern bucket slot }
     {
         self.is_taken(bucket, slot) && covers(depth, pattern, self.hash(geometry, bucket, slot))
@@ -121,7 +118,7 @@ impl Loaded {
     /// pattern `2 * p + 1` go to the 1-side in a split of a segment of depth `d` and pattern `p`.
     pub fn covered_slots(&self, geometry: &Geometry, bucket: u8, depth: u8, pattern: u32) -> u64
         requires bucket { bucket < buckets }
-        requires depth { depth ≤ 64 }
+        requires depth { depth ≤ hash_bits }
         ensures set { IsSetOf (IsCovered (first_in self.now) (key_in self.now) (key_hash geometry.now) depth pattern bucket) result }
         ensures is { result ≡ covered_set (first_in self.now) (key_in self.now) (key_hash geometry.now) depth pattern bucket }
     {

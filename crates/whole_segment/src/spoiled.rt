@@ -2,6 +2,7 @@
 
 ghost use Rattle.std.specs.Prelude.{◌≡◌, ℕ, ◌≤◌, ◌<◌, ◌+◌, ◌↔◌, IsTrue};
 ghost use Rattle.bucket_meta.specs.Bucket.{record_slots};
+ghost use Rattle.hash_word.specs.Hash.{hash_bits};
 ghost use Rattle.image_layout.specs.Places.{homes, buckets, slots_of_key};
 ghost use Rattle.sound_image.specs.Records.{key_hash};
 ghost use Rattle.whole_segment.specs.Order.{bucket_at, position_of};
@@ -88,7 +89,7 @@ impl Loaded {
     fn is_spoiled(&self, geometry: &Geometry, bucket: u8, slot: u8, depth: u8, pattern: u32) -> bool
         requires bucket { bucket < buckets }
         requires slot { slot < record_slots }
-        requires depth { depth ≤ 64 }
+        requires depth { depth ≤ hash_bits }
         ensures { IsTrue result ↔ IsSpoiled (first_in self.now) (key_in self.now) (key_hash geometry.now) depth pattern bucket slot }
     {
         self.is_taken(bucket, slot)
@@ -100,7 +101,7 @@ impl Loaded {
     /// cover, and of a key that stands twice all but the first in the order home, probing bucket, stash, slots ascending.
     pub fn spoiled_slots(&self, geometry: &Geometry, bucket: u8, depth: u8, pattern: u32) -> u64
         requires bucket { bucket < buckets }
-        requires depth { depth ≤ 64 }
+        requires depth { depth ≤ hash_bits }
         ensures set { IsSetOf (IsSpoiled (first_in self.now) (key_in self.now) (key_hash geometry.now) depth pattern bucket) result }
         ensures is { result ≡ spoiled_set (first_in self.now) (key_in self.now) (key_hash geometry.now) depth pattern bucket }
     {
@@ -115,7 +116,7 @@ impl Loaded {
 
     /// The segment with its spoiled slots cleared in all buckets, and with its overflow notes as they are: what a repair leaves of it.
     pub fn mended(&self, geometry: &Geometry, depth: u8, pattern: u32) -> Loaded
-        requires { depth ≤ 64 }
+        requires { depth ≤ hash_bits }
         ensures is { (b : ℕ) → b < buckets → first_in result b
             ≡ cleared_mark (first_in self.now b) (spoiled_set (first_in self.now) (key_in self.now) (key_hash geometry.now) depth pattern b) }
         ensures mended { IsMended (first_in self.now) (first_in result) (key_in self.now) (key_hash geometry.now) depth pattern }

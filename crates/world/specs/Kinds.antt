@@ -1,9 +1,10 @@
 -- The kinds of step: why an event is made, with its numbers. For each: which event it is, and what the stepping view becomes.
-use Rattle.std.specs.Prelude.{◌-◌, ◌==◌, ◌&&◌, ℕ, suc, ◌+◌, ◌*◌, ◌^◌, nat_lt, Bool, true, false, Option, None, Some, List, [], ◌∷◌, ◌++◌, length, if◌then◌else◌}
+use Rattle.std.specs.Prelude.{◌==◌, ◌&&◌, ℕ, suc, ◌+◌, nat_lt, Bool, true, false, Option, None, Some, List, [], ◌∷◌, ◌++◌, length, if◌then◌else◌}
 use Rattle.op_core.specs.declared.want.Want.{Want}
 use Rattle.op_core.specs.declared.want.Want.TheVariants.{Load, Store, Exchange, Flush, Fence, Draw, Power}
 use Rattle.trace.specs.Events.{line_of}
 use Rattle.bucket_meta.specs.Bucket.{lock_bit, locked}
+use Rattle.hash_word.specs.Hash.{first_hash_of}
 use Rattle.segment_head.specs.HeadWord.{version_in, depth_in, pattern_in, is_live}
 use Rattle.image_layout.specs.Places.{Shape, block, root_word, entry_at, header_word}
 use Rattle.image_layout.specs.Volatile.{counter_word, power_word}
@@ -184,9 +185,16 @@ with_answer true (Some a) v = with_reply v (next_entry v (Get a.key) (shown a.va
 abbrev pub validated : View → View
 validated v = with_answer (all_again v.notes) v.answer v
 
+-- the note of a word that was found to have this value, and that of a header
+abbrev pub new_note : ℕ → ℕ → Glance
+new_note word value = record { word = word; value = value; words = []; again = false }
+
+abbrev pub noted_header : Shape → ℕ → ℕ → Glance
+noted_header shape s head = new_note (header_word shape s) head
+
 -- a view that found a lock free, or not
 abbrev pub with_look : Bool → ℕ → ℕ → View → View
-with_look true lock n v = record v { notes = record { word = lock; value = n; words = []; again = false } ∷ v.notes }
+with_look true lock n v = record v { notes = new_note lock n ∷ v.notes }
 with_look false lock n v = record v { notes = []; answer = None }
 
 -- a view that found room in the commit counter, or not
@@ -217,7 +225,7 @@ with_draw call n v = record v {
 
 -- the first hash of a region of this depth and pattern
 abbrev pub first_of_region : ℕ → ℕ → ℕ
-first_of_region depth pattern = pattern * 2 ^ (64 - depth)
+first_of_region depth pattern = first_hash_of depth pattern
 
 -- what a header tells who looks for a version: where it is live and has that version, it is current, and where its region begins
 abbrev pub says_current : Bool → ℕ → ℕ → List Fact
@@ -228,7 +236,7 @@ says_current false s head = []
 abbrev pub with_head : Shape → ℕ → ℕ → ℕ → View → View
 with_head shape s version head v = record v {
   facts = says_current (is_live head && (version_in head == version)) s head ++ v.facts;
-  notes = record { word = header_word shape s; value = head; words = []; again = false } ∷ v.notes;
+  notes = noted_header shape s head ∷ v.notes;
 }
 
 -- the view after, by the word that was found

@@ -13,7 +13,7 @@ use Rattle.engine.specs.Laws.{opened, TurnsKeep, CallsAreScripts}
 use Rattle.engine.specs.Sessions.{CutIsSession}
 
 -- two images that say the same shape begin alike
-pub same_shape : (shape : Shape) (old new : List ℕ) → SaysShape shape old → SaysShape shape new → (i : ℕ) → i < 4 → slice_index new i ≡ slice_index old i
+pub same_shape : (shape : Shape) (old new : List ℕ) → SaysShape shape (slice_index old) → SaysShape shape (slice_index new) → (i : ℕ) → i < 4 → slice_index new i ≡ slice_index old i
 same_shape shape old new o n zero low = n.magic_word ∙ sym o.magic_word
 same_shape shape old new o n (suc zero) low = n.format ∙ sym o.format
 same_shape shape old new o n (suc (suc zero)) low = n.segments ∙ sym o.segments

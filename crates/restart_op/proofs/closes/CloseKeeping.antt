@@ -123,7 +123,7 @@ module _ (site : Ground) (start : Words) (world : World) (quiet : AllAreQuiet si
   clear_now : was state_word / 2 ^ 8 % 2 ≡ 0
   clear_now = quiet.structure.not_clean
 
-  says_by : (medium : List ℕ) → ((i : ℕ) → i < 4 → slice_index medium i ≡ site.front i) → SaysShape shape medium
+  says_by : (medium : List ℕ) → ((i : ℕ) → i < 4 → slice_index medium i ≡ site.front i) → SaysShape shape (slice_index medium)
   says_by medium same = record {
     magic_word = same 0 (omega arith) ∙ quiet.says.magic_word;
     format = same 1 (omega arith) ∙ quiet.says.format;

@@ -2,5 +2,5 @@
 use Rattle.std.proofs.Common.{rules}
 use Rattle.way.proofs.is_covering.Goals as goal
 
-pub returns-then-depth-le64 : goal.returns-then-depth-le64
-returns-then-depth-le64 c = search rules
+pub returns-then-depth-le-HASH_BITS : goal.returns-then-depth-le-HASH_BITS
+returns-then-depth-le-HASH_BITS c = search rules

@@ -3,7 +3,7 @@ use Rattle.std.specs.Prelude.{◌≡◌, ◌≢◌, ℕ, suc, ◌^◌, ◌<◌, 
 use Rattle.trace.specs.Events.{Words, with_word}
 use Rattle.hash_word.specs.Hash.{home_of}
 use Rattle.bucket_meta.specs.Bucket.{lock_bit}
-use Rattle.segment_head.specs.HeadWord.{state_in, depth_in, pattern_in, normal, splitting, HasLiveState}
+use Rattle.segment_head.specs.HeadWord.{state_in, depth_in, pattern_in, normal, splitting, HasLiveState, link_to}
 use Rattle.image_layout.specs.Places.{Shape, root_word, state_word, bucket_at, homes, buckets}
 use Rattle.sound_image.specs.Segments.{frame_of}
 use Rattle.sound_image.specs.Records.{key_hash, HasExactNotes}
@@ -161,7 +161,7 @@ module _ (site : Ground) where
   MayAt (closes s i) v = Has (Segment s) v.areas × HoldsAll site.shape v s × HoldsWord site.shape v i
   MayAt (finds_free n) v = Has Allocation v.areas × (n < site.shape.segments) × IsFirmIn v (IsInSlot site.shape n)
   MayAt (finds_link p depth pattern) v = IsStaleSplit v p depth pattern × ((y : ℕ) → IsLoose v (link_word site.shape p, y) → ⊥)
-  MayAt (finds_side p n depth pattern) v = IsStaleSplit v p depth pattern × KnowsWord v (link_word site.shape p) (suc n) × (n < site.shape.segments) × HasNoSides v.areas
+  MayAt (finds_side p n depth pattern) v = IsStaleSplit v p depth pattern × KnowsWord v (link_word site.shape p) (link_to n) × (n < site.shape.segments) × HasNoSides v.areas
   MayAt (finds_entry e i) v = Has Directory v.areas × Has (root_word, e) v.known × (i < 2 ^ e)
   MayAt (finds_begin s) v = Has (Lives s) v.facts
   MayAt (reads i) v = HoldsWord site.shape v i

@@ -4,7 +4,8 @@ use Rattle.std.specs.Prelude.{◌≡◌, ◌≢◌, ℕ, suc, ◌+◌, ◌*◌, 
 use Rattle.trace.specs.Events.{Words}
 use Rattle.hash_word.specs.Hash.{Covers}
 use Rattle.bucket_meta.specs.Bucket.{lock_bit, record_slots, allocated, member}
-use Rattle.segment_head.specs.HeadWord.{version_in, state_in, depth_in, pattern_in, free, fresh, normal, splitting}
+use Rattle.segment_head.specs.HeadWord.{version_in, state_in, depth_in, pattern_in, free, fresh, normal, splitting, link_to}
+pub use Rattle.segment_head.specs.SplitHeads.{side_depth_in, side_pattern_in}
 use Rattle.image_layout.specs.Places.{block, root_word, entry_at, bucket_at, homes, buckets}
 use Rattle.sound_image.specs.Records.{key_hash, HasExactNotes}
 use Rattle.bucket_words.specs.Buckets.{key_in}
@@ -21,13 +22,6 @@ use Rattle.world.specs.areas.Rows.{HasNoSides, finishes, unmarks, frees, renews}
 use Rattle.world.specs.areas.Kinds.{sets, moves, settles}
 use Rattle.world.specs.areas.Asking.{MayBeNewest, KnowsFree, IsFirmIn, MayAt}
 use Rattle.world.specs.areas.Splitting.{IsSettledHolder, KnowsBuckets, IsHeader, ClearsRegion}
-
--- the depth and the pattern of the 1-side of a segment with this header, and the first hash of a region
-abbrev pub side_depth_in : ℕ → ℕ
-side_depth_in head = suc (depth_in head)
-
-abbrev pub side_pattern_in : ℕ → ℕ
-side_pattern_in head = 2 * pattern_in head + 1
 
 -- A STALE SEGMENT OF ONE'S OWN: with its guard, no lock is held and nothing is under way; its header is known and settled, and its version is not the
 -- image's
@@ -58,7 +52,7 @@ module _ (site : Ground) (s : ℕ) (word : Words) where
   -- it is splitting, and is known to have linked this slot
   pub record IsSplittingInto (v : View) (n : ℕ) : Type 0 where
     pub splits : state_in head_now ≡ splitting
-    pub linked : KnowsWord v (link_word site.shape s) (suc n)
+    pub linked : KnowsWord v (link_word site.shape s) (link_to n)
 
 -- ---- A SPLIT IS TAKEN BACK
 pub record MayTakeBack (site : Ground) (v : View) : Type 0 where

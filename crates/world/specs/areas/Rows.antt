@@ -1,7 +1,7 @@
 -- How headers move: for each row what is stored, what its holder must have, and which areas it has after. And the stores to other words.
-use Rattle.std.specs.Prelude.{◌≡◌, ◌≢◌, ℕ, suc, ◌+◌, ◌*◌, ◌<◌, List, ◌∷◌, set}
+use Rattle.std.specs.Prelude.{◌≡◌, ◌≢◌, ℕ, ◌+◌, ◌*◌, ◌<◌, List, ◌∷◌, set}
 use Rattle.trace.specs.Events.{Words, with_word}
-use Rattle.segment_head.specs.HeadWord.{version_in, depth_in, pattern_in, free, normal, splitting}
+use Rattle.segment_head.specs.HeadWord.{version_in, depth_in, pattern_in, free, normal, splitting, link_to}
 use Rattle.image_layout.specs.Places.{Shape}
 use Rattle.sound_image.specs.Segments.{Frame, frame_of, state_at, depth_at, pattern_at}
 use Rattle.segment_table.specs.Stores.{TakesSlot, FreesSlot, BeginsSplit, GoesLive, EndsSplit, DropsSplit, Renews}
@@ -45,13 +45,13 @@ module _ (site : Ground) (words : Words) where
   pub record IsSideOf (p s x : ℕ) : Type 0 where
     pub slot : p < site.shape.segments
     pub splits : state_at now p ≡ splitting
-    pub linked : now.link p ≡ suc s
+    pub linked : now.link p ≡ link_to s
     pub depth : depth_in x ≡ depth_at now p + 1
     pub pattern : pattern_in x ≡ 2 * pattern_at now p + 1
 
   -- WHAT IS STORED: x to the header word of slot s, where the newest words are these
   abbrev pub IsRow : Row → ℕ → ℕ → Type 0
-  IsRow (marks n) s x = BeginsSplit now s x × (now.link s ≡ suc n) × HasSameVersion s x
+  IsRow (marks n) s x = BeginsSplit now s x × (now.link s ≡ link_to n) × HasSameVersion s x
   IsRow (news p) s x = TakesSlot now site.shape.depth s x × IsSideOf p s x × (version_in x ≡ version_of site)
   IsRow (goes_live p) s x = GoesLive now p s x × (version_in x ≡ version_of site)
   IsRow finishes s x = EndsSplit now s x × HasSameVersion s x

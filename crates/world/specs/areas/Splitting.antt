@@ -4,8 +4,9 @@ use Rattle.std.specs.Prelude.{◌≡◌, ◌≢◌, ℕ, suc, ◌+◌, ◌*◌, 
 use Rattle.trace.specs.Events.{Words}
 use Rattle.hash_word.specs.Hash.{Covers}
 use Rattle.bucket_meta.specs.Bucket.{lock_bit, record_slots, allocated, member}
-use Rattle.segment_head.specs.HeadWord.{version_in, state_in, depth_in, pattern_in, free, fresh, normal, splitting, HasLiveState}
+use Rattle.segment_head.specs.HeadWord.{version_in, state_in, depth_in, pattern_in, free, fresh, normal, splitting, HasLiveState, link_to}
 use Rattle.image_layout.specs.Places.{Shape, block, root_word, entry_at, bucket_at, key_at, value_at, homes, buckets}
+use Rattle.segment_head.specs.SplitHeads.{side_depth_in, side_pattern_in}
 use Rattle.sound_image.specs.Records.{key_hash, HasExactNotes}
 use Rattle.bucket_words.specs.Buckets.{IsTaken, key_in}
 use Rattle.bucket_words.specs.Hits.{Hit}
@@ -74,13 +75,13 @@ pub record IsHeader (x state depth pattern version : ℕ) : Type 0 where
 -- A SPLIT BEGINS: the segment is marked, with the slot that it has linked, and that slot becomes its new side
 pub record MayBegin (site : Ground) (v : View) : Type 0 where
   pub marks : (s n x : ℕ) (word : Words) → IsSettledHolder site.shape v → Has (Whole s) v.areas → Has (Free n) v.areas → KnowsHead site.shape v s word
-      → state_in (word (header_word site.shape s)) ≡ normal → word (link_word site.shape s) ≡ suc n
+      → state_in (word (header_word site.shape s)) ≡ normal → word (link_word site.shape s) ≡ link_to n
       → IsHeader x splitting (depth_in (word (header_word site.shape s))) (pattern_in (word (header_word site.shape s))) (version_in (word (header_word site.shape s)))
       → MayAt site (moves (marks n) s x) v
   pub news : (s n x : ℕ) (word : Words) → IsSettledHolder site.shape v → Has (Whole s) v.areas → Has (Free n) v.areas → KnowsHead site.shape v s word → KnowsHead site.shape v n word
-      → state_in (word (header_word site.shape s)) ≡ splitting → word (link_word site.shape s) ≡ suc n
+      → state_in (word (header_word site.shape s)) ≡ splitting → word (link_word site.shape s) ≡ link_to n
       → state_in (word (header_word site.shape n)) ≡ free → word (link_word site.shape n) ≡ 0 → depth_in (word (header_word site.shape s)) < site.shape.depth
-      → IsHeader x fresh (suc (depth_in (word (header_word site.shape s)))) (2 * pattern_in (word (header_word site.shape s)) + 1) (version_of site)
+      → IsHeader x fresh (side_depth_in (word (header_word site.shape s))) (side_pattern_in (word (header_word site.shape s))) (version_of site)
       → MayAt site (moves (news s) n x) v
 
 -- ---- THE SIDE GOES LIVE
@@ -93,10 +94,10 @@ pub record IsReadyToLive (site : Ground) (v : View) (s n : ℕ) (word : Words) :
   pub directory : Has Directory v.areas
   pub head : KnowsHead site.shape v s word
   pub splits : state_in (word (header_word site.shape s)) ≡ splitting
-  pub linked : word (link_word site.shape s) ≡ suc n
+  pub linked : word (link_word site.shape s) ≡ link_to n
   pub side_slot : n < site.shape.segments
   pub side_head : KnowsWord v (header_word site.shape n) (word (header_word site.shape n))
-  pub new : IsHeader (word (header_word site.shape n)) fresh (suc (depth_in (word (header_word site.shape s)))) (2 * pattern_in (word (header_word site.shape s)) + 1) (version_of site)
+  pub new : IsHeader (word (header_word site.shape n)) fresh (side_depth_in (word (header_word site.shape s))) (side_pattern_in (word (header_word site.shape s))) (version_of site)
   pub root_depth : ℕ
   pub root : KnowsWord v root_word root_depth
   pub shallow : depth_in (word (header_word site.shape s)) < root_depth
@@ -127,12 +128,12 @@ pub record MayDirect (site : Ground) (v : View) : Type 0 where
   -- the fence after the last one: of the 1-side of the segment that was split all entries are known to name its side, another slot, which owns that; so they
   -- name a deeper segment than it is, and it claims none of it
   pub settled : (s n g : ℕ) (word : Words) → HasNoSides v.areas → s ≢ n → KnowsHead site.shape v s word
-      → state_in (word (header_word site.shape s)) ≡ splitting → word (link_word site.shape s) ≡ suc n
+      → state_in (word (header_word site.shape s)) ≡ splitting → word (link_word site.shape s) ≡ link_to n
       → KnowsWord v root_word g → depth_in (word (header_word site.shape s)) < g
-      → Has (Owns n (suc (depth_in (word (header_word site.shape s)))) (2 * pattern_in (word (header_word site.shape s)) + 1)) v.facts
-      → ((i : ℕ) → i < 2 ^ g → i / 2 ^ (g - suc (depth_in (word (header_word site.shape s)))) ≡ 2 * pattern_in (word (header_word site.shape s)) + 1 → Has (entry_at g i, n) v.known × ((y : ℕ) → Has (entry_at g i, y) v.dirty → ⊥))
-      → MayAt site (settles (Deep (depth_in (word (header_word site.shape s))) (suc (depth_in (word (header_word site.shape s)))) (2 * pattern_in (word (header_word site.shape s)) + 1)
-      ∷ Lacks s (suc (depth_in (word (header_word site.shape s)))) (2 * pattern_in (word (header_word site.shape s)) + 1) ∷ [])) v
+      → Has (Owns n (side_depth_in (word (header_word site.shape s))) (side_pattern_in (word (header_word site.shape s)))) v.facts
+      → ((i : ℕ) → i < 2 ^ g → i / 2 ^ (g - side_depth_in (word (header_word site.shape s))) ≡ side_pattern_in (word (header_word site.shape s)) → Has (entry_at g i, n) v.known × ((y : ℕ) → Has (entry_at g i, y) v.dirty → ⊥))
+      → MayAt site (settles (Deep (depth_in (word (header_word site.shape s))) (side_depth_in (word (header_word site.shape s))) (side_pattern_in (word (header_word site.shape s)))
+      ∷ Lacks s (side_depth_in (word (header_word site.shape s))) (side_pattern_in (word (header_word site.shape s))) ∷ [])) v
 
 -- ---- THE REST OF THE SPLIT
 -- the view has a segment whole that is no side of its own, and with it the lock of a bucket
@@ -156,9 +157,9 @@ pub record MayFinish (site : Ground) (v : View) : Type 0 where
   -- the split ends: the segment lacks its 1-side, whose entries name deeper ones, and no side is held
   pub end : (s x : ℕ) (word : Words) → IsSettledHolder site.shape v → Has (Whole s) v.areas → Has (Segment s) v.areas → HasNoSides v.areas → KnowsHead site.shape v s word
       → state_in (word (header_word site.shape s)) ≡ splitting
-      → Has (Lacks s (suc (depth_in (word (header_word site.shape s)))) (2 * pattern_in (word (header_word site.shape s)) + 1)) v.facts
-      → Has (Deep (depth_in (word (header_word site.shape s))) (suc (depth_in (word (header_word site.shape s)))) (2 * pattern_in (word (header_word site.shape s)) + 1)) v.facts
-      → IsHeader x normal (suc (depth_in (word (header_word site.shape s)))) (2 * pattern_in (word (header_word site.shape s))) (version_in (word (header_word site.shape s)))
+      → Has (Lacks s (side_depth_in (word (header_word site.shape s))) (side_pattern_in (word (header_word site.shape s)))) v.facts
+      → Has (Deep (depth_in (word (header_word site.shape s))) (side_depth_in (word (header_word site.shape s))) (side_pattern_in (word (header_word site.shape s)))) v.facts
+      → IsHeader x normal (side_depth_in (word (header_word site.shape s))) (2 * pattern_in (word (header_word site.shape s))) (version_in (word (header_word site.shape s)))
       → MayAt site (moves finishes s x) v
   -- a word of metadata is stored that has the core of the word there, which is settled: what may be left has that core too
   pub rebuild : (s b m x w : ℕ) → IsSettledHolder site.shape v → HoldsBucketOf site.shape v s b → 1 ≤ m → m ≤ 3
