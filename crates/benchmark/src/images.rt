@@ -4,7 +4,9 @@ ghost use Rattle.std.specs.Prelude.{◌≤◌, length, IfOk};
 ghost use Rattle.sound_image.specs.Image.{IsSoundImage};
 
 use crate::faults::{no_data, no_memory};
-use image_file::{Medium, WORD_BYTES, Words, check, format, from_bytes, from_words, list, to_bytes};
+use image_file::{
+    Medium, WORD_BYTES, Words, check, format, from_bytes, from_words, list, to_bytes,
+};
 use image_layout::Geometry;
 use std::alloc::Global;
 use std::fs::{self, Files, OpenFile};

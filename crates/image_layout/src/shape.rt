@@ -43,8 +43,8 @@ pub const MOST_SEGMENTS: u64 = 16384;
 /// The greatest depth that a directory may have.
 pub const MOST_DEPTH: u64 = 16;
 /// The word where the segments of the largest image begin.
-const FIRST_SEGMENT_OF_LARGEST: u64 =
-    (BLOCK + (1u64 << (MOST_DEPTH + 1)) - 1 + (BLOCK - 1)) / BLOCK * BLOCK;
+const FIRST_SEGMENT_OF_LARGEST: u64 = (BLOCK + (1u64 << (MOST_DEPTH + 1)) - 1 + (BLOCK - 1)) / BLOCK
+    * BLOCK;
 /// The most words that an image may have: those of the largest one.
 pub const MOST_WORDS: u64 = FIRST_SEGMENT_OF_LARGEST + SEGMENT_WORDS * MOST_SEGMENTS;
 /// The greatest kind of hash.

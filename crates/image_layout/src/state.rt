@@ -9,7 +9,7 @@ pub const FIRST_VERSION: u8 = 1;
 /// The clean marker, bit 8 of the state word.
 pub const MARKER: u64 = 0x100;
 
-/// The last version that an image may have; the first is 1.
+/// The last version that an image may have; the first is [`FIRST_VERSION`].
 pub const LAST_VERSION: u8 = 255;
 
 /// The version of the image, 1 to 255 in a sound one.

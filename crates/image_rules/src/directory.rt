@@ -77,7 +77,11 @@ fn first_hash(root: u64, i: u64) -> u64
     requires entry { i < 2 ^ root }
     ensures { result ≡ first_hash_of root i }
 {
-    if root == 0 { 0 } else { i << (HASH_BITS - root) }
+    if root == 0 {
+        0
+    } else {
+        i << (HASH_BITS - root)
+    }
 }
 
 /// The depth of the directory.

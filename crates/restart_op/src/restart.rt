@@ -6,8 +6,8 @@ ghost use Rattle.op_core.specs.declared.want.Want.TheVariants as want;
 ghost use Rattle.restart_op.specs.declared.restart.RestartStep.TheVariants.{Ended};
 ghost use Rattle.restart_op.specs.Restart.{started_for, swept_through, head_word, begun, state_seen, head_stored, head_flushed, heads_fenced, wanted, taken, next_of};
 
-use image_layout::state::{LAST_VERSION, is_marked, version_of, FIRST_VERSION};
-use image_layout::{Geometry, STATE_WORD, HEADER};
+use image_layout::state::{FIRST_VERSION, LAST_VERSION, is_marked, version_of};
+use image_layout::{Geometry, HEADER, STATE_WORD};
 use op_core::{Ans, Machine, Want};
 use segment_head::version::unversioned;
 use trace::{MOST_UNFENCED, line_of};

@@ -1,4 +1,4 @@
-//! The numbers of lines.
+//! Numbers, as lines write them.
 
 use std::num::ParseIntError;
 

@@ -5,7 +5,7 @@ use Rattle.op_core.specs.declared.want.Want.{Want}
 use Rattle.op_core.specs.declared.want.Want.TheVariants.{Store}
 use Rattle.bucket_meta.specs.Bucket.{first_key}
 use Rattle.segment_head.specs.HeadWord.{state_in, free, link_to}
-use Rattle.image_layout.specs.Places.{root_word, words_of, head_at, header_number, bucket_at, buckets, block, segment_words, words_of_buckets}
+use Rattle.image_layout.specs.Places.{root_word, words_of, head_at, header_number, link_number, bucket_at, buckets, block, segment_words, words_of_buckets}
 use Rattle.map_model.specs.declared.call.Call.{Call}
 use Rattle.map_model.specs.declared.entry.Reply.TheVariants.{Full}
 use Rattle.map_model.specs.Changes.{call_of}
@@ -208,7 +208,7 @@ module _ (site : Ground) (here : Site) (call : Call) where
 
     -- a word of the slot that is emptied, by its number: the link, and the words of each bucket before its first key
     abbrev pub IsEmptied : ℕ → Type 0
-    IsEmptied number = (number ≡ 2) ⊎ ((block ≤ number) × (number < segment_words) × (number % block < first_key))
+    IsEmptied number = (number ≡ link_number) ⊎ ((block ≤ number) × (number < segment_words) × (number % block < first_key))
 
     -- THE WORDS BEFORE ONE are emptied, and the lock words from there on are as they were loaded
     pub record IsEmptying (number : ℕ) (v : View) : Type 0 where

@@ -28,8 +28,11 @@ fn with_marks(
             words[BUCKET_WORDS * at + 3] = notes.third[at];
         } else {
             words[BUCKET_WORDS * at + 1] = half.first[at];
-            words[BUCKET_WORDS * at + 3] =
-                bits_of(kept[BUCKET_WORDS * at + 3], 0, NOTE_FINGERS_FROM);
+            words[BUCKET_WORDS * at + 3] = bits_of(
+                kept[BUCKET_WORDS * at + 3],
+                0,
+                NOTE_FINGERS_FROM,
+            );
         }
     }
     words

@@ -5,7 +5,7 @@ ghost use Rattle.op_core.specs.declared.want.Want.TheVariants as want;
 ghost use Rattle.split_op.specs.Fits.{hands_on_at};
 ghost use Rattle.split_op.specs.Steps.{split_of, wanted, taken, end_of};
 
-use crate::batch::{BLOCK_WORDS, HEADER_NUMBER, due, slot_word};
+use crate::batch::{HEADER_NUMBER, due, slot_word};
 use crate::copied::Copied;
 use crate::copy::side_words;
 use crate::step::{SplitEnd, SplitStep};

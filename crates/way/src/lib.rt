@@ -10,7 +10,7 @@ ghost use Rattle.image_layout.specs.Places.{words_of, root_word, buckets, most_w
 ghost use Rattle.sound_image.specs.Records.{key_hash};
 ghost use Rattle.way.specs.Ways.{entry_word, head_word, bucket_word};
 
-use hash_word::{Kind, dir_index, hash, HASH_BITS};
+use hash_word::{HASH_BITS, Kind, dir_index, hash};
 use image_layout::{Geometry, HEADER, ROOT_WORD};
 use segment_head::word::{NORMAL, depth_of, pattern_of, state_of};
 

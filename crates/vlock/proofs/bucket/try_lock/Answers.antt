@@ -11,14 +11,14 @@ use Rattle.vlock.proofs.bucket.try_lock.Goals as goal
 
 pub take-requires-clause-lock : goal.take-requires-clause-lock
 take-requires-clause-lock c =
-    let e = met_leaves (ground_of c.args.image.now.key) c.args.lock c.meet-free.result c.args.seat.now.me.0 _ c.meet-free.ensures.view c.if-free-eq-SPENT_LOCK.false in
+    let e = met_leaves (ground_of c.args.image.now.key) c.args.lock c.meet-free.result c.args.seat.now.me.0 _ c.meet-free.ensures.view c.if-free.false in
     subst (λ (v : View). IsKnownLock (ground_of c.args.image.now.key) v c.args.lock × MayCall v) (sym e) c.requires.lock
 
 pub take-requires-clause-free : goal.take-requires-clause-free
 take-requires-clause-free c =
-    let e = met_leaves (ground_of c.args.image.now.key) c.args.lock c.meet-free.result c.args.seat.now.me.0 _ c.meet-free.ensures.view c.if-free-eq-SPENT_LOCK.false in
+    let e = met_leaves (ground_of c.args.image.now.key) c.args.lock c.meet-free.result c.args.seat.now.me.0 _ c.meet-free.ensures.view c.if-free.false in
     let was = was_at (ground_of c.args.image.now.key) c.args.lock c.meet-free.result (λ n. of_call (meets_lock c.args.lock)) c.args.seat.now.me.0 _ c.meet-free.ensures.view in
-    (even_of c.meet-free.result c.if-free-eq1.false, c.if-free-eq-SPENT_LOCK.false, subst (λ (v : View). WasAt (ground_of c.args.image.now.key) v c.args.lock c.meet-free.result) (sym e) was)
+    (even_of c.meet-free.result c.if-free-eq1.false, c.if-free.false, subst (λ (v : View). WasAt (ground_of c.args.image.now.key) v c.args.lock c.meet-free.result) (sym e) was)
 
 pub returns-then-free-eq1-clause-lock : goal.returns-then-free-eq1-clause-lock
 returns-then-free-eq1-clause-lock c =
@@ -28,16 +28,16 @@ returns-then-free-eq1-clause-lock c =
       was_at (ground_of c.args.image.now.key) c.args.lock c.meet-free.result (λ n. of_call (meets_lock c.args.lock)) c.args.seat.now.me.0 _ c.meet-free.ensures.view,
     )
 
-pub returns-then-free-eq-SPENT_LOCK-clause-lock : goal.returns-then-free-eq-SPENT_LOCK-clause-lock
-returns-then-free-eq-SPENT_LOCK-clause-lock c = (
-  met_spent (ground_of c.args.image.now.key) c.args.lock c.meet-free.result c.args.seat.now.me.0 _ c.meet-free.ensures.view c.if-free-eq-SPENT_LOCK.true,
-  subst (λ (n : _). WasAt (ground_of c.args.image.now.key) c.args.seat.now.me.0.view c.args.lock n) c.if-free-eq-SPENT_LOCK.true
+pub returns-then-free-clause-lock : goal.returns-then-free-clause-lock
+returns-then-free-clause-lock c = (
+  met_spent (ground_of c.args.image.now.key) c.args.lock c.meet-free.result c.args.seat.now.me.0 _ c.meet-free.ensures.view c.if-free.true,
+  subst (λ (n : _). WasAt (ground_of c.args.image.now.key) c.args.seat.now.me.0.view c.args.lock n) c.if-free.true
       (was_at (ground_of c.args.image.now.key) c.args.lock c.meet-free.result (λ n. of_call (meets_lock c.args.lock)) c.args.seat.now.me.0 _ c.meet-free.ensures.view),
 )
 
-pub returns-else-free-eq-SPENT_LOCK-clause-lock : goal.returns-else-free-eq-SPENT_LOCK-clause-lock
-returns-else-free-eq-SPENT_LOCK-clause-lock c =
-    let e = met_leaves (ground_of c.args.image.now.key) c.args.lock c.meet-free.result c.args.seat.now.me.0 _ c.meet-free.ensures.view c.if-free-eq-SPENT_LOCK.false in
+pub returns-else-free-clause-lock : goal.returns-else-free-clause-lock
+returns-else-free-clause-lock c =
+    let e = met_leaves (ground_of c.args.image.now.key) c.args.lock c.meet-free.result c.args.seat.now.me.0 _ c.meet-free.ensures.view c.if-free.false in
     subst (λ (v : View). LockSays (ground_of c.args.image.now.key) c.args.lock v c.take.result c.take.new.seat.me.0.view) e c.take.ensures.lock
 
 pub returns-then-free-eq1-clause-events : goal.returns-then-free-eq1-clause-events
@@ -46,12 +46,12 @@ returns-then-free-eq1-clause-events c = (
   inl (looked_once (ground_of c.args.image.now.key) c.args.lock c.meet-free.result (λ n. of_call (meets_lock c.args.lock)) c.args.seat.now.me.0 _ c.meet-free.ensures.view),
 )
 
-pub returns-then-free-eq-SPENT_LOCK-clause-events : goal.returns-then-free-eq-SPENT_LOCK-clause-events
-returns-then-free-eq-SPENT_LOCK-clause-events c =
+pub returns-then-free-clause-events : goal.returns-then-free-clause-events
+returns-then-free-clause-events c =
     looked_once (ground_of c.args.image.now.key) c.args.lock c.meet-free.result (λ n. of_call (meets_lock c.args.lock)) c.args.seat.now.me.0 _ c.meet-free.ensures.view
-    ∙ ap (λ (n : ℕ). (Load c.args.lock, n) ∷ c.args.seat.now.me.0.took) c.if-free-eq-SPENT_LOCK.true
+    ∙ ap (λ (n : ℕ). (Load c.args.lock, n) ∷ c.args.seat.now.me.0.took) c.if-free.true
 
-pub returns-else-free-eq-SPENT_LOCK-clause-events : goal.returns-else-free-eq-SPENT_LOCK-clause-events
-returns-else-free-eq-SPENT_LOCK-clause-events c =
-    took_behind c.args.lock c.meet-free.result c.take.result c.args.seat.now.me.0.took c.meet-free.new.seat.me.0.took c.take.new.seat.me.0.took (even_of c.meet-free.result c.if-free-eq1.false) c.if-free-eq-SPENT_LOCK.false
+pub returns-else-free-clause-events : goal.returns-else-free-clause-events
+returns-else-free-clause-events c =
+    took_behind c.args.lock c.meet-free.result c.take.result c.args.seat.now.me.0.took c.meet-free.new.seat.me.0.took c.take.new.seat.me.0.took (even_of c.meet-free.result c.if-free-eq1.false) c.if-free.false
     (looked_once (ground_of c.args.image.now.key) c.args.lock c.meet-free.result (λ n. of_call (meets_lock c.args.lock)) c.args.seat.now.me.0 _ c.meet-free.ensures.view) c.take.ensures.events
