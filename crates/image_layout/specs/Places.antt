@@ -75,10 +75,6 @@ pub record IsShape (shape : Shape) : Type 0 where
   pub depth : shape.depth ≤ most_depth
   pub kind : shape.kind ≤ most_kind
 
--- the shape of the largest image
-abbrev pub largest_shape : Shape
-largest_shape = record { segments = most_segments; depth = most_depth; kind = 0 }
-
 -- the word of the root depth g
 abbrev pub root_word : ℕ
 root_word = 8
@@ -119,7 +115,7 @@ words_of shape = head_at shape shape.segments
 
 -- how many words an image has at most
 abbrev pub most_words : ℕ
-most_words = words_of largest_shape
+most_words = 35258400
 
 -- the first word of bucket b of segment s; the stash buckets stand behind the homes
 abbrev pub bucket_at : Shape → ℕ → ℕ → ℕ

@@ -2,7 +2,7 @@
 
 ghost use Rattle.std.specs.Prelude.{◌≡◌, ◌<◌, ◌≤◌, ◌+◌, ◌*◌, ◌%◌, ◌^◌, IfOk, IfErr};
 ghost use Rattle.image_layout.specs.Volatile.{counter_word, power_word, allocation_guard, directory_guard, segment_guard, all_words_of, guards_from};
-ghost use Rattle.image_layout.specs.Places.{IsShape, largest_shape, first_segment, words_of, entry_at, head_at, bucket_at, block, homes, stash_buckets, buckets, segment_words, most_words, most_segments, most_depth, most_kind};
+ghost use Rattle.image_layout.specs.Places.{IsShape, first_segment, words_of, entry_at, head_at, bucket_at, block, homes, stash_buckets, buckets, segment_words, most_words, most_segments, most_depth, most_kind};
 
 use bucket_meta::words::{BUCKET_WORDS, SLOTS};
 use hash_word::HOMES;
@@ -91,7 +91,7 @@ fn power(e: u64) -> u64
     requires { e ≤ most_depth + 1 }
     ensures is { result ≡ 2 ^ e }
     ensures some { 1 ≤ result }
-    ensures most { result ≤ 2 ^ (most_depth + 1) }
+    ensures most { result ≤ 131072 }
 {
     1 << e
 }
@@ -180,7 +180,7 @@ impl Geometry {
     /// The word where the segments begin: the next multiple of 32 behind the directory's areas.
     fn first_segment(&self) -> u64
         ensures is { result ≡ first_segment self.now }
-        ensures most { result ≤ first_segment largest_shape }
+        ensures most { result ≤ 131104 }
     {
         (BLOCK + power(self.depth + 1) - 1).next_multiple_of(BLOCK)
     }
@@ -193,7 +193,7 @@ impl Geometry {
         ensures from { block ≤ result }
         ensures within { result < first_segment self.now }
         ensures below { result < words_of self.now }
-        ensures most { result < first_segment largest_shape }
+        ensures most { result < 131104 }
     {
         let _ = &self.depth;
         BLOCK + power(e) - 1 + i

@@ -22,7 +22,7 @@ pub(crate) fn power(bits: u8) -> usize
     requires { bits ≤ most_depth + 1 }
     ensures is { result ≡ 2 ^ bits }
     ensures some { 1 ≤ result }
-    ensures most { result ≤ 2 ^ (most_depth + 1) }
+    ensures most { result ≤ 131072 }
 {
     1 << bits
 }
