@@ -62,7 +62,7 @@ impl Words {
         Words { words }
     }
 
-    /// No words yet, with room for so many.
+    /// No words yet. Room for so many is asked for; that it is there is not said, and [`Words::push_bytes`] takes more where it is not.
     ///
     /// # Errors
     ///

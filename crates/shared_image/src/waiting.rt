@@ -65,7 +65,7 @@ impl<'a, G: Gate> Caller<'a, G> {
         requires call { IsWordCall call }
         requires rests { self.old.off ≡ false → Rests self.old.pass }
         ensures caller { IsCallerOf self.new.image.now self.new.pass self.new.site self.new.call }
-        ensures same { (self.new.image ≡ self.old.image) × (self.new.site ≡ self.old.site) }
+        ensures same { (self.new.image ≡ self.old.image) × (self.new.site ≡ self.old.site) × (self.new.call ≡ call) }
         ensures came { CameToReply call self.old.pass.me.0 result self.new.pass.me.0 }
         ensures taken { HasTaken self.old.pass.me.0 (G.left self.old.gate) self.new.pass.me.0 (G.left self.new.gate) }
         ensures why { result ≡ None → GaveUpFor self.old.off self.old.pass.me.0 (G.left self.old.gate) self.new.pass.me.0 (G.left self.new.gate) (G.cuts self.new.gate) }
@@ -89,7 +89,7 @@ impl<'a, G: Gate> Caller<'a, G> {
         requires caller { IsCallerOf self.old.image.now self.old.pass self.old.site self.old.call }
         requires rests { self.old.off ≡ false → Rests self.old.pass }
         ensures caller { IsCallerOf self.new.image.now self.new.pass self.new.site self.new.call }
-        ensures same { (self.new.image ≡ self.old.image) × (self.new.site ≡ self.old.site) }
+        ensures same { (self.new.image ≡ self.old.image) × (self.new.site ≡ self.old.site) × (self.new.call ≡ Get key) }
         ensures came { CameToReply (Get key) self.old.pass.me.0 result self.new.pass.me.0 }
         ensures taken { HasTaken self.old.pass.me.0 (G.left self.old.gate) self.new.pass.me.0 (G.left self.new.gate) }
         ensures why { result ≡ None → GaveUpFor self.old.off self.old.pass.me.0 (G.left self.old.gate) self.new.pass.me.0 (G.left self.new.gate) (G.cuts self.new.gate) }
@@ -103,7 +103,7 @@ impl<'a, G: Gate> Caller<'a, G> {
         requires caller { IsCallerOf self.old.image.now self.old.pass self.old.site self.old.call }
         requires rests { self.old.off ≡ false → Rests self.old.pass }
         ensures caller { IsCallerOf self.new.image.now self.new.pass self.new.site self.new.call }
-        ensures same { (self.new.image ≡ self.old.image) × (self.new.site ≡ self.old.site) }
+        ensures same { (self.new.image ≡ self.old.image) × (self.new.site ≡ self.old.site) × (self.new.call ≡ Insert key value) }
         ensures came { CameToReply (Insert key value) self.old.pass.me.0 result self.new.pass.me.0 }
         ensures taken { HasTaken self.old.pass.me.0 (G.left self.old.gate) self.new.pass.me.0 (G.left self.new.gate) }
         ensures why { result ≡ None → GaveUpFor self.old.off self.old.pass.me.0 (G.left self.old.gate) self.new.pass.me.0 (G.left self.new.gate) (G.cuts self.new.gate) }
@@ -117,7 +117,7 @@ impl<'a, G: Gate> Caller<'a, G> {
         requires caller { IsCallerOf self.old.image.now self.old.pass self.old.site self.old.call }
         requires rests { self.old.off ≡ false → Rests self.old.pass }
         ensures caller { IsCallerOf self.new.image.now self.new.pass self.new.site self.new.call }
-        ensures same { (self.new.image ≡ self.old.image) × (self.new.site ≡ self.old.site) }
+        ensures same { (self.new.image ≡ self.old.image) × (self.new.site ≡ self.old.site) × (self.new.call ≡ Update key value) }
         ensures came { CameToReply (Update key value) self.old.pass.me.0 result self.new.pass.me.0 }
         ensures taken { HasTaken self.old.pass.me.0 (G.left self.old.gate) self.new.pass.me.0 (G.left self.new.gate) }
         ensures why { result ≡ None → GaveUpFor self.old.off self.old.pass.me.0 (G.left self.old.gate) self.new.pass.me.0 (G.left self.new.gate) (G.cuts self.new.gate) }
@@ -131,7 +131,7 @@ impl<'a, G: Gate> Caller<'a, G> {
         requires caller { IsCallerOf self.old.image.now self.old.pass self.old.site self.old.call }
         requires rests { self.old.off ≡ false → Rests self.old.pass }
         ensures caller { IsCallerOf self.new.image.now self.new.pass self.new.site self.new.call }
-        ensures same { (self.new.image ≡ self.old.image) × (self.new.site ≡ self.old.site) }
+        ensures same { (self.new.image ≡ self.old.image) × (self.new.site ≡ self.old.site) × (self.new.call ≡ Remove key) }
         ensures came { CameToReply (Remove key) self.old.pass.me.0 result self.new.pass.me.0 }
         ensures taken { HasTaken self.old.pass.me.0 (G.left self.old.gate) self.new.pass.me.0 (G.left self.new.gate) }
         ensures why { result ≡ None → GaveUpFor self.old.off self.old.pass.me.0 (G.left self.old.gate) self.new.pass.me.0 (G.left self.new.gate) (G.cuts self.new.gate) }
