@@ -1,5 +1,6 @@
--- What is stored of a slot that is taken or freed: the metadata word, and the word of its fingerprint; and what each of them leaves.
-use Rattle.std.specs.Prelude.{◌≡◌, ◌≢◌, ℕ, ◌+◌, ◌/◌, ◌%◌, ◌^◌, ◌<◌, nat_lt, slice_set, if◌then◌else◌, bit_or, bit_and}
+-- What is stored of a slot that is taken or freed: the metadata word, and the word of its fingerprint; and what each of them leaves. And the
+-- metadata word with a set of slots, whose bit s is of slot s, alone or without it.
+use Rattle.std.specs.Prelude.{◌≡◌, ◌≢◌, ℕ, ◌+◌, ◌*◌, ◌/◌, ◌%◌, ◌^◌, ◌<◌, nat_lt, slice_set, if◌then◌else◌, bit_or, bit_and}
 use Rattle.std.specs.Int.{bit_not, w64, to_le_bytes, from_le_bytes}
 use Rattle.word_bits.specs.Bits.{mask}
 use Rattle.bucket_meta.specs.Bucket.{allocated, member, finger, note_used, overflow_count, record_slots, note_slots, marks_bits, fingers_of_word}
@@ -15,6 +16,18 @@ member_mark w1 slot = bit_or (bit_or w1 (mask slot)) (mask (record_slots + slot)
 -- the metadata word where the slot has no record: both bits not set
 abbrev pub removed_mark : ℕ → ℕ → ℕ
 removed_mark w1 slot = bit_and (bit_and w1 (bit_not w64 (mask slot))) (bit_not w64 (mask (record_slots + slot)))
+
+-- the allocation bits and the membership bits of a set of slots, where a metadata word has them
+abbrev pub slot_bits : ℕ → ℕ
+slot_bits slots = slots + 2 ^ record_slots * slots
+
+-- the metadata word with these slots alone: no other slot is taken, and no overflow part is there
+abbrev pub copied_mark : ℕ → ℕ → ℕ
+copied_mark w1 slots = bit_and w1 (slot_bits slots)
+
+-- the metadata word with these slots free
+abbrev pub cleared_mark : ℕ → ℕ → ℕ
+cleared_mark w1 slots = bit_and w1 (bit_not w64 (slot_bits slots))
 
 -- fingerprints 0 to 7 stand in word 2, the others in word 3
 abbrev pub finger_place : ℕ → ℕ

@@ -5,6 +5,7 @@
 
 mod laws;
 mod metadata;
+mod slot_sets;
 pub mod words;
 
 pub use laws::{
@@ -12,3 +13,4 @@ pub use laws::{
     meta_gives_words, notes_are_freed, read_of_written, words_give_meta, written_of_read,
 };
 pub use metadata::Meta;
+pub use slot_sets::{cleared_mark, copied_mark};

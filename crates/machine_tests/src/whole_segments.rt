@@ -1,11 +1,12 @@
 //! The file format's own examples: a stash full of notes, a key that stands twice after a cut, and segments without room.
 use crate::memory::Memory;
 use crate::rows::{Deeds, numbers};
+use bucket_meta::{cleared_mark, copied_mark};
 use image_layout::{BUCKETS, Geometry, HOMES};
 use op_core::{Ans, Want};
 use std::alloc::Global;
 use std::test::Fail;
-use whole_segment::{Loaded, cleared_mark, copied_mark, rebuilt_notes};
+use whole_segment::{Loaded, rebuilt_notes};
 
 /// A segment that is laid as it is told, and what was answered of it last.
 #[derive(Drop)]

@@ -5,10 +5,10 @@ use Rattle.std.proofs.lemmas.Bool.{cases_eq, cases_lt, eq-eqb, ne_eqb, lt-ltb, l
 use Rattle.segment_head.specs.HeadWord.{pattern_in}
 use Rattle.hash_word.specs.Hash.{home_of, probing_of, top}
 use Rattle.bucket_meta.specs.Bucket.{allocated, record_slots}
+use Rattle.bucket_meta.specs.Marks.{cleared_mark}
 use Rattle.image_layout.specs.Places.{Shape, homes, buckets, block, words_of_buckets}
 use Rattle.sound_image.specs.Records.{key_hash}
 use Rattle.whole_segment.specs.declared.loaded.Loaded.{Loaded}
-use Rattle.whole_segment.specs.Slots.{cleared_mark}
 use Rattle.whole_segment.specs.Records.{first_in, third_in, key_in, covered_set}
 use Rattle.whole_segment.specs.Order.{bucket_at, slot_at, position_of, own_home, own_position, is_at, is_below, stands_before}
 use Rattle.whole_segment.specs.Mending.{is_spoiled, spoiled_set}

@@ -2,13 +2,13 @@
 -- three stages: of a split that ends the records of the 1-side leave, then locks are free and spoiled records leave, and then notes are exact.
 use Rattle.std.specs.Prelude.{◌≡◌, ℕ, min, ◌+◌, ◌-◌, ◌*◌, ◌/◌, ◌%◌, ◌<◌, ◌==◌, ◌&&◌, nat_lt, List, slice_index, if◌then◌else◌}
 use Rattle.bucket_meta.specs.Bucket.{record_slots, first_key, lock_bit}
+use Rattle.bucket_meta.specs.Marks.{cleared_mark}
 use Rattle.segment_head.specs.HeadWord.{depth_in, pattern_in, header_of, normal}
 use Rattle.hash_word.specs.Hash.{hash_bits}
 use Rattle.segment_head.specs.SplitHeads.{side_depth_in, one_pattern_field, zero_side_head}
 use Rattle.image_layout.specs.Places.{Shape, homes, buckets, block}
 use Rattle.sound_image.specs.Records.{key_hash}
 use Rattle.whole_segment.specs.declared.loaded.Loaded.{Loaded}
-use Rattle.whole_segment.specs.Slots.{cleared_mark}
 use Rattle.whole_segment.specs.Words.{word_of_bucket}
 use Rattle.whole_segment.specs.Records.{first_in, third_in, key_in, covered_set}
 use Rattle.whole_segment.specs.Mending.{spoiled_set}

@@ -1,9 +1,9 @@
 -- What is reckoned at the beginning, by what is kept of the segment: word 1 of each bucket without the records that went to the side, and the
 -- notes of the records that are left.
 use Rattle.std.specs.Prelude.{◌≡◌, ℕ, ◌^◌, ◌<◌, slice_index}
+use Rattle.bucket_meta.specs.Marks.{cleared_mark}
 use Rattle.image_layout.specs.Places.{homes, buckets}
 use Rattle.sound_image.specs.Records.{key_hash}
-use Rattle.whole_segment.specs.Slots.{cleared_mark}
 use Rattle.whole_segment.specs.Words.{words_by}
 use Rattle.whole_segment.specs.Records.{covered_set}
 use Rattle.whole_segment.specs.Notes.{stashed_of, HasExactNotes, KeepsRecords}

@@ -3,10 +3,9 @@
 use Rattle.std.specs.Prelude.{◌≡◌, ◌≢◌, ℕ, zero, suc, ◌+◌, ◌-◌, ◌*◌, ◌/◌, ◌%◌, ◌<◌, ◌≤◌, ◌==◌, nat_lt, length, slice_index, List, if◌then◌else◌}
 use Rattle.word_bits.specs.Bits.{bits}
 use Rattle.bucket_meta.specs.Bucket.{allocated, record_slots, fingers_of_word, note_fingers_from}
-use Rattle.bucket_meta.specs.Marks.{with_finger}
+use Rattle.bucket_meta.specs.Marks.{copied_mark, with_finger}
 use Rattle.image_layout.specs.Places.{homes, buckets, block, words_of_buckets}
 use Rattle.sound_image.specs.Records.{key_hash}
-use Rattle.whole_segment.specs.Slots.{copied_mark}
 use Rattle.whole_segment.specs.Words.{words_by, word_of_bucket}
 use Rattle.whole_segment.specs.Records.{first_in}
 use Rattle.whole_segment.specs.Rebuilding.{Overflow, first_with, third_with, rebuilt}

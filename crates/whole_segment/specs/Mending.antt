@@ -2,8 +2,9 @@
 use Rattle.std.specs.Prelude.{◌≡◌, ℕ, ◌<◌, ◌⊎◌, Bool, not, ◌==◌, ◌&&◌, ◌||◌}
 use Rattle.hash_word.specs.Hash.{Covers, top}
 use Rattle.bucket_meta.specs.Bucket.{allocated}
+use Rattle.bucket_meta.specs.Marks.{cleared_mark}
 use Rattle.image_layout.specs.Places.{buckets, slots_of_key}
-use Rattle.whole_segment.specs.Slots.{IsSetOf, set_of, cleared_mark}
+use Rattle.whole_segment.specs.Slots.{IsSetOf, set_of}
 use Rattle.whole_segment.specs.Records.{Stands}
 use Rattle.whole_segment.specs.Order.{StandsBefore, stands_before, own_position}
 

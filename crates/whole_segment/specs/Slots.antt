@@ -1,6 +1,5 @@
--- Sets of record slots of a bucket, as numbers whose bit r is of slot r, and the metadata word with such a set alone or without it.
-use Rattle.std.specs.Prelude.{◌≡◌, ℕ, zero, suc, ◌+◌, ◌*◌, ◌^◌, ◌<◌, ◌↔◌, Bool, bit_and, bit_or, if◌then◌else◌}
-use Rattle.std.specs.Int.{bit_not, w64}
+-- Sets of record slots of a bucket, as numbers whose bit r is of slot r, and the halves of a metadata word by such a set.
+use Rattle.std.specs.Prelude.{◌≡◌, ℕ, zero, suc, ◌+◌, ◌^◌, ◌<◌, ◌↔◌, Bool, bit_or, if◌then◌else◌}
 use Rattle.word_bits.specs.Bits.{bit, mask}
 use Rattle.bucket_meta.specs.Bucket.{allocated, member, record_slots, marks_bits}
 use Rattle.bucket_meta.specs.Marks.{KeepsUpper}
@@ -19,18 +18,6 @@ set_below test (suc n) = if test n then bit_or (set_below test n) (mask n) else 
 -- of all slots
 abbrev pub set_of : (ℕ → Bool) → ℕ
 set_of test = set_below test record_slots
-
--- the allocation bits and the membership bits of a set, where a metadata word has them
-abbrev pub slot_bits : ℕ → ℕ
-slot_bits slots = slots + 2 ^ record_slots * slots
-
--- the metadata word with these slots alone: no other slot is taken, and no overflow part is there
-abbrev pub copied_mark : ℕ → ℕ → ℕ
-copied_mark w1 slots = bit_and w1 (slot_bits slots)
-
--- the metadata word with these slots free
-abbrev pub cleared_mark : ℕ → ℕ → ℕ
-cleared_mark w1 slots = bit_and w1 (bit_not w64 (slot_bits slots))
 
 -- slot r says in metadata word x what it says in w
 pub record SameSlot (r w x : ℕ) : Type 0 where

@@ -6,12 +6,12 @@ ghost use Rattle.image_layout.specs.Places.{buckets};
 ghost use Rattle.sound_image.specs.Records.{key_hash};
 
 use crate::Loaded;
-use crate::marks::{cleared_mark, copied_mark};
+use bucket_meta::{cleared_mark, copied_mark};
 use image_layout::{BUCKETS, Geometry};
 use word_bits::each_fits;
 
 impl Loaded {
-    ghost use Rattle.whole_segment.specs.Slots.{copied_mark, cleared_mark};
+    ghost use Rattle.bucket_meta.specs.Marks.{copied_mark, cleared_mark};
     ghost use Rattle.whole_segment.specs.Records.{first_in, key_in, Stands, covered_set};
 
     /// The segment with those records alone that a segment of this depth and pattern covers, and without overflow notes: the copy that a

@@ -6,7 +6,6 @@
 mod halves;
 mod laws;
 mod loaded;
-mod marks;
 mod notes;
 mod room;
 mod round;
@@ -18,6 +17,5 @@ pub use laws::{
     rounds_settle, segments_are_halved, tests_tell,
 };
 pub use loaded::Loaded;
-pub use marks::{cleared_mark, copied_mark};
 pub use notes::{Notes, rebuilt_notes};
 pub use round::{MOST_LINES, Round};

@@ -8,7 +8,7 @@ ghost use Rattle.sound_image.specs.Records.{key_hash};
 ghost use Rattle.whole_segment.specs.Order.{bucket_at, position_of};
 
 use crate::Loaded;
-use crate::marks::cleared_mark;
+use bucket_meta::cleared_mark;
 use bucket_meta::words::SLOTS;
 use hash_word::{covers, home, probing};
 use image_layout::{BUCKETS, Geometry, HOMES, SLOTS_OF_KEY};
@@ -53,7 +53,8 @@ fn position_of(home: u8, bucket: u8, slot: u8) -> u8
 }
 
 impl Loaded {
-    ghost use Rattle.whole_segment.specs.Slots.{IsSetOf, cleared_mark};
+    ghost use Rattle.bucket_meta.specs.Marks.{cleared_mark};
+    ghost use Rattle.whole_segment.specs.Slots.{IsSetOf};
     ghost use Rattle.whole_segment.specs.Records.{first_in, key_in};
     ghost use Rattle.whole_segment.specs.Order.{IsAt, StandsBefore};
     ghost use Rattle.whole_segment.specs.Mending.{IsSpoiled, spoiled_set, IsMended};

@@ -5,9 +5,10 @@ use Rattle.trace.specs.Events.{Words}
 use Rattle.word_bits.specs.Bits.{bit}
 use Rattle.hash_word.specs.Hash.{Covers}
 use Rattle.bucket_meta.specs.Bucket.{allocated, member, record_slots}
+use Rattle.bucket_meta.specs.Marks.{copied_mark}
 use Rattle.image_layout.specs.Places.{Shape, bucket_at, buckets, block, words_of_buckets}
 use Rattle.sound_image.specs.Records.{key_hash}
-use Rattle.whole_segment.specs.Slots.{IsSetOf, AreHalves, copied_mark}
+use Rattle.whole_segment.specs.Slots.{IsSetOf, AreHalves}
 use Rattle.whole_segment.specs.Records.{IsCovered, covered_set}
 use Rattle.whole_segment.proofs.marking.MarkHalves.{are_halves}
 use Rattle.whole_segment.proofs.Telling.{covered_is}

@@ -5,10 +5,11 @@ use Rattle.trace.specs.Events.{Words}
 use Rattle.word_bits.specs.Bits.{bit}
 use Rattle.hash_word.specs.Hash.{Covers, top}
 use Rattle.bucket_meta.specs.Bucket.{allocated, member, record_slots}
+use Rattle.bucket_meta.specs.Marks.{copied_mark}
 use Rattle.segment_head.specs.HeadWord.{depth_in, pattern_in}
 use Rattle.image_layout.specs.Places.{Shape, head_at, bucket_at, buckets, block, words_of_buckets}
 use Rattle.sound_image.specs.Records.{key_hash}
-use Rattle.whole_segment.specs.Slots.{IsSetOf, AreHalves, copied_mark}
+use Rattle.whole_segment.specs.Slots.{IsSetOf, AreHalves}
 use Rattle.whole_segment.specs.Records.{Stands}
 use Rattle.whole_segment.specs.Mending.{IsSpoiled, is_spoiled, spoiled_set, IsMended}
 use Rattle.whole_segment.proofs.marking.MarkHalves.{are_halves}

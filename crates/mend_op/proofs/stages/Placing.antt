@@ -4,9 +4,9 @@ use Rattle.std.specs.Prelude.{◌==◌, ◌&&◌, nat_lt, if◌then◌else◌}
 use Rattle.std.specs.Int.{bit_not, w64}
 use Rattle.std.proofs.lemmas.Bool.{cases_eq, cases_lt, eq-eqb, ne_eqb, lt-ltb, le-ltb}
 use Rattle.std.proofs.lemmas.Nat.{and_le_r}
+use Rattle.bucket_meta.specs.Marks.{slot_bits, cleared_mark}
 use Rattle.image_layout.specs.Places.{Shape, homes, block, words_of_buckets}
 use Rattle.sound_image.specs.Records.{key_hash}
-use Rattle.whole_segment.specs.Slots.{slot_bits, cleared_mark}
 use Rattle.whole_segment.specs.Rebuilding.{first_with, third_with}
 use Rattle.whole_segment.proofs.Words.{word_is, words_small}
 use Rattle.whole_segment.proofs.rebuilding.Written.{first_made_small, third_made_small}

@@ -5,11 +5,11 @@ use Rattle.std.specs.Int.{bit_not, w64}
 use Rattle.std.proofs.lemmas.Nat.{and_le_r}
 use Rattle.bucket_meta.specs.Bucket.{overflow_count, record_slots}
 use Rattle.bucket_meta.specs.Notes.{OverflowNote, AreExact, notes_by}
+use Rattle.bucket_meta.specs.Marks.{slot_bits, cleared_mark}
 use Rattle.hash_word.specs.Hash.{probing_of}
 use Rattle.segment_head.specs.HeadWord.{depth_in, pattern_in}
 use Rattle.image_layout.specs.Places.{homes, buckets}
 use Rattle.sound_image.specs.Records.{key_hash}
-use Rattle.whole_segment.specs.Slots.{slot_bits, cleared_mark}
 use Rattle.whole_segment.specs.Words.{words_by}
 use Rattle.whole_segment.specs.Records.{first_in, third_in, key_in, covered_set}
 use Rattle.whole_segment.specs.Notes.{stashed_of, HasExactNotes, KeepsRecords}

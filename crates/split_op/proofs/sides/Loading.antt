@@ -3,9 +3,9 @@ use Rattle.std.proofs.Common.{◌≡◌, ℕ, ◌+◌, ◌*◌, ◌%◌, ◌^◌
 use Rattle.std.specs.Prelude.{min}
 use Rattle.std.proofs.lemmas.Bool.{cases_lt}
 use Rattle.bucket_meta.specs.Bucket.{record_slots}
+use Rattle.bucket_meta.specs.Marks.{copied_mark}
 use Rattle.image_layout.specs.Places.{homes, buckets, block}
 use Rattle.sound_image.specs.Records.{key_hash}
-use Rattle.whole_segment.specs.Slots.{copied_mark}
 use Rattle.whole_segment.specs.Records.{first_in, third_in, key_in, covered_set}
 use Rattle.whole_segment.specs.Rebuilding.{first_with, third_with, rebuilt}
 use Rattle.whole_segment.specs.declared.loaded.Loaded.{Loaded}

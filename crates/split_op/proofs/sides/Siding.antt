@@ -6,12 +6,13 @@ use Rattle.std.proofs.lemmas.Nat.{and_le_r}
 use Rattle.word_bits.specs.Bits.{bits, bit}
 use Rattle.bucket_meta.specs.Bucket.{allocated, member, finger, overflow_count, record_slots}
 use Rattle.bucket_meta.specs.Notes.{OverflowNote, AreExact, notes_by}
+use Rattle.bucket_meta.specs.Marks.{slot_bits, copied_mark, cleared_mark}
 use Rattle.hash_word.specs.Hash.{Covers, probing_of}
 use Rattle.segment_head.specs.HeadWord.{depth_in, pattern_in}
 use Rattle.image_layout.specs.Places.{homes, buckets, block, words_of_buckets}
 use Rattle.sound_image.specs.Records.{key_hash}
 use Rattle.sound_image.proofs.LowBits.{same_allocated, same_member, same_finger}
-use Rattle.whole_segment.specs.Slots.{slot_bits, copied_mark, cleared_mark, AreHalves}
+use Rattle.whole_segment.specs.Slots.{AreHalves}
 use Rattle.whole_segment.specs.Records.{Stands}
 use Rattle.whole_segment.specs.Notes.{stashed_of, HasExactNotes}
 use Rattle.whole_segment.specs.Rebuilding.{first_with, third_with}

@@ -6,7 +6,8 @@ use Rattle.std.proofs.lemmas.Nat.{and_shr, and_mask, and_le_r}
 use Rattle.std.proofs.lemmas.Nat.Bits.{bit_at_and, bit_at_not, bit_at-lt, bit_at_cat_low, bit_at_cat_high}
 use Rattle.word_bits.specs.Bits.{bit}
 use Rattle.bucket_meta.specs.Bucket.{allocated, member}
-use Rattle.whole_segment.specs.Slots.{slot_bits, copied_mark, cleared_mark, SameSlot, IsFreeSlot, AreHalves}
+use Rattle.bucket_meta.specs.Marks.{slot_bits, copied_mark, cleared_mark}
+use Rattle.whole_segment.specs.Slots.{SameSlot, IsFreeSlot, AreHalves}
 
 module _ (slots : ℕ) (set : slots < 2 ^ 14) where
   twice : slot_bits slots ≡ slots * 2 ^ 14 + slots

@@ -2,8 +2,9 @@
 use Rattle.std.proofs.Common.{◌≡◌, ◌≢◌, ℕ, ◌+◌, ◌^◌, ◌<◌, ◌↔◌, sym, ap, ◌∙◌, subst, inl, inr, arith}
 use Rattle.std.proofs.lemmas.Bool.{cases_eq, cases_lt}
 use Rattle.bucket_meta.specs.Bucket.{allocated}
+use Rattle.bucket_meta.specs.Marks.{copied_mark, cleared_mark}
 use Rattle.hash_word.specs.Hash.{Covers}
-use Rattle.whole_segment.specs.Slots.{IsSetOf, IsMarked, copied_mark, cleared_mark}
+use Rattle.whole_segment.specs.Slots.{IsSetOf, IsMarked}
 use Rattle.whole_segment.specs.Records.{Stands, IsCovered}
 use Rattle.whole_segment.specs.Mending.{IsSpoiled, IsMended, without_spoiled}
 use Rattle.whole_segment.proofs.marking.Sides.{are_sides}

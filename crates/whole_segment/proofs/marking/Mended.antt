@@ -5,7 +5,8 @@ use Rattle.std.proofs.lemmas.Nat.Bits.{bit_at-lt}
 use Rattle.word_bits.specs.Bits.{bit}
 use Rattle.hash_word.specs.Hash.{Covers, home_of}
 use Rattle.bucket_meta.specs.Bucket.{allocated}
-use Rattle.whole_segment.specs.Slots.{copied_mark, AreHalves}
+use Rattle.bucket_meta.specs.Marks.{copied_mark}
+use Rattle.whole_segment.specs.Slots.{AreHalves}
 use Rattle.whole_segment.specs.Records.{Stands}
 use Rattle.whole_segment.specs.Order.{bucket_at, slot_at, position_of, IsAt, StandsBefore}
 use Rattle.whole_segment.specs.Mending.{IsSpoiled, AreSpoiled, IsLookedFor, IsMended, without_spoiled}

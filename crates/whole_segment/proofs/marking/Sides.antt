@@ -3,8 +3,9 @@ use Rattle.std.proofs.Common.{◌≡◌, ℕ, ◌^◌, ◌<◌, sym, ◌∙◌, 
 use Rattle.std.proofs.lemmas.Bool.{cases_eq}
 use Rattle.std.proofs.lemmas.Nat.Bits.{bit_at-lt}
 use Rattle.word_bits.specs.Bits.{bit}
+use Rattle.bucket_meta.specs.Marks.{copied_mark, cleared_mark}
 use Rattle.hash_word.specs.Hash.{Covers}
-use Rattle.whole_segment.specs.Slots.{IsSetOf, copied_mark, cleared_mark, AreHalves}
+use Rattle.whole_segment.specs.Slots.{IsSetOf, AreHalves}
 use Rattle.whole_segment.specs.Records.{Stands, IsCovered, AreSides}
 use Rattle.whole_segment.proofs.marking.MarkHalves.{are_halves}
 

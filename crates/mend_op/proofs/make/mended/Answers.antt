@@ -1,8 +1,8 @@
 -- What is made of what is loaded of the words is what is to be made of them.
 use Rattle.std.proofs.Common.{◌≡◌, ℕ, length, ap, ◌∙◌, arith}
+use Rattle.bucket_meta.specs.Marks.{cleared_mark}
 use Rattle.image_layout.specs.Places.{buckets}
 use Rattle.sound_image.specs.Records.{key_hash}
-use Rattle.whole_segment.specs.Slots.{cleared_mark}
 use Rattle.whole_segment.specs.Records.{first_in, key_in}
 use Rattle.whole_segment.specs.Mending.{spoiled_set}
 use Rattle.mend_op.specs.Words.{own_depth}

@@ -1,9 +1,9 @@
 -- Bucket by bucket; and what the marks of all buckets say of records.
 use Rattle.std.proofs.Common.{ℕ, ◌+◌, ◌*◌, ◌^◌, ◌<◌, ◌↔◌, List, slice_index, sym, ap, ◌∙◌, subst, arith}
+use Rattle.bucket_meta.specs.Marks.{copied_mark}
 use Rattle.hash_word.specs.Hash.{Covers}
 use Rattle.sound_image.specs.Records.{key_hash}
 use Rattle.whole_segment.specs.Records.{first_in, key_in, Stands, IsCovered, covered_set}
-use Rattle.whole_segment.specs.Slots.{copied_mark}
 use Rattle.whole_segment.proofs.Telling.{sets_agree, covered_is}
 use Rattle.whole_segment.proofs.marking.Marking.{marked_more, copy_has}
 use Rattle.whole_segment.proofs.loaded.Loaded.half.Goals as goal

@@ -1,8 +1,8 @@
 -- The buckets before this one are marked.
 use Rattle.std.proofs.Common.{◌≡◌}
+use Rattle.bucket_meta.specs.Marks.{copied_mark}
 use Rattle.sound_image.specs.Records.{key_hash}
 use Rattle.whole_segment.specs.Records.{first_in, key_in, IsCovered}
-use Rattle.whole_segment.specs.Slots.{copied_mark}
 use Rattle.whole_segment.proofs.marking.Marking.{AreMarkedBelow}
 use Rattle.whole_segment.proofs.loaded.Loaded.half.Given as goal
 

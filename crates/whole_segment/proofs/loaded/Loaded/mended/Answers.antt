@@ -1,9 +1,9 @@
 -- Bucket by bucket; and what the marks of all buckets say of records.
 use Rattle.std.proofs.Common.{ℕ, ◌^◌, ◌<◌, slice_index, ap, ◌∙◌, arith}
+use Rattle.bucket_meta.specs.Marks.{cleared_mark}
 use Rattle.sound_image.specs.Records.{key_hash}
 use Rattle.whole_segment.specs.Records.{first_in, key_in}
 use Rattle.whole_segment.specs.Mending.{IsSpoiled, spoiled_set}
-use Rattle.whole_segment.specs.Slots.{cleared_mark}
 use Rattle.whole_segment.proofs.Telling.{sets_agree, spoiled_is}
 use Rattle.whole_segment.proofs.marking.Marking.{marked_more, mended_is}
 use Rattle.whole_segment.proofs.loaded.Loaded.mended.Goals as goal

@@ -1,9 +1,9 @@
 -- The buckets before this one are marked.
 use Rattle.std.proofs.Common.{◌≡◌}
+use Rattle.bucket_meta.specs.Marks.{cleared_mark}
 use Rattle.sound_image.specs.Records.{key_hash}
 use Rattle.whole_segment.specs.Records.{first_in, key_in}
 use Rattle.whole_segment.specs.Mending.{IsSpoiled}
-use Rattle.whole_segment.specs.Slots.{cleared_mark}
 use Rattle.whole_segment.proofs.marking.Marking.{AreMarkedBelow}
 use Rattle.whole_segment.proofs.loaded.Loaded.mended.Given as goal
 

@@ -1,6 +1,6 @@
 -- By the rules that all proofs share.
 use Rattle.std.proofs.Common.{rules}
-use Rattle.whole_segment.proofs.marks.copied_mark.Goals as goal
+use Rattle.bucket_meta.proofs.slot_sets.cleared_mark.Goals as goal
 
 pub returns : goal.returns
 returns c = search rules

@@ -2,9 +2,9 @@
 
 ghost use Rattle.std.specs.Prelude.{◌≡◌, ◌^◌, ◌<◌};
 ghost use Rattle.bucket_meta.specs.Bucket.{record_slots};
-ghost use Rattle.whole_segment.specs.Slots.{slot_bits, copied_mark, cleared_mark};
+ghost use Rattle.bucket_meta.specs.Marks.{slot_bits, copied_mark, cleared_mark};
 
-use bucket_meta::words::SLOTS;
+use crate::words::SLOTS;
 use word_bits::with_bits;
 
 /// The allocation bits and the membership bits of a set of slots.
