@@ -1,13 +1,12 @@
 //! Which words of a side are copied.
 
 ghost use Rattle.std.specs.Prelude.{◌≡◌, ◌<◌, ◌≤◌, slice_index};
-ghost use Rattle.word_bits.specs.Bits.{bit};
 ghost use Rattle.image_layout.specs.Places.{segment_words};
 ghost use Rattle.split_op.specs.Batches.{is_copied, copied_from};
 
 use crate::batch::{FIRST_KEY, SLOT_WORDS};
+use bucket_meta::words::is_taken;
 use image_layout::{BLOCK_WORDS, WORDS_OF_BUCKETS};
-use word_bits::is_set;
 
 /// Whether a word of the side is copied, by its number in the slot: of each bucket the metadata that is not 0, and key and value of
 /// each record slot that is taken.
@@ -21,9 +20,9 @@ pub(crate) fn is_copied(words: &[u64; WORDS_OF_BUCKETS as usize], number: u16) -
     } else if place < FIRST_KEY {
         words[usize::from(number.saturating_sub(BLOCK_WORDS))] != 0
     } else {
-        is_set(
+        is_taken(
             words[usize::from((number - place).saturating_sub(BLOCK_WORDS - 1))],
-            u32::from((place - FIRST_KEY) / 2),
+            ((place - FIRST_KEY) / 2) as u8,
         )
     }
 }
