@@ -2,7 +2,7 @@
 //! that loads and stores single words looks at them and changes them here.
 
 ghost use Rattle.std.specs.Prelude.{◌≡◌, ◌≢◌, ◌==◌, ℕ, ◌^◌, ◌<◌, ◌≤◌, ◌↔◌, IfSome, IfNone, IsTrue, slice_index, slice_set, ◌%◌};
-ghost use Rattle.bucket_meta.specs.Bucket.{allocated, member, finger, note_used, note_member, note_index, note_finger, overflow_count, record_slots, note_slots, first_key, count_bits, locked, given_back, lock_bit};
+ghost use Rattle.bucket_meta.specs.Bucket.{allocated, member, finger, note_used, note_member, note_index, note_finger, overflow_count, record_slots, note_slots, first_key, count_bits, locked, given_back, lock_bit, slot_fingers_part};
 ghost use Rattle.bucket_meta.specs.Search.{is_taken, IsThere, lowest_with, lowest_free};
 ghost use Rattle.bucket_meta.specs.Notes.{IsNoteOn};
 ghost use Rattle.bucket_meta.specs.Marks.{inserted_mark, member_mark, removed_mark, finger_place, with_finger};
@@ -198,6 +198,13 @@ pub fn with_finger(word: u64, slot: u8, finger: u8) -> u64
     let mut bytes = word.to_le_bytes();
     bytes[usize::from(slot % FINGERS_OF_WORD)] = finger;
     u64::from_le_bytes(bytes)
+}
+
+/// The fingerprints of record slots alone, of word 3.
+pub fn slot_fingers_part(w3: u64) -> u64
+    ensures { result ≡ slot_fingers_part w3 }
+{
+    w3 % (1 << NOTE_FINGERS_FROM)
 }
 
 /// Puts a word among a bucket's words, where they stand; a number past them changes none.

@@ -1,8 +1,7 @@
 -- THE WORDS OF A SIDE, by what is kept of its segment: all are as they are kept, but for the metadata, which is that of the records of the 1-side
 -- alone.
 use Rattle.std.specs.Prelude.{◌≡◌, ◌≢◌, ℕ, zero, suc, ◌+◌, ◌-◌, ◌*◌, ◌/◌, ◌%◌, ◌<◌, ◌≤◌, ◌==◌, nat_lt, length, slice_index, List, if◌then◌else◌}
-use Rattle.word_bits.specs.Bits.{bits}
-use Rattle.bucket_meta.specs.Bucket.{allocated, record_slots, fingers_of_word, note_fingers_from}
+use Rattle.bucket_meta.specs.Bucket.{allocated, record_slots, fingers_of_word, slot_fingers_part}
 use Rattle.bucket_meta.specs.Marks.{copied_mark, with_finger}
 use Rattle.image_layout.specs.Places.{homes, buckets, block, words_of_buckets}
 use Rattle.sound_image.specs.Records.{key_hash}
@@ -46,7 +45,7 @@ module _ (e : Enclosed) where
   side_mark b = if nat_lt b homes then first_with (side_first b) (side_notes b) else side_first b
 
   abbrev pub side_third : ℕ → ℕ
-  side_third b = if nat_lt b homes then third_with (kept_third e b) (side_notes b) else bits 0 note_fingers_from (kept_third e b)
+  side_third b = if nat_lt b homes then third_with (kept_third e b) (side_notes b) else slot_fingers_part (kept_third e b)
 
   -- word m of bucket b of a side, with the fingerprints of all slots
   abbrev pub marked_word : ℕ → ℕ → ℕ
@@ -68,7 +67,7 @@ pub record HasMarks (kept : List ℕ) (half : Loaded) (notes : Notes) (words : L
   pub first : (b : ℕ) → b < homes → side_word words b 1 ≡ slice_index notes.first b
   pub third : (b : ℕ) → b < homes → side_word words b 3 ≡ slice_index notes.third b
   pub stash : (b : ℕ) → homes ≤ b → b < buckets → side_word words b 1 ≡ first_in half b
-  pub stash_third : (b : ℕ) → homes ≤ b → b < buckets → side_word words b 3 ≡ bits 0 note_fingers_from (side_word kept b 3)
+  pub stash_third : (b : ℕ) → homes ≤ b → b < buckets → side_word words b 3 ≡ slot_fingers_part (side_word kept b 3)
   pub others : (b m : ℕ) → b < buckets → m < block → m ≢ 1 → m ≢ 3 → side_word words b m ≡ side_word kept b m
 
 -- EACH BUCKET has the fingerprints of taken slots alone, and all other words are the same

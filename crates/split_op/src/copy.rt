@@ -4,12 +4,11 @@ ghost use Rattle.std.specs.Prelude.{◌≡◌};
 ghost use Rattle.split_op.specs.Sides.{HasMarks, low_fingers, high_fingers, IsThinned, side_words};
 
 use bucket_meta::words::{
-    BUCKET_WORDS, FINGERS_OF_WORD, NOTE_FINGERS_FROM, SLOTS, is_taken, with_finger,
+    BUCKET_WORDS, FINGERS_OF_WORD, SLOTS, is_taken, slot_fingers_part, with_finger,
 };
 use enclose_op::Enclosed;
 use image_layout::{BUCKETS, HOMES, WORDS_OF_BUCKETS};
 use whole_segment::{Loaded, Notes, rebuilt_notes};
-use word_bits::bits_of;
 
 /// The words of the buckets with this metadata: of the homes with notes, and of the stash buckets without, whose word 3 has the
 /// fingerprints of record slots alone.
@@ -28,11 +27,7 @@ fn with_marks(
             words[BUCKET_WORDS * at + 3] = notes.third[at];
         } else {
             words[BUCKET_WORDS * at + 1] = half.first[at];
-            words[BUCKET_WORDS * at + 3] = bits_of(
-                kept[BUCKET_WORDS * at + 3],
-                0,
-                NOTE_FINGERS_FROM,
-            );
+            words[BUCKET_WORDS * at + 3] = slot_fingers_part(kept[BUCKET_WORDS * at + 3]);
         }
     }
     words

@@ -3,7 +3,7 @@ use Rattle.std.proofs.Common.{◌≡◌, ◌≢◌, ℕ, ◌+◌, ◌*◌, ◌<�
 use Rattle.std.specs.Prelude.{slice_set}
 use Rattle.std.proofs.lemmas.Bool.{cases_eq}
 use Rattle.std.proofs.lemmas.List.{get_or-set_same, get_or-set_other, length-set}
-use Rattle.word_bits.specs.Bits.{bits}
+use Rattle.bucket_meta.specs.Bucket.{slot_fingers_part}
 use Rattle.image_layout.specs.Places.{homes, buckets}
 use Rattle.whole_segment.specs.Records.{first_in}
 use Rattle.whole_segment.specs.declared.loaded.Loaded.{Loaded}
@@ -17,7 +17,7 @@ module _ (kept : List ℕ) (half : Loaded) (notes : Notes) where
     pub first : (b : ℕ) → b < k → b < homes → side_word words b 1 ≡ slice_index notes.first b
     pub third : (b : ℕ) → b < k → b < homes → side_word words b 3 ≡ slice_index notes.third b
     pub stash : (b : ℕ) → b < k → homes ≤ b → side_word words b 1 ≡ first_in half b
-    pub stash_third : (b : ℕ) → b < k → homes ≤ b → side_word words b 3 ≡ bits 0 48 (side_word kept b 3)
+    pub stash_third : (b : ℕ) → b < k → homes ≤ b → side_word words b 3 ≡ slot_fingers_part (side_word kept b 3)
     pub others : (b m : ℕ) → b < buckets → m < 32 → m ≢ 1 → m ≢ 3 → side_word words b m ≡ side_word kept b m
 
   pub begun_marking : length kept ≡ 2112 → IsMarking 0 kept
@@ -73,7 +73,7 @@ module _ (kept : List ℕ) (half : Loaded) (notes : Notes) where
     -- a stash bucket
     module _ (stash : homes ≤ k) where
       abbrev bare : ℕ
-      bare = bits 0 48 (side_word kept k 3)
+      bare = slot_fingers_part (side_word kept k 3)
 
       abbrev marked : List ℕ
       marked = slice_set w (32 * k + 1) (first_in half k)
@@ -103,7 +103,7 @@ module _ (kept : List ℕ) (half : Loaded) (notes : Notes) where
           | inr apart ↦ kept_word b 1 (λ s. apart (omega (arith, s))) (λ s. omega (arith, s)) ∙ is.stash b (omega (arith, low, apart)) high
         ];
         stash_third = λ b low high. elim (cases_eq b k) [
-          | inl same ↦ subst (λ (z : ℕ). side_word both z 3 ≡ bits 0 48 (side_word kept z 3)) (sym same) bare_here
+          | inl same ↦ subst (λ (z : ℕ). side_word both z 3 ≡ slot_fingers_part (side_word kept z 3)) (sym same) bare_here
           | inr apart ↦ kept_word b 3 (λ s. omega (arith, s)) (λ s. apart (omega (arith, s))) ∙ is.stash_third b (omega (arith, low, apart)) high
         ];
         others = λ b m small low no_one no_three. kept_word b m (λ s. no_one (omega (arith, s, low))) (λ s. no_three (omega (arith, s, low))) ∙ is.others b m small low no_one no_three;

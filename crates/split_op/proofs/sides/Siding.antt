@@ -4,7 +4,7 @@ use Rattle.std.specs.Prelude.{min, if◌then◌else◌}
 use Rattle.std.proofs.lemmas.Bool.{cases_eq, cases_lt, lt-ltb, le-ltb, ne_eqb}
 use Rattle.std.proofs.lemmas.Nat.{and_le_r}
 use Rattle.word_bits.specs.Bits.{bits, bit}
-use Rattle.bucket_meta.specs.Bucket.{allocated, member, finger, overflow_count, record_slots}
+use Rattle.bucket_meta.specs.Bucket.{allocated, member, finger, overflow_count, record_slots, slot_fingers_part}
 use Rattle.bucket_meta.specs.Notes.{OverflowNote, AreExact, notes_by}
 use Rattle.bucket_meta.specs.Marks.{slot_bits, copied_mark, cleared_mark}
 use Rattle.hash_word.specs.Hash.{Covers, probing_of}
@@ -72,10 +72,10 @@ module _ (e : Enclosed) where
   mark_stash b stash = ap (λ t. cond t (first_with (side_first e b) (side_notes e b)) (side_first e b)) (le-ltb b homes stash)
 
   pub third_home : (b : ℕ) → b < homes → side_third e b ≡ third_with (kept_third e b) (side_notes e b)
-  third_home b home = ap (λ t. cond t (third_with (kept_third e b) (side_notes e b)) (bits 0 48 (kept_third e b))) (lt-ltb b homes home)
+  third_home b home = ap (λ t. cond t (third_with (kept_third e b) (side_notes e b)) (slot_fingers_part (kept_third e b))) (lt-ltb b homes home)
 
-  pub third_stash : (b : ℕ) → homes ≤ b → side_third e b ≡ bits 0 48 (kept_third e b)
-  third_stash b stash = ap (λ t. cond t (third_with (kept_third e b) (side_notes e b)) (bits 0 48 (kept_third e b))) (le-ltb b homes stash)
+  pub third_stash : (b : ℕ) → homes ≤ b → side_third e b ≡ slot_fingers_part (kept_third e b)
+  third_stash b stash = ap (λ t. cond t (third_with (kept_third e b) (side_notes e b)) (slot_fingers_part (kept_third e b))) (le-ltb b homes stash)
 
   pub marked_other : (b m : ℕ) → m ≢ 1 → m ≢ 3 → marked_word e b m ≡ kept_word e b m
   marked_other b m no_one no_three = ap (λ t. cond t (side_mark e b) (cond (eqb m 3) (side_third e b) (kept_word e b m))) (ne_eqb m 1 no_one)
@@ -145,7 +145,7 @@ module _ (e : Enclosed) where
         | inr stash ↦ ap (λ (x : ℕ). x % 2 ^ 48) (third_is b near ∙ third_stash b stash) ∙ again (kept_word e b 3)
       ]
         where
-          again : (x : ℕ) → bits 0 48 x % 2 ^ 48 ≡ x % 2 ^ 48
+          again : (x : ℕ) → slot_fingers_part x % 2 ^ 48 ≡ x % 2 ^ 48
           again x = omega arith
 
       -- the records that stand there

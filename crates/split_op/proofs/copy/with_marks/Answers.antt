@@ -1,7 +1,7 @@
 -- A home or a stash bucket more.
 use Rattle.std.proofs.Common.{ℕ, ◌+◌, ◌*◌, List, slice_index, sym, ap, ◌∙◌, subst, arith}
 use Rattle.std.specs.Prelude.{slice_set}
-use Rattle.word_bits.specs.Bits.{bits}
+use Rattle.bucket_meta.specs.Bucket.{slot_fingers_part}
 use Rattle.whole_segment.specs.Records.{first_in}
 use Rattle.split_op.proofs.sides.Copying.{IsMarking, begun_marking, home_marked, stash_marked, all_marked}
 use Rattle.split_op.proofs.copy.with_marks.Goals as goal
@@ -22,8 +22,8 @@ loop-bucket-preserved c =
       | then-bucket-lt-HOMES z ↦ subst (λ (l : List ℕ). IsMarking kept half notes (k + 1) l) (sym z.words-is)
           (subst (λ (a : ℕ). IsMarking kept half notes (k + 1) (slice_set (slice_set w (32 * a + 1) (slice_index notes.first a)) (32 * a + 3) (slice_index notes.third a))) (sym c.from-at.ensures)
           (home_marked kept half notes k w near c.loop-bucket.invariant z.if-bucket-lt-HOMES.true))
-      | else-bucket-lt-HOMES z ↦ subst (λ (l : List ℕ). IsMarking kept half notes (k + 1) l) (sym (z.words-is ∙ ap (slice_set (slice_set w (32 * c.from-at.result + 1) (first_in half c.from-at.result)) (32 * c.from-at.result + 3)) z.bits_of.ensures.value))
-          (subst (λ (a : ℕ). IsMarking kept half notes (k + 1) (slice_set (slice_set w (32 * a + 1) (first_in half a)) (32 * a + 3) (bits 0 48 (slice_index kept (32 * a + 3))))) (sym c.from-at.ensures)
+      | else-bucket-lt-HOMES z ↦ subst (λ (l : List ℕ). IsMarking kept half notes (k + 1) l) (sym (z.words-is ∙ ap (slice_set (slice_set w (32 * c.from-at.result + 1) (first_in half c.from-at.result)) (32 * c.from-at.result + 3)) z.slot_fingers_part.ensures))
+          (subst (λ (a : ℕ). IsMarking kept half notes (k + 1) (slice_set (slice_set w (32 * a + 1) (first_in half a)) (32 * a + 3) (slot_fingers_part (slice_index kept (32 * a + 3))))) (sym c.from-at.ensures)
           (stash_marked kept half notes k w near c.loop-bucket.invariant (let past = z.if-bucket-lt-HOMES.false in omega (arith, past))))
     ]
 
