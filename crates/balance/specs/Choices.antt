@@ -1,8 +1,7 @@
 -- Which of its two buckets takes a new record: the one with fewer records, home where both have as many, and neither where both
 -- are full.
-use Rattle.std.specs.Prelude.{◌≡◌, ◌≢◌, ℕ, nat_lt, count_ones, None, if◌then◌else◌}
-use Rattle.word_bits.specs.Bits.{bits}
-use Rattle.bucket_meta.specs.Bucket.{record_slots}
+use Rattle.std.specs.Prelude.{◌≡◌, ◌≢◌, ℕ, nat_lt, None, if◌then◌else◌}
+use Rattle.bucket_meta.specs.Bucket.{record_slots, records_of}
 use Rattle.bucket_meta.specs.Search.{lowest_free}
 use Rattle.balance.specs.declared.choice.Choice.{Choice}
 use Rattle.balance.specs.declared.choice.Choice.TheVariants.{Home, Probe, Neither}
@@ -13,7 +12,7 @@ choice_by home probe = if nat_lt probe home then Probe else if nat_lt home recor
 
 -- and by their metadata words
 abbrev pub choice_of : ℕ → ℕ → Choice
-choice_of w1 u1 = choice_by (count_ones (bits 0 record_slots w1)) (count_ones (bits 0 record_slots u1))
+choice_of w1 u1 = choice_by (records_of w1) (records_of u1)
 
 -- A CHOICE HAS ROOM, by the metadata words of home and probing bucket: the bucket that is chosen has a free slot, and where neither
 -- is, neither has one

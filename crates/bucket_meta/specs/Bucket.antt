@@ -1,5 +1,5 @@
 -- The fields of a bucket's words. Word 0 is the lock word and words 1 to 3 are the metadata, here w0 to w3; record slot s has its key in word 4 + 2s and its value in word 5 + 2s. Bits are counted from 0, the lowest.
-use Rattle.std.specs.Prelude.{ℕ, ◌+◌, ◌-◌, ◌*◌, ◌/◌, ◌%◌, ◌^◌, nat_lt, if◌then◌else◌}
+use Rattle.std.specs.Prelude.{ℕ, ◌+◌, ◌-◌, ◌*◌, ◌/◌, ◌%◌, ◌^◌, nat_lt, count_ones, if◌then◌else◌}
 use Rattle.word_bits.specs.Bits.{bits, bit}
 
 -- how many record slots a bucket has
@@ -52,6 +52,10 @@ spent_lock = free_lock last_lock_version
 -- 1 where record slot s, of 14, has a record
 abbrev pub allocated : ℕ → ℕ → ℕ
 allocated s w1 = bit s w1
+
+-- how many records a bucket has, by its word 1
+abbrev pub records_of : ℕ → ℕ
+records_of w1 = count_ones (bits 0 record_slots w1)
 
 -- 1 where the record of slot s stands in its probing bucket
 abbrev pub member : ℕ → ℕ → ℕ

@@ -1,11 +1,10 @@
 -- By what a change is made and answered, in any state; and its ends in a world, beside any other callers.
-use Rattle.std.specs.Prelude.{◌≡◌, ◌≢◌, ℕ, ◌<◌, ◌≤◌, true, None, Some, List, ◌⊎◌, ◌↔◌, count_ones, slice_index}
+use Rattle.std.specs.Prelude.{◌≡◌, ◌≢◌, ℕ, ◌<◌, ◌≤◌, true, None, Some, List, ◌⊎◌, ◌↔◌, slice_index}
 use Rattle.op_core.specs.declared.want.Want.TheVariants.{Load, Done as DoneWant}
 use Rattle.op_core.specs.declared.want.Ans.{Ans}
 use Rattle.op_core.specs.declared.want.Ans.TheVariants.{Value, Drawn}
 use Rattle.op_core.specs.declared.why.Why.TheVariants.{Busy}
-use Rattle.word_bits.specs.Bits.{bits}
-use Rattle.bucket_meta.specs.Bucket.{lock_bit, record_slots}
+use Rattle.bucket_meta.specs.Bucket.{lock_bit, record_slots, records_of}
 use Rattle.bucket_meta.specs.Search.{IsThere, lowest_free}
 use Rattle.trace.specs.Events.{Words}
 use Rattle.image_layout.specs.Volatile.{counter_word}
@@ -49,7 +48,7 @@ MadeOnlySo = (op : WriteOp) (a : Ans) → HasMadeAt (taken op a).stage.step → 
 -- ---- where a new record comes
 -- as many records has a bucket, by its words
 abbrev pub records_in : List ℕ → ℕ
-records_in words = count_ones (bits 0 record_slots (slice_index words 1))
+records_in words = records_of (slice_index words 1)
 
 -- IT TAKES THE LOWEST FREE SLOT of the home bucket where that has no more records than the probing bucket, and else of the probing
 -- bucket
