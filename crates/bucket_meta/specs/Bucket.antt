@@ -18,6 +18,17 @@ first_key = 4
 abbrev pub first_value : ℕ
 first_value = first_key + 1
 
+-- the words of a record: its key, and its value behind it
+abbrev pub record_words : ℕ
+record_words = 2
+
+-- the word of the key of record slot r, and that of its value
+abbrev pub key_place : ℕ → ℕ
+key_place r = first_key + record_words * r
+
+abbrev pub value_place : ℕ → ℕ
+value_place r = first_value + record_words * r
+
 -- 1 where the bucket is locked: the lowest bit of its lock word
 abbrev pub lock_bit : ℕ → ℕ
 lock_bit w0 = w0 % 2

@@ -71,6 +71,9 @@ pub const FIRST_KEY: usize = 4;
 /// The word of the value of that slot, behind its key.
 pub const FIRST_VALUE: usize = FIRST_KEY + 1;
 
+/// How many words a record has: its key, and its value behind it.
+pub const RECORD_WORDS: usize = 2;
+
 /// Whether a lock word says that its bucket is locked.
 pub fn is_locked(w0: u64) -> bool
     ensures { result ≡ (lock_bit w0 == 1) }
@@ -137,7 +140,7 @@ pub fn lowest_with(words: &[u64; BUCKET_WORDS], key: u64) -> Option<u8>
     ensures nowhere { IfNone result ((slot : ℕ) → slot < record_slots → IsThere words.now key slot → ⊥) }
 {
     for slot in 0..SLOTS {
-        if is_taken(words[1], slot) && words[FIRST_KEY + 2 * usize::from(slot)] == key {
+        if is_taken(words[1], slot) && words[FIRST_KEY + RECORD_WORDS * usize::from(slot)] == key {
             return Some(slot);
         }
     }

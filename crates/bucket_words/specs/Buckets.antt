@@ -1,6 +1,6 @@
 -- One bucket, by its words: which record slots are taken, and what a key has there.
 use Rattle.std.specs.Prelude.{◌≡◌, ℕ, zero, suc, ◌+◌, ◌*◌, ◌==◌, ◌&&◌, Option, None, Some, if◌then◌else◌}
-use Rattle.bucket_meta.specs.Bucket.{allocated, finger, first_key, first_value}
+use Rattle.bucket_meta.specs.Bucket.{allocated, finger, first_key, first_value, record_words}
 use Rattle.trace.specs.Events.{Words}
 
 -- THE BUCKET that begins at a word
@@ -10,10 +10,10 @@ module _ (word : Words) (at : ℕ) where
   IsTaken r = allocated r (word (at + 1)) ≡ 1
 
   abbrev pub key_in : ℕ → ℕ
-  key_in r = word (at + first_key + 2 * r)
+  key_in r = word (at + first_key + record_words * r)
 
   abbrev pub value_in : ℕ → ℕ
-  value_in r = word (at + first_value + 2 * r)
+  value_in r = word (at + first_value + record_words * r)
 
   abbrev pub finger_in : ℕ → ℕ
   finger_in r = finger r (word (at + 2)) (word (at + 3))

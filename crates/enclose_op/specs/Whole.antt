@@ -1,8 +1,8 @@
 -- WHAT IS ENCLOSED: a segment whose guard and locks are all held and whose words are all known, as one machine of a split hands it on to the
 -- next.
-use Rattle.std.specs.Prelude.{◌≡◌, ℕ, min, ◌+◌, ◌*◌, ◌-◌, ◌^◌, ◌<◌, ◌≤◌, ◌==◌, ◌⊎◌, true, [], ◌∷◌, length, slice_index, if◌then◌else◌}
+use Rattle.std.specs.Prelude.{◌≡◌, ℕ, min, ◌+◌, ◌-◌, ◌^◌, ◌<◌, ◌≤◌, ◌==◌, ◌⊎◌, true, [], ◌∷◌, length, slice_index, if◌then◌else◌}
 use Rattle.trace.specs.Events.{Words}
-use Rattle.bucket_meta.specs.Bucket.{record_slots, first_key, locked}
+use Rattle.bucket_meta.specs.Bucket.{record_slots, key_place, locked}
 use Rattle.hash_word.specs.Hash.{Covers, home_of, hash_bits}
 use Rattle.segment_head.specs.HeadWord.{version_in, depth_in, pattern_in}
 use Rattle.segment_head.specs.SplitHeads.{side_depth_in, side_pattern_in, one_pattern_field}
@@ -48,7 +48,7 @@ abbrev pub kept_third : Enclosed → ℕ → ℕ
 kept_third e b = kept_word e b 3
 
 abbrev pub kept_key : Enclosed → ℕ → ℕ → ℕ
-kept_key e b r = kept_word e b (first_key + 2 * r)
+kept_key e b r = kept_word e b (key_place r)
 
 -- these words, as what is loaded of a segment
 pub record HasKept (e : Enclosed) (loaded : Loaded) : Type 0 where

@@ -7,7 +7,7 @@ ghost use Rattle.segment_head.specs.SplitHeads.{one_pattern_field};
 ghost use Rattle.image_layout.specs.Places.{buckets};
 ghost use Rattle.whole_segment.specs.Records.{first_in, third_in, key_in};
 
-use bucket_meta::words::{BUCKET_WORDS, FIRST_KEY, SLOTS};
+use bucket_meta::words::{BUCKET_WORDS, FIRST_KEY, RECORD_WORDS, SLOTS};
 use image_layout::{BUCKETS, WORDS_OF_BUCKETS};
 use map_model::Change;
 use segment_head::word::{DEEPEST_SPLIT, depth_of, pattern_of};
@@ -45,7 +45,8 @@ impl Enclosed {
         ensures third { loaded.new.third ≡ loaded.old.third }
     {
         for slot in 0..SLOTS {
-            let at = BUCKET_WORDS * usize::from(bucket) + FIRST_KEY + 2 * usize::from(slot);
+            let at =
+                BUCKET_WORDS * usize::from(bucket) + FIRST_KEY + RECORD_WORDS * usize::from(slot);
             loaded.set_key(bucket, slot, self.buckets[at]);
         }
     }

@@ -6,7 +6,7 @@ ghost use Rattle.image_layout.specs.Places.{bucket_at, words_of, buckets, block,
 ghost use Rattle.sound_image.specs.Records.{slot_key, slot_value};
 ghost use Rattle.image_rules.specs.Slots.{IsRecordSlot, IsTaken};
 
-use bucket_meta::words::{self, FIRST_KEY, FIRST_VALUE};
+use bucket_meta::words::{self, FIRST_KEY, FIRST_VALUE, RECORD_WORDS};
 use image_layout::Geometry;
 
 /// A record slot.
@@ -61,7 +61,7 @@ pub(crate) fn key_in(geometry: &Geometry, words: &[u64], record_slot: RecordSlot
 {
     words[bucket_word(geometry, record_slot.segment, record_slot.bucket)
         + FIRST_KEY
-        + 2 * usize::from(record_slot.slot)]
+        + RECORD_WORDS * usize::from(record_slot.slot)]
 }
 
 /// The value in a record slot.
@@ -72,5 +72,5 @@ pub(crate) fn value_in(geometry: &Geometry, words: &[u64], record_slot: RecordSl
 {
     words[bucket_word(geometry, record_slot.segment, record_slot.bucket)
         + FIRST_VALUE
-        + 2 * usize::from(record_slot.slot)]
+        + RECORD_WORDS * usize::from(record_slot.slot)]
 }

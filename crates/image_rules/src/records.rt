@@ -11,7 +11,7 @@ ghost use Rattle.image_rules.specs.Slots.{IsRecordSlot, IsTwin, Needs, IsStandin
 
 use crate::heads::owns;
 use crate::record_slot::{RecordSlot, bucket_word, is_empty, is_taken, key_in, value_in};
-use bucket_meta::words::{FIRST_KEY, SLOTS, finger_of, is_member};
+use bucket_meta::words::{FIRST_KEY, RECORD_WORDS, SLOTS, finger_of, is_member};
 use image_layout::{BUCKETS, Geometry, HOMES};
 use way::key_hash;
 
@@ -243,7 +243,8 @@ impl RecordRule {
     {
         for b in 0..BUCKETS {
             if let Some(slot) = self.first_broken(geometry, words, s, b) {
-                let key = bucket_word(geometry, s, b) + FIRST_KEY + 2 * usize::from(slot);
+                let key =
+                    bucket_word(geometry, s, b) + FIRST_KEY + RECORD_WORDS * usize::from(slot);
                 return Some(key as u64);
             }
         }

@@ -20,6 +20,9 @@ use segment_head::word::NORMAL;
 /// The word of a bucket in which the key of its first record slot stands.
 const FIRST_KEY: u64 = words::FIRST_KEY as u64;
 
+/// How many words a record has.
+const RECORD_WORDS: u64 = words::RECORD_WORDS as u64;
+
 /// Whether the notes of a bucket are exact, if it is a home.
 fn has_its_notes(geometry: &Geometry, words: &[u64], s: u64, b: u8) -> bool
     requires whole { length words.now ≡ words_of geometry.now }
@@ -51,7 +54,7 @@ fn bucket_breach(geometry: &Geometry, words: &[u64], s: u64, b: u8) -> Option<u6
         return Some(at as u64 + 1);
     }
     match RecordRule::Once.first_broken(geometry, words, s, b) {
-        Some(slot) => Some(at as u64 + FIRST_KEY + 2 * u64::from(slot)),
+        Some(slot) => Some(at as u64 + FIRST_KEY + RECORD_WORDS * u64::from(slot)),
         None => None,
     }
 }

@@ -1,6 +1,6 @@
 -- How a displacement fits the world: the kind of each of its events, and the view that its caller has in each step.
-use Rattle.std.specs.Prelude.{◌≡◌, ◌≢◌, ℕ, ◌+◌, ◌*◌, ◌%◌, ◌^◌, ◌<◌, ⊤, true, Option, None, Some, List, [], ◌∷◌, slice_index}
-use Rattle.bucket_meta.specs.Bucket.{allocated, finger, record_slots, first_key}
+use Rattle.std.specs.Prelude.{◌≡◌, ◌≢◌, ℕ, ◌+◌, ◌%◌, ◌^◌, ◌<◌, ⊤, true, Option, None, Some, List, [], ◌∷◌, slice_index}
+use Rattle.bucket_meta.specs.Bucket.{allocated, finger, record_slots, key_place}
 use Rattle.hash_word.specs.Hash.{home_of, finger_of}
 use Rattle.trace.specs.Events.{Words}
 use Rattle.image_layout.specs.Places.{root_word, block}
@@ -149,9 +149,9 @@ pub record CanMove (site : Ground) (kept : Kept) (direction : Direction) (from t
   pub to_low : to < record_slots
   pub taken : allocated from (slice_index (words_in kept.buckets (source_of direction)) 1) ≡ 1
   pub is_free : allocated to (slice_index (words_in kept.buckets (target_of direction)) 1) ≡ 0
-  pub home : bucket_of kept.hash (home_place direction) ≡ home_of (key_hash site.shape (slice_index (words_in kept.buckets (source_of direction)) (first_key + 2 * from)))
+  pub home : bucket_of kept.hash (home_place direction) ≡ home_of (key_hash site.shape (slice_index (words_in kept.buckets (source_of direction)) (key_place from)))
   pub fingerprint : finger from (slice_index (words_in kept.buckets (source_of direction)) 2) (slice_index (words_in kept.buckets (source_of direction)) 3)
-      ≡ finger_of (key_hash site.shape (slice_index (words_in kept.buckets (source_of direction)) (first_key + 2 * from)))
+      ≡ finger_of (key_hash site.shape (slice_index (words_in kept.buckets (source_of direction)) (key_place from)))
 
 -- a shift is that of a record that can move, the lowest one
 pub record IsShift (site : Ground) (kept : Kept) (shift : Shift) : Type 0 where

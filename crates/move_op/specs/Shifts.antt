@@ -1,7 +1,7 @@
 -- Which record moves to make room for a new one, and what is stored of its copy, of its source, and of the new record.
-use Rattle.std.specs.Prelude.{◌==◌, ◌&&◌, ℕ, zero, suc, ◌+◌, ◌*◌, Option, None, Some, List, slice_index, if◌then◌else◌}
+use Rattle.std.specs.Prelude.{◌==◌, ◌&&◌, ℕ, zero, suc, ◌+◌, Option, None, Some, List, slice_index, if◌then◌else◌}
 use Rattle.hash_word.specs.Hash.{finger_of}
-use Rattle.bucket_meta.specs.Bucket.{member, finger, record_slots, first_key, first_value}
+use Rattle.bucket_meta.specs.Bucket.{member, finger, record_slots, key_place, value_place}
 use Rattle.bucket_meta.specs.Search.{is_taken, lowest_free}
 use Rattle.bucket_meta.specs.Marks.{inserted_mark, member_mark, removed_mark, finger_place, with_finger}
 use Rattle.phase.specs.declared.role.Role.{Role}
@@ -62,8 +62,8 @@ arrived_mark Backward w1 slot = inserted_mark w1 slot
 abbrev pub copied : Direction → List ℕ → ℕ → List ℕ → ℕ → Record
 copied direction source from target to = record {
   slot = to;
-  key = slice_index source (first_key + 2 * from);
-  value = slice_index source (first_value + 2 * from);
+  key = slice_index source (key_place from);
+  value = slice_index source (value_place from);
   fingers = with_finger (slice_index target (finger_place to)) to (finger from (slice_index source 2) (slice_index source 3));
   published = 1;
   mark = arrived_mark direction (slice_index target 1) to;

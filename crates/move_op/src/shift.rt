@@ -8,8 +8,8 @@ ghost use Rattle.move_op.specs.Shifts.{source_of, target_of, arrived_mark, movin
 use crate::step::{Direction, Leg, Shift};
 use bucket_meta::Meta;
 use bucket_meta::words::{
-    BUCKET_WORDS, FIRST_KEY, finger_of, finger_place, inserted_mark, lowest_free, member_mark,
-    removed_mark, with_finger,
+    BUCKET_WORDS, FIRST_KEY, RECORD_WORDS, finger_of, finger_place, inserted_mark, lowest_free,
+    member_mark, removed_mark, with_finger,
 };
 use displace::{backward, forward};
 use hash_word::finger;
@@ -81,7 +81,7 @@ fn copied(
     requires to { to < record_slots }
     ensures { result ≡ copied direction source.now from target.now to }
 {
-    let at = FIRST_KEY + 2 * usize::from(from);
+    let at = FIRST_KEY + RECORD_WORDS * usize::from(from);
     Record {
         slot: to,
         key: source[at],

@@ -1,5 +1,5 @@
 -- The causes of an attempt's end, one vocabulary for all machines: in the newest words, and in what the attempt did.
-use Rattle.std.specs.Prelude.{◌≡◌, ◌≢◌, ℕ, ◌+◌, ◌*◌, ◌^◌, ◌<◌, ◌≤◌, ⊤, true, false, None, Some, List, ◌⊎◌}
+use Rattle.std.specs.Prelude.{◌≡◌, ◌≢◌, ℕ, ◌+◌, ◌^◌, ◌<◌, ◌≤◌, ⊤, true, false, None, Some, List, ◌⊎◌}
 use Rattle.op_core.specs.declared.want.Want.{Want}
 use Rattle.op_core.specs.declared.want.Want.TheVariants.{Power, Done}
 use Rattle.op_core.specs.declared.want.Ans.{Ans}
@@ -7,7 +7,7 @@ use Rattle.op_core.specs.declared.why.Why.{Why}
 use Rattle.op_core.specs.declared.why.Why.TheVariants.{Busy, Moved}
 use Rattle.op_core.specs.Answers.{Finds}
 use Rattle.hash_word.specs.Hash.{home_of, probing_of, next_of, previous_of, finger_of}
-use Rattle.bucket_meta.specs.Bucket.{record_slots, first_key, lock_bit}
+use Rattle.bucket_meta.specs.Bucket.{record_slots, key_place, lock_bit}
 use Rattle.bucket_meta.specs.Slots.{IsFull}
 use Rattle.bucket_meta.specs.Visits.{must_visit}
 use Rattle.trace.specs.Events.{Words}
@@ -179,7 +179,7 @@ module _ (shape : Shape) (words : Words) (did : Doings) (call : Call) where
   -- all record slots of a bucket of a segment were taken; and the attempt loaded the key word of each slot, none of which is the call's key
   pub record IsFullOfOthers (segment b meta : ℕ) : Type 0 where
     pub was : WasFull shape did.loads segment b meta
-    pub others : (slot : ℕ) → slot < record_slots → (key : ℕ) × Has (bucket_at shape segment b + (first_key + 2 * slot), key) did.loads × (key ≢ key_of call)
+    pub others : (slot : ℕ) → slot < record_slots → (key : ℕ) × Has (bucket_at shape segment b + key_place slot, key) did.loads × (key ≢ key_of call)
 
   -- in a segment of the image that was named, home and probing bucket of this insert's key are full of other records, of which none can
   -- be moved, by the metadata words of these two, of the next and of the previous bucket; and both stash buckets are full of other records

@@ -1,6 +1,6 @@
 -- The stores of one record, up to where they are settled: what is wanted, and what comes after.
 use Rattle.std.specs.Prelude.{ℕ, ◌+◌, ◌-◌, ◌*◌, ◌/◌, nat_lt, if◌then◌else◌}
-use Rattle.bucket_meta.specs.Bucket.{first_key, first_value}
+use Rattle.bucket_meta.specs.Bucket.{first_key, first_value, record_words}
 use Rattle.bucket_meta.specs.Marks.{finger_place}
 use Rattle.trace.specs.Events.{line_words, line_of}
 use Rattle.map_model.specs.declared.change.Effect.{Effect}
@@ -22,10 +22,10 @@ brought Remove = 0
 -- ---- the words of a record in the bucket of a lock word
 module _ (lock : ℕ) (written : Record) where
   abbrev pub key_at : ℕ
-  key_at = lock + first_key + 2 * written.slot
+  key_at = lock + first_key + record_words * written.slot
 
   abbrev pub value_at : ℕ
-  value_at = lock + first_value + 2 * written.slot
+  value_at = lock + first_value + record_words * written.slot
 
   -- the word of its fingerprint
   abbrev pub fingers_at : ℕ
@@ -48,7 +48,7 @@ module _ (lock : ℕ) (written : Record) where
 
 -- how many record slots have key and value in the first line of the bucket
 abbrev pub slots_of_first_line : ℕ
-slots_of_first_line = (line_words - first_key) / 2
+slots_of_first_line = (line_words - first_key) / record_words
 
 -- the line of the fingerprints is the first one of the bucket, and so the record's too for these slots
 abbrev pub make_taken : ℕ → Make → Made

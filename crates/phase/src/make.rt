@@ -2,7 +2,7 @@
 //! change.
 
 ghost use Rattle.std.specs.Prelude.{◌≡◌, ◌≤◌, ◌+◌, ◌*◌};
-ghost use Rattle.bucket_meta.specs.Bucket.{first_key};
+ghost use Rattle.bucket_meta.specs.Bucket.{first_key, record_words};
 ghost use Rattle.image_layout.specs.Places.{most_words};
 ghost use Rattle.phase.specs.Makes.{brought, make_wanted, make_taken};
 
@@ -14,8 +14,11 @@ use trace::{LINE, line_of};
 /// The word of a bucket in which the key of its first record slot stands.
 const FIRST_KEY: u64 = words::FIRST_KEY as u64;
 
+/// How many words a record has.
+const RECORD_WORDS: u64 = words::RECORD_WORDS as u64;
+
 /// How many record slots have key and value in the first line of the bucket.
-const SLOTS_OF_FIRST_LINE: u8 = ((LINE - FIRST_KEY) / 2) as u8;
+const SLOTS_OF_FIRST_LINE: u8 = ((LINE - FIRST_KEY) / RECORD_WORDS) as u8;
 
 /// What is stored of one record. The lock word of its bucket is not in it: it is told beside.
 #[derive(Clone, Copy)]
@@ -79,10 +82,10 @@ pub fn brought(effect: Effect) -> u64
 /// The key word of a record slot, in the bucket of this lock word; the value word stands behind it.
 fn key_at(lock: u64, slot: u8) -> u64
     requires { lock ≤ most_words }
-    ensures is { result ≡ lock + first_key + 2 * slot }
+    ensures is { result ≡ lock + first_key + record_words * slot }
     ensures most { result ≤ 2 * most_words }
 {
-    lock + FIRST_KEY + 2 * u64::from(slot)
+    lock + FIRST_KEY + RECORD_WORDS * u64::from(slot)
 }
 
 /// A word of a bucket by its number there.

@@ -38,6 +38,8 @@ pub const SLOT_WORDS: u16 = SEGMENT_WORDS as u16;
 pub(crate) const FIRST_KEY: u16 = words::FIRST_KEY as u16;
 /// The word before it, which is the last one of the metadata.
 const LAST_OF_METADATA: u16 = FIRST_KEY - 1;
+/// How many words a record has.
+pub(crate) const RECORD_WORDS: u16 = words::RECORD_WORDS as u16;
 
 // ---- headers
 

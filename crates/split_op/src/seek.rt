@@ -4,7 +4,7 @@ ghost use Rattle.std.specs.Prelude.{◌≡◌, ◌<◌, ◌≤◌, slice_index};
 ghost use Rattle.image_layout.specs.Places.{segment_words};
 ghost use Rattle.split_op.specs.Batches.{is_copied, copied_from};
 
-use crate::batch::{FIRST_KEY, SLOT_WORDS};
+use crate::batch::{FIRST_KEY, RECORD_WORDS, SLOT_WORDS};
 use bucket_meta::words::is_taken;
 use image_layout::{BLOCK_WORDS, WORDS_OF_BUCKETS};
 
@@ -22,7 +22,7 @@ pub(crate) fn is_copied(words: &[u64; WORDS_OF_BUCKETS as usize], number: u16) -
     } else {
         is_taken(
             words[usize::from((number - place).saturating_sub(BLOCK_WORDS - 1))],
-            ((place - FIRST_KEY) / 2) as u8,
+            ((place - FIRST_KEY) / RECORD_WORDS) as u8,
         )
     }
 }

@@ -1,6 +1,6 @@
 -- What the holder of locks has to know of buckets to make a store there, said over the words that it knows.
-use Rattle.std.specs.Prelude.{◌≡◌, ◌≢◌, ◌≤◌, ℕ, ◌+◌, ◌*◌, ◌<◌, ◌⊎◌, [], true, false, None, Some, List}
-use Rattle.bucket_meta.specs.Bucket.{allocated, member, overflow_count, record_slots, first_key, first_value, note_fingers_part}
+use Rattle.std.specs.Prelude.{◌≡◌, ◌≢◌, ◌≤◌, ℕ, ◌+◌, ◌<◌, ◌⊎◌, [], true, false, None, Some, List}
+use Rattle.bucket_meta.specs.Bucket.{allocated, member, overflow_count, record_slots, key_place, value_place, note_fingers_part}
 use Rattle.bucket_meta.specs.Notes.{AreExact}
 use Rattle.bucket_words.specs.Core.{core_of}
 use Rattle.hash_word.specs.Hash.{home_of, probing_of, finger_of}
@@ -42,8 +42,8 @@ pub record KnowsMeta (shape : Shape) (v : View) (s b : ℕ) (word : Words) : Typ
 pub record SparesTaken (word : Words) (at m x : ℕ) : Type 0 where
   pub from : 2 ≤ m
   pub inside : m < block
-  pub keys : (t : ℕ) → t < record_slots → IsTaken word at t → first_key + 2 * t ≢ m
-  pub values : (t : ℕ) → t < record_slots → IsTaken word at t → first_value + 2 * t ≢ m
+  pub keys : (t : ℕ) → t < record_slots → IsTaken word at t → key_place t ≢ m
+  pub values : (t : ℕ) → t < record_slots → IsTaken word at t → value_place t ≢ m
   pub fingers : (t : ℕ) → t < record_slots → IsTaken word at t → finger_in (with_word word (at + m) x) at t ≡ finger_in word at t
   pub overflow : m ≡ 3 → note_fingers_part x ≡ note_fingers_part (word (at + 3))
 

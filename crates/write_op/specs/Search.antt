@@ -1,8 +1,8 @@
 -- What the loaded words say: where the key stands, which stash buckets are to be visited, where a slot is free, what is
 -- stored of a record, and how the note of one is taken away that leaves the stash.
-use Rattle.std.specs.Prelude.{◌==◌, ℕ, ◌+◌, ◌*◌, Bool, true, false, Option, None, Some, List, slice_index, if◌then◌else◌}
+use Rattle.std.specs.Prelude.{◌==◌, ℕ, Bool, true, false, Option, None, Some, List, slice_index, if◌then◌else◌}
 use Rattle.hash_word.specs.Hash.{finger_of}
-use Rattle.bucket_meta.specs.Bucket.{first_value}
+use Rattle.bucket_meta.specs.Bucket.{value_place}
 use Rattle.bucket_meta.specs.Search.{lowest_with, lowest_free}
 use Rattle.bucket_meta.specs.Marks.{inserted_mark, member_mark, removed_mark, finger_place, with_finger}
 use Rattle.bucket_meta.specs.NoteWords.{note_place, freed_mark, freed_fingers, lowered_count}
@@ -67,7 +67,7 @@ taken_mark place w1 slot = inserted_mark w1 slot
 -- the word whose store makes the change, by its number in the bucket
 abbrev pub published_word : Effect → ℕ → ℕ
 published_word (Insert value) slot = 1
-published_word (Update value) slot = first_value + 2 * slot
+published_word (Update value) slot = value_place slot
 published_word Remove slot = 1
 
 -- what is stored there

@@ -20,6 +20,9 @@ use phase::{Buckets, Record, Role, brought};
 /// The word of a bucket in which the value of its first record slot stands.
 const FIRST_VALUE: u8 = words::FIRST_VALUE as u8;
 
+/// How many words a record has.
+const RECORD_WORDS: u8 = words::RECORD_WORDS as u8;
+
 // ---- where the key stands, and where a slot is free
 
 /// This slot of a bucket, or else what is found behind it.
@@ -115,7 +118,7 @@ fn published_word(effect: Effect, slot: u8) -> u8
     ensures { result ≡ published_word effect slot }
 {
     match effect {
-        Effect::Update(_) => FIRST_VALUE + 2 * slot,
+        Effect::Update(_) => FIRST_VALUE + RECORD_WORDS * slot,
         Effect::Insert(_) | Effect::Remove => 1,
     }
 }
