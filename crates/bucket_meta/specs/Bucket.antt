@@ -1,6 +1,7 @@
 -- The fields of a bucket's words. Word 0 is the lock word and words 1 to 3 are the metadata, here w0 to w3; record slot s has its key in word 4 + 2s and its value in word 5 + 2s. Bits are counted from 0, the lowest.
 use Rattle.std.specs.Prelude.{ℕ, ◌+◌, ◌-◌, ◌*◌, ◌/◌, ◌%◌, ◌^◌, nat_lt, count_ones, if◌then◌else◌}
 use Rattle.word_bits.specs.Bits.{bits, bit}
+use Rattle.hash_word.specs.Hash.{fingerprint_bits}
 
 -- how many record slots a bucket has
 abbrev pub record_slots : ℕ
@@ -76,13 +77,13 @@ member s w1 = bit (record_slots + s) w1
 abbrev pub marks_bits : ℕ
 marks_bits = 2 * record_slots
 
--- how many fingerprints a word has room for, of 8 bits each
+-- how many fingerprints a word has room for
 abbrev pub fingers_of_word : ℕ
 fingers_of_word = 8
 
 -- the fingerprint of slot s: 0 to 7 stand in w2, 8 to 13 in w3
 abbrev pub finger : ℕ → ℕ → ℕ → ℕ
-finger s w2 w3 = if nat_lt s fingers_of_word then bits (8 * s) 8 w2 else bits (8 * (s - fingers_of_word)) 8 w3
+finger s w2 w3 = if nat_lt s fingers_of_word then bits (fingerprint_bits * s) fingerprint_bits w2 else bits (fingerprint_bits * (s - fingers_of_word)) fingerprint_bits w3
 
 -- from which bit of w1 on a bit of each note slot says whether it holds a note
 abbrev pub note_used_from : ℕ
@@ -110,7 +111,7 @@ upper_fingers_from = count_from + count_bits
 
 -- from which bit of w3 on those of note slots 0 and 1 stand, above those of record slots
 abbrev pub note_fingers_from : ℕ
-note_fingers_from = 8 * (record_slots - fingers_of_word)
+note_fingers_from = fingerprint_bits * (record_slots - fingers_of_word)
 
 -- 1 where note slot i, of 4, holds the note of a record that stands in the stash
 abbrev pub note_used : ℕ → ℕ → ℕ
@@ -126,7 +127,9 @@ note_index i w1 = bit (note_index_from + i) w1
 
 -- the fingerprint of a note: 0 and 1 stand in w3, 2 and 3 in w1
 abbrev pub note_finger : ℕ → ℕ → ℕ → ℕ
-note_finger i w1 w3 = if nat_lt i 2 then bits (note_fingers_from + 8 * i) 8 w3 else bits (upper_fingers_from + 8 * (i - 2)) 8 w1
+note_finger i w1 w3 =
+    if nat_lt i 2 then bits (note_fingers_from + fingerprint_bits * i) fingerprint_bits w3
+    else bits (upper_fingers_from + fingerprint_bits * (i - 2)) fingerprint_bits w1
 
 -- how many records of this bucket stand in the stash without a note
 abbrev pub overflow_count : ℕ → ℕ

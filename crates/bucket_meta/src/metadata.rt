@@ -8,6 +8,7 @@ use crate::words::{
     COUNT_BITS, COUNT_FROM, LAST_FINGER_FROM, NOTE_INDEX_FROM, NOTE_MEMBER_FROM, NOTE_SET_BITS,
     NOTE_SLOTS, NOTE_USED_FROM, SET_BITS, SLOTS, UPPER_FINGERS_FROM,
 };
+use hash_word::FINGERPRINT_BITS;
 use word_bits::{bits_of, with_bits};
 
 /// What the three words of metadata of a bucket say.
@@ -93,8 +94,8 @@ impl Meta {
             ofps: [
                 o0,
                 o1,
-                bits_of(w1, UPPER_FINGERS_FROM, 8) as u8,
-                bits_of(w1, LAST_FINGER_FROM, 8) as u8,
+                bits_of(w1, UPPER_FINGERS_FROM, FINGERPRINT_BITS) as u8,
+                bits_of(w1, LAST_FINGER_FROM, FINGERPRINT_BITS) as u8,
             ],
         }
     }

@@ -9,6 +9,7 @@ ghost use Rattle.bucket_meta.specs.Marks.{inserted_mark, member_mark, removed_ma
 ghost use Rattle.bucket_meta.specs.Visits.{is_note, is_named, must_visit};
 ghost use Rattle.bucket_meta.specs.NoteWords.{note_place, finger_bits, freed_mark, freed_fingers, lowered_count, is_unused, unused_place, with_bit, with_note_finger, noted_mark, noted_fingers, raised_count};
 
+use hash_word::FINGERPRINT_BITS;
 use word_bits::{bits_of, is_set, mask};
 
 /// How many words a bucket has.
@@ -44,17 +45,17 @@ pub const COUNT_FROM: u32 = NOTE_INDEX_FROM + NOTE_SET_BITS;
 /// How many bits that count has.
 pub const COUNT_BITS: u32 = 5;
 
-/// From which bit of it on the fingerprints of note slots 2 and 3 stand, of 8 bits each.
+/// From which bit of it on the fingerprints of note slots 2 and 3 stand.
 pub const UPPER_FINGERS_FROM: u32 = COUNT_FROM + COUNT_BITS;
 
 /// From which bit of it on the fingerprint of note slot 3 stands.
-pub(crate) const LAST_FINGER_FROM: u32 = UPPER_FINGERS_FROM + 8;
+pub(crate) const LAST_FINGER_FROM: u32 = UPPER_FINGERS_FROM + FINGERPRINT_BITS;
 
-/// How many fingerprints a word has room for, of 8 bits each.
+/// How many fingerprints a word has room for.
 pub const FINGERS_OF_WORD: u8 = 8;
 
 /// From which bit of word 3 on the fingerprints of note slots 0 and 1 stand, above those of record slots.
-pub const NOTE_FINGERS_FROM: u32 = 8 * (SLOTS - FINGERS_OF_WORD) as u32;
+pub const NOTE_FINGERS_FROM: u32 = FINGERPRINT_BITS * (SLOTS - FINGERS_OF_WORD) as u32;
 
 /// Which byte of word 3 is the fingerprint of note slot 0.
 const FIRST_NOTE_BYTE: u8 = SLOTS - FINGERS_OF_WORD;
@@ -126,9 +127,13 @@ pub fn finger_of(w2: u64, w3: u64, slot: u8) -> u8
     ensures { result ≡ finger slot w2 w3 }
 {
     if slot < FINGERS_OF_WORD {
-        bits_of(w2, 8 * u32::from(slot), 8) as u8
+        bits_of(w2, FINGERPRINT_BITS * u32::from(slot), FINGERPRINT_BITS) as u8
     } else {
-        bits_of(w3, 8 * u32::from(slot - FINGERS_OF_WORD), 8) as u8
+        bits_of(
+            w3,
+            FINGERPRINT_BITS * u32::from(slot - FINGERS_OF_WORD),
+            FINGERPRINT_BITS,
+        ) as u8
     }
 }
 
@@ -262,9 +267,17 @@ pub fn note_finger_of(w1: u64, w3: u64, note_slot: u8) -> u8
     ensures { result ≡ note_finger note_slot w1 w3 }
 {
     if note_slot < 2 {
-        bits_of(w3, NOTE_FINGERS_FROM + 8 * u32::from(note_slot), 8) as u8
+        bits_of(
+            w3,
+            NOTE_FINGERS_FROM + FINGERPRINT_BITS * u32::from(note_slot),
+            FINGERPRINT_BITS,
+        ) as u8
     } else {
-        bits_of(w1, UPPER_FINGERS_FROM + 8 * u32::from(note_slot - 2), 8) as u8
+        bits_of(
+            w1,
+            UPPER_FINGERS_FROM + FINGERPRINT_BITS * u32::from(note_slot - 2),
+            FINGERPRINT_BITS,
+        ) as u8
     }
 }
 

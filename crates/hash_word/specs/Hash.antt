@@ -16,9 +16,13 @@ abbrev pub hash_of : Kind → ℕ → ℕ
 hash_of Identity key = key
 hash_of Mix key = mixed key
 
+-- how many bits a fingerprint has
+abbrev pub fingerprint_bits : ℕ
+fingerprint_bits = 8
+
 -- bits 0 to 7 are the fingerprint
 abbrev pub finger_of : ℕ → ℕ
-finger_of h = h % 2 ^ 8
+finger_of h = h % 2 ^ fingerprint_bits
 
 -- how many home buckets a segment has
 abbrev pub homes : ℕ
@@ -26,7 +30,7 @@ homes = 64
 
 -- bits 8 to 13 are the number of the home bucket
 abbrev pub home_of : ℕ → ℕ
-home_of h = h / 2 ^ 8 % homes
+home_of h = h / 2 ^ fingerprint_bits % homes
 
 -- the probing bucket of a home bucket is the next one, and the first after the last
 abbrev pub probing_of : ℕ → ℕ

@@ -10,11 +10,17 @@ ghost use Rattle.hash_word.specs.Hash.{hash_bits, homes, hash_of, home_of, probi
 /// How many bits a hash has.
 pub const HASH_BITS: u8 = 64;
 
+/// How many bits a fingerprint has.
+pub const FINGERPRINT_BITS: u32 = 8;
+
 /// How many home buckets a segment has.
 pub const HOMES: u8 = 64;
 
 /// The bits of a home bucket's number.
 const HOME_BITS: u64 = HOMES as u64 - 1;
+
+/// The bits of a fingerprint.
+const FINGER_MASK: u64 = (1 << FINGERPRINT_BITS) - 1;
 
 /// How a key is hashed.
 #[derive(Clone, Copy, Debug, PartialEq, Eq)]
@@ -44,7 +50,7 @@ pub fn home(h: u64) -> u8
     ensures of { result ≡ home_of h }
     ensures range { result < homes }
 {
-    (h >> 8 & HOME_BITS) as u8
+    (h >> FINGERPRINT_BITS & HOME_BITS) as u8
 }
 
 /// The number of the probing bucket of a home bucket: the next one, and the first after the last.
@@ -78,7 +84,7 @@ pub fn previous(home: u8) -> u8
 pub fn finger(h: u64) -> u8
     ensures { result ≡ finger_of h }
 {
-    (h & 255) as u8
+    (h & FINGER_MASK) as u8
 }
 
 /// The place of the hash in a directory of depth `g`, from 0 to 64: its top `g` bits.

@@ -4,7 +4,7 @@ use Rattle.std.specs.Prelude.{◌≡◌, ◌≢◌, ℕ, ◌+◌, ◌^◌, ◌<�
 use Rattle.op_core.specs.declared.want.Want.TheVariants.{Store}
 use Rattle.bucket_meta.specs.Bucket.{allocated, record_slots}
 use Rattle.bucket_meta.specs.Marks.{with_finger}
-use Rattle.hash_word.specs.Hash.{finger_of}
+use Rattle.hash_word.specs.Hash.{fingerprint_bits, finger_of}
 use Rattle.trace.specs.Events.{Words, with_word, line_of}
 use Rattle.image_layout.specs.Places.{Shape, bucket_at, homes, buckets, block}
 use Rattle.sound_image.specs.Records.{key_hash}
@@ -125,7 +125,7 @@ pub record FitsSlot (shape : Shape) (word : Words) (s b lock : ℕ) (written : R
   pub at : lock ≡ bucket_at shape s b
   pub slot : written.slot < record_slots
   pub is_free : allocated written.slot (word (lock + 1)) ≡ 0
-  pub small : finger < 2 ^ 8
+  pub small : finger < 2 ^ fingerprint_bits
   pub fingers : written.fingers ≡ with_finger (word (fingers_at lock written)) written.slot finger
 
 -- all but what a view knows and has not settled, plans, moves and owes is as it was
