@@ -41,14 +41,12 @@ pub fn restart<L: Ledger>(device: &mut Device, steps: &mut Steps<L>) -> Started
     requires fenced { unfenced 0 device.old ≡ 0 }
     ensures started { result ≡ started_for (slice_index device.old.newest state_word) }
     ensures version { 1 ≤ result.version }
-    ensures few { steps.new ≤ steps.old + 8 + swept_slots device.old.shape result }
     ensures steps { steps.new ≡ steps.old + 1 + swept_slots device.old.shape result }
     ensures words { HasStarted device.old.shape result (slice_index device.old.newest) (slice_index device.new.newest) }
     ensures pairs { (m : Map) → HasPairsOf device.old.shape (slice_index (image_of device.old)) m
         → HasPairsOf device.new.shape (slice_index (image_of device.new)) m }
     ensures sound { IsSoundImage device.new.shape (image_of device.new) }
-    ensures settled { IsSettled device.new }
-    ensures fenced { unfenced 0 device.new ≡ 0 }
+    ensures settled { IsSettled device.new × (unfenced 0 device.new ≡ 0) }
     ensures follows { (start : Words) (es : Trace) → IsTraceOf start es device.old → IsRestartedFrom start es device.old device.new }
     ensures shape { device.new.shape ≡ device.old.shape }
     ensures callers { device.new.callers ≡ device.old.callers }

@@ -28,14 +28,12 @@ returns-in-Done-clause-sound g c =
     c.loop-op.invariant c.end.result c.end.ensures
 
 pub returns-in-Done-clause-settled : goal.returns-in-Done-clause-settled
-returns-in-Done-clause-settled g c =
-    settled_again c.args.device.now c.requires.sound c.requires.traced c.requires.settled c.requires.fenced c.loop-op.device c.args.steps.now c.loop-op.steps c.loop-op.op
-    c.loop-op.invariant c.end.result c.end.ensures
-
-pub returns-in-Done-clause-fenced : goal.returns-in-Done-clause-fenced
-returns-in-Done-clause-fenced g c =
-    none_waits c.args.device.now c.requires.sound c.requires.traced c.requires.settled c.requires.fenced c.loop-op.device c.args.steps.now c.loop-op.steps c.loop-op.op
-    c.loop-op.invariant c.end.result c.end.ensures
+returns-in-Done-clause-settled g c = (
+  settled_again c.args.device.now c.requires.sound c.requires.traced c.requires.settled c.requires.fenced c.loop-op.device c.args.steps.now c.loop-op.steps c.loop-op.op
+      c.loop-op.invariant c.end.result c.end.ensures,
+  none_waits c.args.device.now c.requires.sound c.requires.traced c.requires.settled c.requires.fenced c.loop-op.device c.args.steps.now c.loop-op.steps c.loop-op.op
+      c.loop-op.invariant c.end.result c.end.ensures,
+)
 
 pub returns-in-Done-clause-follows : goal.returns-in-Done-clause-follows
 returns-in-Done-clause-follows g c =
