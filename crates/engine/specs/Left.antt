@@ -22,6 +22,13 @@ use Rattle.engine.specs.OpPart.{op_part}
 abbrev pub most_events : ℕ
 most_events = op_part.most_events
 
+-- one of the call itself at most so many, and one of a get: round numbers above what their machines say of themselves
+abbrev pub most_of_attempt : ℕ
+most_of_attempt = 700
+
+abbrev pub most_of_get : ℕ
+most_of_get = 150
+
 -- at most so many events are left
 abbrev pub left : Engine → ℕ
 left e = op_part.left e.op

@@ -21,7 +21,7 @@ ghost use Rattle.repair_op.specs.Finishing.{FinishesCurrent};
 ghost use Rattle.engine.specs.OpPart.{call_part, whole_split, split_segment_in, whole_repair, repaired_segment_in, op_part, calls, work_of};
 ghost use Rattle.engine.specs.Causes.{BeginsBare, EndsAreDecided, CallCauses};
 ghost use Rattle.engine.specs.Fits.{BeginsSuited, AnewSuited, RepairSuited, KeepsSuits};
-ghost use Rattle.engine.specs.Left.{most_events, left, waiting};
+ghost use Rattle.engine.specs.Left.{most_events, most_of_attempt, most_of_get, left, waiting};
 ghost use Rattle.engine.specs.Pairs.{LeavesOrMakes, BeginsUnmade, StaysMade, EndsAsDone, TurnLeavesOrMakes};
 ghost use Rattle.engine.specs.Asks.{AsksWithin, AsksWords, KeepsNotes};
 
@@ -113,8 +113,8 @@ pub fn attempts_end()
     ensures falls { (e : Engine) (ans : Ans) → IsAnswer (wanted e) ans → (left (taken e ans) < left e) ⊎ IsWait op_part e.op ans }
     ensures most { (e : Engine) → left e ≤ most_events }
     ensures waits { (e : Engine) → work_of e.op ≡ calls → op_part.is_waiting e.op ≡ false }
-    ensures few { (site : Site) (call : Call) → left (begun site call) ≤ 700 }
-    ensures few_of_get { (site : Site) (key : ℕ) → left (begun site (Get key)) ≤ 150 }
+    ensures few { (site : Site) (call : Call) → left (begun site call) ≤ most_of_attempt }
+    ensures few_of_get { (site : Site) (key : ℕ) → left (begun site (Get key)) ≤ most_of_get }
 {
     read_op::gets_are_parts();
     write_op::changes_are_parts();

@@ -23,7 +23,7 @@ use Rattle.part.specs.Part.{IsWait, Suits as SuitsPart}
 use Rattle.engine.specs.declared.engine.Engine.{Engine}
 use Rattle.engine.specs.declared.engine.End.{End}
 use Rattle.engine.specs.Engine.{begun, repairing, wanted, taken, end_of, outcome_of_end, reply_of_end, IsFresh, anew}
-use Rattle.engine.specs.Left.{left}
+use Rattle.engine.specs.Left.{most_of_get, left}
 use Rattle.engine.specs.OpPart.{Work, calls, work_of, op_part}
 use Rattle.engine.specs.Fits.{IsWordCall, HasNumber}
 use Rattle.engine.proofs.machines.Ops.{never_hands_on}
@@ -203,7 +203,7 @@ module _ (laws : AttemptLaws) (site : Ground) (here : Site) (call : Call) (groun
   call_begins e now =
       begins site here call calls laws (begun here call) p e (inl (call, refl)) (begun_suits laws site here call p.view ground shape version small nothing some) (begun_works here call) now
 
-  pub few_of_get : (n : ℕ) → n ≤ left (begun here call) → (key : ℕ) → call ≡ Get key → n ≤ 150
+  pub few_of_get : (n : ℕ) → n ≤ left (begun here call) → (key : ℕ) → call ≡ Get key → n ≤ most_of_get
   few_of_get n few key is =
       let most = laws.few_of_get here key in
       let same = ap (λ (c : Call). left (begun here c)) is in omega (arith, few, most, same)

@@ -13,7 +13,7 @@ use Rattle.part.specs.Outcomes.{Outcome, replied, again, stale, need_split, off,
 use Rattle.engine.specs.declared.engine.Engine.{Engine}
 use Rattle.engine.specs.declared.engine.End.{End}
 use Rattle.engine.specs.Engine.{begun, wanted, taken, end_of, outcome_of_end, reply_of_end, anew}
-use Rattle.engine.specs.Left.{left}
+use Rattle.engine.specs.Left.{most_of_attempt, left}
 use Rattle.engine.specs.Fits.{IsWordCall, HasNumber}
 use Rattle.engine.specs.OpPart.{Work, calls, work_of, op_part}
 use Rattle.engine.proofs.machines.Ops.{never_hands_on}
@@ -164,13 +164,13 @@ module _ (turns : TurnLaws) (laws : AttemptLaws) (site : Ground) (here : Site) (
   }
 
   pub first_tells : (e : Engine) (gate_left : Option (Option ℕ)) (answer : Answer) (next : Engine) (q : Watch) (now : Option (Option ℕ)) (cuts : ℕ) → e ≡ begun here call
-      → HasTried site here call 700 e p gate_left answer next q now cuts → Tells site here call calls (begun here call) p answer next q
+      → HasTried site here call most_of_attempt e p gate_left answer next q now cuts → Tells site here call calls (begun here call) p answer next q
   first_tells e gate_left answer next q now cuts is tried =
       let asks : wanted (begun here call) ≢ Done = (begun_suits laws site here call p.view ground shape version small bare some).asks in
       tried.tells calls (begun here call) p asks (call_begins laws site here call ground shape version small p bare some e is)
 
   pub first_over : (e : Engine) (gate_left : Option (Option ℕ)) (answer : Answer) (next : Engine) (q : Watch) (now : Option (Option ℕ)) (cuts : ℕ) → e ≡ begun here call
-      → HasTried site here call 700 e p gate_left answer next q now cuts → answer ≢ answers.Left
+      → HasTried site here call most_of_attempt e p gate_left answer next q now cuts → answer ≢ answers.Left
   first_over e gate_left answer next q now cuts is tried left_is =
       let told = first_tells e gate_left answer next q now cuts is tried in
       let g = subst (λ (x : Answer). Tells site here call calls (begun here call) p x next q) left_is told in

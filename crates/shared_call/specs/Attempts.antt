@@ -19,7 +19,7 @@ use Rattle.engine.specs.declared.engine.Engine.{Engine}
 use Rattle.engine.specs.declared.engine.End.{End}
 use Rattle.engine.specs.Engine.{begun, wanted, taken, end_of, outcome_of_end, reply_of_end, anew, IsFresh}
 use Rattle.engine.specs.Fits.{HasNumber, IsWordCall}
-use Rattle.engine.specs.Left.{left}
+use Rattle.engine.specs.Left.{most_of_attempt, most_of_get, left}
 use Rattle.engine.specs.OpPart.{Work, calls, work_of, op_part}
 use Rattle.vlock.specs.declared.knows.Watch.{Watch}
 use Rattle.vlock.specs.Plays.{Moment}
@@ -115,11 +115,11 @@ pub record IsOver (site : Ground) (here : Site) (call : Call) (work : Work) (sta
   pub fresh : IsFresh here (anew here call end)
   pub anew : reply_of_end end ≡ None → outcome ≢ off → HasNumber here → Suits site here call (anew here call end) nothing_done q.view q.view
 
--- AN ATTEMPT OF THE CALL ITSELF: at most 700 events, and 150 of a get; it never ends as one that has done other work
+-- AN ATTEMPT OF THE CALL ITSELF: at most `most_of_attempt` events, and of a get `most_of_get`; it never ends as one that has done other work
 pub record IsAttempted (site : Ground) (here : Site) (call : Call) (p : Watch) (end : End) (q : Watch) : Type 0 where
   pub over : IsOver site here call calls (begun here call) p end q
-  pub few : length over.events ≤ 700
-  pub few_of_get : (key : ℕ) → call ≡ Get key → length over.events ≤ 150
+  pub few : length over.events ≤ most_of_attempt
+  pub few_of_get : (key : ℕ) → call ≡ Get key → length over.events ≤ most_of_get
   pub worked : over.outcome ≢ finished
 
 -- ---- an attempt at whatever work

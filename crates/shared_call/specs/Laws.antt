@@ -14,7 +14,7 @@ use Rattle.part.specs.Outcomes.{finished}
 use Rattle.part.specs.Part.{IsPart, IsWait}
 use Rattle.engine.specs.declared.engine.Engine.{Engine}
 use Rattle.engine.specs.Engine.{begun, wanted, taken, IsFresh}
-use Rattle.engine.specs.Left.{left}
+use Rattle.engine.specs.Left.{most_of_attempt, most_of_get, left}
 use Rattle.engine.specs.OpPart.{op_part, calls, work_of}
 use Rattle.engine.specs.Causes.{EndsAreDecided, OpCauses}
 use Rattle.engine.specs.Fits.{BeginsSuited, AnewSuited, RepairSuited}
@@ -41,7 +41,7 @@ pub record AttemptLaws : Type 0 where
   pub remembers : (site : Ground) (here : Site) (e : Engine) → IsFresh here e → op_part.Remembers site e.op nothing_done
   pub finishes : (e : Engine) → work_of e.op ≡ calls → op_part.outcome e.op ≡ Some finished → ⊥
   pub waits : (e : Engine) → work_of e.op ≡ calls → op_part.is_waiting e.op ≡ false
-  pub few : (here : Site) (call : Call) → left (begun here call) ≤ 700
+  pub few : (here : Site) (call : Call) → left (begun here call) ≤ most_of_attempt
   pub next : AnewSuited
   pub repairs : RepairSuited
-  pub few_of_get : (here : Site) (key : ℕ) → left (begun here (Get key)) ≤ 150
+  pub few_of_get : (here : Site) (key : ℕ) → left (begun here (Get key)) ≤ most_of_get

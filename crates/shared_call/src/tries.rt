@@ -7,6 +7,7 @@ ghost use Rattle.shared_call.specs.declared.tries.Answer.{Answer};
 ghost use Rattle.world.specs.Ground.{version_of};
 ghost use Rattle.engine.specs.Engine.{begun, outcome_of_end};
 ghost use Rattle.engine.specs.Fits.{IsWordCall};
+ghost use Rattle.engine.specs.Left.{most_of_attempt};
 ghost use Rattle.vlock.specs.Ruling.{ground_of};
 ghost use Rattle.vlock.specs.Plays.{IsSeatOf};
 ghost use Rattle.shared_call.specs.Tries.{answer_for, IsTrying, HasTried, Tells};
@@ -132,7 +133,7 @@ pub fn try_call<G: Gate>(
     requires site { (site.now.geometry ≡ image.now.key.geometry) × (site.now.version ≡ version_of (ground_of image.now.key)) }
     requires view { HoldsOnly [] seat.old.me.0.view × (0 < seat.old.me.0.view.callers) }
     ensures table { IsSeatOf image.now.table_id image.now.key seat.new }
-    ensures tried { HasTried (ground_of image.now.key) site.now call 700 (begun site.now call) seat.old.me.0 (G.left gate.old) result engine.new seat.new.me.0 (G.left gate.new) (G.cuts gate.new) }
+    ensures tried { HasTried (ground_of image.now.key) site.now call most_of_attempt (begun site.now call) seat.old.me.0 (G.left gate.old) result engine.new seat.new.me.0 (G.left gate.new) (G.cuts gate.new) }
     ensures tells { Tells (ground_of image.now.key) site.now call calls (begun site.now call) seat.old.me.0 result engine.new seat.new.me.0 }
     ensures over { result ≢ Answer.Left }
 {

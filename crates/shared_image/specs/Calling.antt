@@ -5,7 +5,7 @@ use Rattle.map_model.specs.declared.call.Call.{Call}
 use Rattle.world.specs.declared.site.Site.{Site}
 use Rattle.world.specs.Ground.{Ground, version_of}
 use Rattle.world.specs.Attempts.{HoldsOnly}
-use Rattle.shared_call.specs.Engines.{Engine, begun, IsWordCall, HasNumber, calls}
+use Rattle.shared_call.specs.Engines.{Engine, begun, IsWordCall, HasNumber, most_of_attempt, calls}
 use Rattle.shared_call.specs.declared.tries.Answer.{Answer}
 use Rattle.shared_call.specs.declared.tries.Answer.TheVariants as answers
 use Rattle.shared_call.specs.Tries.{Tells, HasTried}
@@ -43,7 +43,7 @@ IsOffStill p left before answer q now cuts = (answer ≡ answers.Off) × (q ≡ 
 abbrev pub HasCalled : Ground → Site → Call → Bool → Watch → Option (Option ℕ) → ℕ → Answer → Engine → Watch → Option (Option ℕ) → ℕ → Type 0
 HasCalled site here call true p left before answer next q now cuts = IsOffStill p left before answer q now cuts
 HasCalled site here call false p left before answer next q now cuts =
-    HasTried site here call 700 (begun here call) p left answer next q now cuts × Tells site here call calls (begun here call) p answer next q × (answer ≢ answers.Left)
+    HasTried site here call most_of_attempt (begun here call) p left answer next q now cuts × Tells site here call calls (begun here call) p answer next q × (answer ≢ answers.Left)
 
 -- A TRY BEHIND IT
 abbrev pub HasGoneOnTrying : Ground → Site → Call → ℕ → Bool → Engine → Watch → Option (Option ℕ) → ℕ → Answer → Engine → Watch → Option (Option ℕ) → ℕ → Type 0

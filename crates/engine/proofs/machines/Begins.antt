@@ -24,7 +24,7 @@ use Rattle.engine.specs.declared.engine.Engine.{Engine}
 use Rattle.engine.specs.declared.engine.Op.TheVariants.{Write}
 use Rattle.engine.specs.Engine.{running, begun, splitting, repairing, IsFresh}
 use Rattle.engine.specs.OpPart.{op_part}
-use Rattle.engine.specs.Left.{left, waiting}
+use Rattle.engine.specs.Left.{most_of_attempt, left, waiting}
 use Rattle.engine.specs.Pairs.{HasMade, BeginsUnmade}
 use Rattle.engine.specs.Causes.{BeginsBare, BeginsUndecided}
 use Rattle.engine.specs.Fits.{HasNumber, Suits, BeginsSuited, RepairSuited}
@@ -141,10 +141,10 @@ pub begins_bare : BeginsBare
 begins_bare site here call e v fresh = of_fresh (λ x. op_part.Stands site here call x.op v → HoldsOnly [] v) here (λ first. begun_bare site here call first v) (λ made segment s. s.stands.view.0) (λ segment s. s.stands.view.0) e fresh
 
 -- ---- how many events it asks for
-change_few : IsPart change_part → (here : Site) (change : Change) → left (running (Write (write_begun change here))) ≤ 700
+change_few : IsPart change_part → (here : Site) (change : Change) → left (running (Write (write_begun change here))) ≤ most_of_attempt
 change_few change here made = let low = change.time.most (write_begun made here) in omega (arith, low)
 
-pub begins_few : IsPart get_part → IsPart change_part → (here : Site) (call : Call) → left (begun here call) ≤ 700
+pub begins_few : IsPart get_part → IsPart change_part → (here : Site) (call : Call) → left (begun here call) ≤ most_of_attempt
 begins_few get change here (Get key) = let low = get.time.most (read_begun key here) in omega (arith, low)
 begins_few get change here (Insert key value) = change_few change here (record { key = key; effect = effect.Insert value })
 begins_few get change here (Update key value) = change_few change here (record { key = key; effect = effect.Update value })

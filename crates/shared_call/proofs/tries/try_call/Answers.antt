@@ -1,5 +1,6 @@
 use Rattle.std.proofs.Common.{subst}
 use Rattle.engine.specs.declared.engine.Engine.{Engine}
+use Rattle.engine.specs.Left.{most_of_attempt}
 use Rattle.vlock.specs.Ruling.{ground_of}
 use Rattle.shared_call.specs.Tries.{HasTried}
 use Rattle.shared_call.proofs.Tried.{first_trying, first_tells, first_over}
@@ -12,8 +13,8 @@ try_on-requires-clause-trying g c =
 
 pub returns-clause-tried : goal.returns-clause-tried
 returns-clause-tried g c =
-    subst (λ (e : Engine). HasTried (ground_of c.args.image.now.key) c.args.site.now c.args.call 700 e c.args.seat.now.me.0 (g.G.Gate.left c.args.gate.now) c.try_on.result c.try_on.new.engine
-    c.try_on.new.seat.me.0 (g.G.Gate.left c.try_on.new.gate) (g.G.Gate.cuts c.try_on.new.gate)) c.restart.ensures c.try_on.ensures.tried
+    subst (λ (e : Engine). HasTried (ground_of c.args.image.now.key) c.args.site.now c.args.call most_of_attempt e c.args.seat.now.me.0 (g.G.Gate.left c.args.gate.now) c.try_on.result
+    c.try_on.new.engine c.try_on.new.seat.me.0 (g.G.Gate.left c.try_on.new.gate) (g.G.Gate.cuts c.try_on.new.gate)) c.restart.ensures c.try_on.ensures.tried
 
 pub returns-clause-tells : goal.returns-clause-tells
 returns-clause-tells g c =
