@@ -86,8 +86,8 @@ impl fmt::Display for GeoFault {
 
 impl Error for GeoFault {}
 
-/// Two to the power `e`, which is at most one more than the greatest depth.
-fn power(e: u64) -> u64
+/// Two to the power `e`, which is at most one more than the greatest depth: how many entries the directory area of depth `e` has.
+pub fn power_of_two(e: u64) -> u64
     requires { e ≤ most_depth + 1 }
     ensures is { result ≡ 2 ^ e }
     ensures some { 1 ≤ result }
@@ -182,7 +182,7 @@ impl Geometry {
         ensures is { result ≡ first_segment self.now }
         ensures most { result ≤ 131104 }
     {
-        (BLOCK + power(self.depth + 1) - 1).next_multiple_of(BLOCK)
+        (BLOCK + power_of_two(self.depth + 1) - 1).next_multiple_of(BLOCK)
     }
 
     /// The word of entry `i`, below 2^e, of the directory area of depth `e`.
@@ -196,7 +196,7 @@ impl Geometry {
         ensures most { result < 131104 }
     {
         let _ = &self.depth;
-        BLOCK + power(e) - 1 + i
+        BLOCK + power_of_two(e) - 1 + i
     }
 
     /// The first of the 32 words of the header of the segment in this slot.

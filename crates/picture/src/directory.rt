@@ -4,7 +4,7 @@ ghost use Rattle.std.specs.Prelude.{◌≡◌, ◌^◌, ◌<◌, ◌≤◌, leng
 ghost use Rattle.image_layout.specs.Places.{entry_at, most_depth, root_word, words_of};
 ghost use Rattle.sound_image.specs.Image.{IsSoundImage};
 
-use image_layout::{Geometry, ROOT_WORD};
+use image_layout::{Geometry, ROOT_WORD, power_of_two};
 
 /// How many top bits of a hash choose an entry, by the words of a sound image.
 pub fn root_depth(geometry: &Geometry, words: &[u64]) -> u64
@@ -23,7 +23,7 @@ pub fn entries(depth: u64) -> u64
     ensures is { result ≡ 2 ^ depth }
     ensures most { result ≤ 2 ^ most_depth }
 {
-    1 << depth
+    power_of_two(depth)
 }
 
 /// The slot that entry `i` of a directory of this depth names.

@@ -2,7 +2,7 @@
 use Rattle.std.proofs.Common.{arith}
 use Rattle.std.proofs.lemmas.Nat.{one_shl, pow_pos}
 use Rattle.image_layout.proofs.Areas.{power_le}
-use Rattle.image_layout.proofs.shape.power.Goals as goal
+use Rattle.image_layout.proofs.shape.power_of_two.Goals as goal
 
 pub returns-clause-is : goal.returns-clause-is
 returns-clause-is c = one_shl c.args.e 64 (omega arith)
