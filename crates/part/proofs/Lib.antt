@@ -2,7 +2,6 @@ pub mod Thens
 pub mod Splitting
 pub mod Repairing
 pub mod Eithers
-pub mod Limiting
 pub mod Renaming
 pub mod Turning
 pub mod Leading

@@ -5,7 +5,6 @@ pub mod Part
 pub mod Room
 pub mod Then
 pub mod Either
-pub mod Limited
 pub mod Renamed
 pub mod Turns
 pub mod Causes
