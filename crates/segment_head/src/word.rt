@@ -2,7 +2,7 @@
 //! have bits that no field has, and a state byte that is none of the four.
 
 ghost use Rattle.std.specs.Prelude.{◌≡◌, ◌↔◌, ◌⊎◌, IsTrue};
-ghost use Rattle.segment_head.specs.HeadWord.{version_in, state_in, depth_in, pattern_in, header_of, is_live, HasLiveState, normal};
+ghost use Rattle.segment_head.specs.HeadWord.{version_in, state_in, depth_in, pattern_in, header_of, is_live, HasLiveState};
 
 use hash_word::HASH_BITS;
 use word_bits::with_bits;
@@ -81,11 +81,4 @@ pub fn is_live(h1: u64) -> bool
 {
     let state = state_of(h1);
     state == NORMAL || state == SPLITTING
-}
-
-/// Whether the segment is normal, and covers every hash.
-pub fn is_whole_table(h1: u64) -> bool
-    ensures { IsTrue result ↔ ((state_in h1 ≡ normal) × (depth_in h1 ≡ 0)) }
-{
-    state_of(h1) == NORMAL && depth_of(h1) == 0
 }
