@@ -1,7 +1,6 @@
 pub mod images
 pub mod restarts
 pub mod Currents
-pub mod OneSegment
 pub mod Opened
 pub mod closes
 pub mod Quiet

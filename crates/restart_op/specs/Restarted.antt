@@ -9,10 +9,8 @@ use Rattle.image_layout.specs.Places.{Shape, IsShape, state_word, words_of, fron
 use Rattle.image_layout.specs.StateWord.{last_image_version}
 use Rattle.image_layout.specs.Volatile.{all_words_of}
 use Rattle.map_model.specs.Map.{Map}
-use Rattle.sound_image.specs.Segments.{frame_of, IsLive}
 use Rattle.sound_image.specs.Image.{IsSoundImage}
 use Rattle.sound_image.specs.Left.{HasPairsOf}
-use Rattle.segment_table.specs.Claims.{HasSoundFrame}
 use Rattle.bucket_words.specs.Hits.{find}
 use Rattle.op_core.specs.declared.want.Want.TheVariants as want
 use Rattle.op_core.specs.declared.want.Want.TheVariants.{Done}
@@ -141,8 +139,3 @@ EndsOwned = (shape : Shape) (words : List ℕ) → IsSoundImage shape words → 
 -- and the structure is one on which callers run
 abbrev pub EndsOpen : Type 0
 EndsOpen = (shape : Shape) (words : List ℕ) → IsSoundImage shape words → IsOpenStructure shape (words_at_end shape words)
-
--- ---- where there is one slot
--- its segment is live
-abbrev pub OneSegmentIsLive : Type 0
-OneSegmentIsLive = (shape : Shape) (word : Words) → IsShape shape → shape.segments ≡ 1 → HasSoundFrame shape word → IsLive (frame_of shape word) 0

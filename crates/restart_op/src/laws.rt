@@ -3,7 +3,7 @@
 ghost use Rattle.restart_op.specs.declared.restart.RestartOp.{RestartOp};
 ghost use Rattle.restart_op.specs.Restart.{wanted};
 ghost use Rattle.restart_op.specs.Budget.{BeginsWithASweep, Falls, EndsAtNone, IsOnStateOrHead};
-ghost use Rattle.restart_op.specs.Restarted.{RestartCounts, RestartAsks, RestartKeeps, EndsStarted, IsRestart, RestartBegins, HasSeats, KeepsPairs, EndsAtRest, EndsOwned, EndsOpen, OneSegmentIsLive};
+ghost use Rattle.restart_op.specs.Restarted.{RestartCounts, RestartAsks, RestartKeeps, EndsStarted, IsRestart, RestartBegins, HasSeats, KeepsPairs, EndsAtRest, EndsOwned, EndsOpen};
 
 /// A restart ends: each answer of the kind that was asked for leaves fewer events, whatever it is, and on an image one fewer. All
 /// of them are on the state word and on headers, and a memory of the image has them.
@@ -32,9 +32,4 @@ pub fn restart_begins()
     ensures rest { EndsAtRest }
     ensures own { EndsOwned }
     ensures structure { EndsOpen }
-{}
-
-/// Where there is one slot, its segment is live, over any words with a sound structure.
-pub fn one_segment_is_live()
-    ensures { OneSegmentIsLive }
 {}

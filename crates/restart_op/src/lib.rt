@@ -11,5 +11,5 @@ mod restart;
 
 pub use close::{CloseOp, CloseStep, Closed};
 pub use closing::{close_begins, close_ends, close_keeps};
-pub use laws::{one_segment_is_live, restart_begins, restart_ends, restart_keeps};
+pub use laws::{restart_begins, restart_ends, restart_keeps};
 pub use restart::{RestartOp, RestartStep, Started};
