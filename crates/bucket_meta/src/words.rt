@@ -296,7 +296,7 @@ pub fn has_no_note(w1: u64) -> bool
     bits_of(w1, NOTE_USED_FROM, u32::from(NOTE_SLOTS)) == 0
 }
 
-/// 1 where the note on an note slot is of a record whose probing bucket this is, else 0.
+/// 1 where the note on a note slot is of a record whose probing bucket this is, else 0.
 fn note_side_of(w1: u64, place: u8) -> u8
     requires { place < note_slots }
     ensures { result ≡ note_member place w1 }
@@ -304,7 +304,7 @@ fn note_side_of(w1: u64, place: u8) -> u8
     bits_of(w1, NOTE_MEMBER_FROM + u32::from(place), 1) as u8
 }
 
-/// Whether an note slot has a note of this side, fingerprint and stash bucket.
+/// Whether a note slot has a note of this side, fingerprint and stash bucket.
 fn is_note(w1: u64, w3: u64, side: u8, finger: u8, index: u8, place: u8) -> bool
     requires { place < note_slots }
     ensures { result ≡ is_note w1 w3 side finger index place }
@@ -353,7 +353,7 @@ pub fn note_place(w1: u64, w3: u64, side: u8, finger: u8, index: u8) -> Option<u
     }
 }
 
-/// The bits of the metadata word that have the fingerprint of an note slot.
+/// The bits of the metadata word that have the fingerprint of a note slot.
 fn finger_bits(place: u8) -> u64
     ensures { result ≡ finger_bits place }
 {
@@ -364,7 +364,7 @@ fn finger_bits(place: u8) -> u64
     }
 }
 
-/// The metadata word with an note slot freed: all that it has of it is 0.
+/// The metadata word with a note slot freed: all that it has of it is 0.
 pub fn freed_mark(w1: u64, place: u8) -> u64
     ensures { result ≡ freed_mark w1 place }
 {

@@ -192,7 +192,7 @@ pub fn leaves_note(effect: Effect, place: Role) -> bool
     }
 }
 
-/// Words 1 and 3 of a bucket without the note on an note slot, or else what is made instead.
+/// Words 1 and 3 of a bucket without the note on a note slot, or else what is made instead.
 fn freed_or(place: Role, words: &[u64; BUCKET_WORDS], at: Option<u8>, rest: NoteWords) -> NoteWords
     ensures { result ≡ freed_or place words.now at rest }
 {
