@@ -54,7 +54,7 @@ pub const FORMAT_NUMBER: u64 = 1;
 /// From which bit of that word on the kind of hash stands there.
 pub const KIND_FROM: u32 = 32;
 /// How many words behind the commit counter the power word stands.
-pub const POWER: u64 = 1;
+const POWER: u64 = 1;
 /// How many words stand between those of the image and the guards of segments.
 const GUARDS_FROM: u64 = 4;
 

@@ -12,9 +12,6 @@ use image_layout::Geometry;
 use op_core::{Ans, Want};
 use trace::LINE_WORDS;
 
-/// How many words behind the commit counter the power word stands.
-const POWER: usize = image_layout::POWER as usize;
-
 /// One event, as one atomic step. It gives the value that its word was found to have.
 ///
 /// `about` is not read: at a call with `Brand` the ghosts of `N` are made from the numbers in it. A flush is a load of the
@@ -45,7 +42,7 @@ pub fn step<N: Acting, E>(
         Want::Draw => image.fetch_add::<Acts<N>>(seat, counter, 1),
         Want::Flush(line) => image.load::<Acts<N>>(seat, LINE_WORDS * line as usize),
         Want::Fence => image.load::<Acts<N>>(seat, counter),
-        Want::Power => image.load::<Acts<N>>(seat, counter + POWER),
+        Want::Power => image.load::<Acts<N>>(seat, geometry.power_word() as usize),
         Want::Done => unreachable!(),
     }
 }

@@ -1,6 +1,6 @@
 use Rattle.std.proofs.Common.{rules, ap, ◌∙◌, arith}
-use Rattle.std.specs.Prelude.{ℕ, ◌+◌}
 use Rattle.image_layout.specs.Places.{words_of}
+use Rattle.image_layout.specs.Volatile.{power_word}
 use Rattle.vlock.proofs.Allowed.{for_load, for_store, for_exchange, for_draw, for_flush, for_fence, for_power, line_fits}
 use Rattle.vlock.proofs.steps.step.Goals as goal
 
@@ -23,7 +23,7 @@ pub load-requires-in-Fence : goal.load-requires-in-Fence
 load-requires-in-Fence g c = let t = for_fence c.args.image.now.key g.N.Acting.ground g.N.Acting.want c.args.want g.N.Acting.kind _ _ _ c.args.seat.now.me c.requires.acting.0 c.requires.acting.1 c.requires.table.1.words c.requires.word.1 c.requires.table.2 c.requires.may _ c.in-Fence.is (c.words-counter.ensures.is ∙ ap words_of c.requires.geometry) in (c.requires.table.0, t.0, t.1)
 
 pub load-requires-in-Power : goal.load-requires-in-Power
-load-requires-in-Power g c = let t = for_power c.args.image.now.key g.N.Acting.ground g.N.Acting.want c.args.want g.N.Acting.kind _ _ _ c.args.seat.now.me c.requires.acting.0 c.requires.acting.1 c.requires.table.1.words c.requires.word.1 c.requires.table.2 c.requires.may _ c.in-Power.is (ap (λ (n : ℕ). n + 1) (c.words-counter.ensures.is ∙ ap words_of c.requires.geometry)) in (c.requires.table.0, t.0, t.1)
+load-requires-in-Power g c = let t = for_power c.args.image.now.key g.N.Acting.ground g.N.Acting.want c.args.want g.N.Acting.kind _ _ _ c.args.seat.now.me c.requires.acting.0 c.requires.acting.1 c.requires.table.1.words c.requires.word.1 c.requires.table.2 c.requires.may _ c.in-Power.is (c.power_word.ensures.is ∙ ap power_word c.requires.geometry) in (c.requires.table.0, t.0, t.1)
 
 pub overflow_mul-line : goal.overflow_mul-line
 overflow_mul-line g c =
