@@ -11,7 +11,7 @@ ghost use Rattle.image_file.specs.Pairs.{live_slots, keys_of, ArePairs, ArePairs
 
 use crate::medium::Medium;
 use image_layout::{Geometry, HEADER, ROOT_WORD, SEGMENT_SLOTS, STATE_WORD, state};
-use image_rules::{is_first_at, pair_in};
+use image_rules::{is_first_at, pair_at};
 use map_model::NoMemory;
 use segment_head::word::is_live;
 use std::alloc::Global;
@@ -70,11 +70,8 @@ fn all_pairs(alloc: Global, geometry: &Geometry, words: &[u64]) -> Result<Vec<(u
 {
     let mut pairs = Vec::new(alloc);
     for n in 0..SEGMENT_SLOTS * geometry.segments() {
-        match pair_in(geometry, words, n) {
-            Some(pair) => {
-                pairs.push(pair)?;
-            }
-            None => {}
+        if is_first_at(geometry, words, n) {
+            pairs.push(pair_at(geometry, words, n))?;
         }
     }
     Ok(pairs)

@@ -1,6 +1,6 @@
 //! The pairs of an image, by record slots.
 
-ghost use Rattle.std.specs.Prelude.{◌≡◌, ◌*◌, ◌<◌, ◌↔◌, length, slice_index, IfSome, IfNone, IsTrue};
+ghost use Rattle.std.specs.Prelude.{◌≡◌, ◌*◌, ◌<◌, ◌↔◌, length, slice_index, IsTrue};
 ghost use Rattle.image_layout.specs.Places.{words_of, segment_slots, most_segments};
 ghost use Rattle.image_rules.specs.Slots.{IsStanding};
 ghost use Rattle.image_rules.specs.Own.{record_slot_at, pair_at, IsFirstAt};
@@ -43,21 +43,16 @@ pub fn is_first_at(geometry: &Geometry, words: &[u64], n: u64) -> bool
     RecordRule::Once.agree_before(geometry, words, record_slot)
 }
 
-/// The pair in record slot `n`, if it has a record that is its segment's own and the first of its key there.
-pub fn pair_in(geometry: &Geometry, words: &[u64], n: u64) -> Option<(u64, u64)>
+/// The key and the value in record slot `n`, whether it has a record or not.
+pub fn pair_at(geometry: &Geometry, words: &[u64], n: u64) -> (u64, u64)
     requires whole { length words.now ≡ words_of geometry.now }
-    requires standing { IsStanding geometry.now (slice_index words.now) }
     requires slot { n < segment_slots * geometry.now.segments }
-    ensures some { IfSome result (λ pair. IsFirstAt geometry.now (slice_index words.now) n × (pair ≡ pair_at geometry.now (slice_index words.now) n)) }
-    ensures none { IfNone result (IsFirstAt geometry.now (slice_index words.now) n → ⊥) }
+    ensures { result ≡ pair_at geometry.now (slice_index words.now) n }
 {
-    if !is_first_at(geometry, words, n) {
-        return None;
-    }
     let _ = geometry.segments();
     let record_slot = record_slot_of(n);
-    Some((
+    (
         key_in(geometry, words, record_slot),
         value_in(geometry, words, record_slot),
-    ))
+    )
 }
