@@ -5,7 +5,8 @@ ghost use Rattle.image_layout.specs.Places.{most_depth};
 ghost use Rattle.directory_op.specs.Places.{entries_of, entry_word, run_of, side_first, side_last, live_head};
 
 use image_layout::{Geometry, MOST_DEPTH, ROOT_WORD};
-use segment_head::word::{NORMAL, depth_of, header_of, pattern_of, version_of};
+use segment_head::split::with_state;
+use segment_head::word::{NORMAL, depth_of, pattern_of};
 
 /// How many entries the area of a depth has; no area is deeper than an image allows.
 pub fn entries(depth: u64) -> u64
@@ -53,5 +54,5 @@ pub fn side_last(root: u64, head: u64) -> u64
 pub fn live_head(head: u64) -> u64
     ensures { result ≡ live_head head }
 {
-    header_of(version_of(head), NORMAL, depth_of(head), pattern_of(head))
+    with_state(head, NORMAL)
 }

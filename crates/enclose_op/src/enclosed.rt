@@ -1,16 +1,15 @@
 //! What is held on to from one machine of a split to the next: a whole segment, with its guard, all its locks and all its words.
 
-ghost use Rattle.std.specs.Prelude.{◌≡◌, ◌<◌, ℕ, min};
+ghost use Rattle.std.specs.Prelude.{◌≡◌, ◌<◌, ℕ};
 ghost use Rattle.bucket_meta.specs.Bucket.{record_slots};
-ghost use Rattle.hash_word.specs.Hash.{hash_bits};
-ghost use Rattle.segment_head.specs.SplitHeads.{one_pattern_field};
+ghost use Rattle.segment_head.specs.SplitHeads.{side_depth, one_pattern_field};
 ghost use Rattle.image_layout.specs.Places.{buckets};
 ghost use Rattle.whole_segment.specs.Records.{first_in, third_in, key_in};
 
 use bucket_meta::words::{BUCKET_WORDS, FIRST_KEY, RECORD_WORDS, SLOTS};
 use image_layout::{BUCKETS, WORDS_OF_BUCKETS};
 use map_model::Change;
-use segment_head::word::{DEEPEST_SPLIT, depth_of, pattern_of};
+use segment_head::split;
 use whole_segment::Loaded;
 use world::Site;
 
@@ -34,7 +33,7 @@ pub struct Enclosed {
 }
 
 impl Enclosed {
-    ghost use Rattle.enclose_op.specs.Whole.{kept_word, kept_first, kept_third, kept_key, HasKept, side_depth};
+    ghost use Rattle.enclose_op.specs.Whole.{kept_word, kept_first, kept_third, kept_key, HasKept};
 
     /// Puts the keys of a bucket.
     fn put_keys(&self, loaded: &mut Loaded, bucket: u8)
@@ -67,15 +66,15 @@ impl Enclosed {
 
     /// The depth of the side that it gets where it is split: one more than its own, and 64 at the most.
     pub fn side_depth(&self) -> u8
-        ensures { result ≡ min (side_depth self.now) hash_bits }
+        ensures { result ≡ side_depth self.now.head }
     {
-        depth_of(self.head).min(DEEPEST_SPLIT) + 1
+        split::side_depth(self.head)
     }
 
     /// The pattern of that side: its own with a 1 behind it, the lower 32 bits.
     pub fn side_pattern(&self) -> u32
         ensures { result ≡ one_pattern_field self.now.head }
     {
-        pattern_of(self.head).wrapping_mul(2).wrapping_add(1)
+        split::one_pattern_field(self.head)
     }
 }

@@ -5,7 +5,8 @@ use Rattle.bucket_meta.specs.Bucket.{record_slots, first_key, lock_bit, record_w
 use Rattle.bucket_meta.specs.Marks.{cleared_mark}
 use Rattle.segment_head.specs.HeadWord.{depth_in, pattern_in, header_of, normal}
 use Rattle.hash_word.specs.Hash.{hash_bits}
-use Rattle.segment_head.specs.SplitHeads.{side_depth_in, one_pattern_field, zero_side_head}
+use Rattle.segment_head.specs.SplitHeads.{one_pattern_field, zero_side_head}
+pub use Rattle.segment_head.specs.SplitHeads.{side_depth}
 use Rattle.image_layout.specs.Places.{Shape, homes, buckets, block}
 use Rattle.sound_image.specs.Records.{key_hash}
 use Rattle.whole_segment.specs.declared.loaded.Loaded.{Loaded}
@@ -15,11 +16,7 @@ use Rattle.whole_segment.specs.Mending.{spoiled_set}
 use Rattle.whole_segment.specs.Rebuilding.{Overflow, first_with, third_with, rebuilt}
 
 -- ---- headers
--- the depth and the pattern of the 1-side of a segment with this header; whatever the header is, the depth is at most 64, and the pattern
--- has 32 bits
-abbrev pub side_depth : ℕ → ℕ
-side_depth head = min (side_depth_in head) hash_bits
-
+-- the pattern of the 1-side of a segment with this header, which has 32 bits whatever the header is
 abbrev pub side_pattern : ℕ → ℕ
 side_pattern head = one_pattern_field head
 

@@ -5,11 +5,12 @@ ghost use Rattle.image_layout.specs.Places.{buckets, block};
 ghost use Rattle.mend_op.specs.Words.{freed};
 ghost use Rattle.mend_op.specs.Stages.{made};
 
-use crate::heads::{own_depth, side_depth, side_pattern};
+use crate::heads::own_depth;
 use crate::load::{Words, loaded_of};
 use crate::stage::Stage;
 use bucket_meta::words::BUCKET_WORDS;
 use image_layout::{BUCKETS, Geometry};
+use segment_head::split::{one_pattern_field, side_depth};
 use segment_head::word::pattern_of;
 use whole_segment::rebuilt_notes;
 
@@ -39,7 +40,7 @@ fn free_locks(words: &mut Words)
 fn halved(words: &Words, geometry: &Geometry, head: u64) -> Words
     ensures { result ≡ made Stage.Clear geometry.now head words.now }
 {
-    let rest = loaded_of(words).without_half(geometry, side_depth(head), side_pattern(head));
+    let rest = loaded_of(words).without_half(geometry, side_depth(head), one_pattern_field(head));
     let mut next = *words;
     put(&mut next, 1, &rest.first);
     next

@@ -10,7 +10,8 @@ use image_layout::ROOT_WORD;
 use op_core::{Ans, Machine, Want, Why};
 use repair_op::Guarded;
 use rounds::Rounds;
-use segment_head::word::{depth_of, header_of, pattern_of};
+use segment_head::split::one_side_head;
+use segment_head::word::depth_of;
 use way::head_word;
 
 /// The redirecting of the entries of a stale segment's 1-side.
@@ -30,12 +31,7 @@ pub struct RedirectOp {
 fn side_head(head: u64) -> u64
     ensures { result ≡ side_head head }
 {
-    header_of(
-        0,
-        0,
-        depth_of(head).wrapping_add(1),
-        pattern_of(head).wrapping_mul(2).wrapping_add(1),
-    )
+    one_side_head(0, 0, head)
 }
 
 /// The end of an attempt that found this word of a guard taken, by this number.

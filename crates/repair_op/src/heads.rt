@@ -1,18 +1,11 @@
-//! Headers of a split that was cut off: of its side, and as they are when it is taken back.
+//! Headers of the side of a split that was cut off.
 
 ghost use Rattle.std.specs.Prelude.{◌≡◌, ◌==◌, ◌≤◌, ◌<◌, ◌*◌, ◌^◌};
-ghost use Rattle.segment_head.specs.HeadWord.{version_in, depth_in, pattern_in};
+ghost use Rattle.segment_head.specs.HeadWord.{depth_in, pattern_in};
 ghost use Rattle.world.specs.areas.Kinds.{is_new_side, is_ready_side};
-ghost use Rattle.segment_head.specs.SplitHeads.{side_pattern_in, with_state};
+ghost use Rattle.segment_head.specs.SplitHeads.{side_pattern_in};
 
-use segment_head::word::{FRESH, depth_of, header_of, is_live, pattern_of, state_of, version_of};
-
-/// A header with another state, and else as it was.
-pub(crate) fn with_state(head: u64, state: u8) -> u64
-    ensures { result ≡ with_state head state }
-{
-    header_of(version_of(head), state, depth_of(head), pattern_of(head))
-}
+use segment_head::word::{FRESH, depth_of, is_live, pattern_of, state_of};
 
 /// The pattern of the 1-side of a segment with this header: its own with a 1 behind it.
 fn side_pattern(head: u64) -> u64

@@ -5,9 +5,10 @@ ghost use Rattle.op_core.specs.declared.want.Want.TheVariants as want;
 ghost use Rattle.repair_op.specs.Steps.{begun, settle_wanted, settled, busy, headed, linked, met_side, freed, unmarked, wanted, taken, end_of, is_guarded};
 
 use crate::guarded::Guarded;
-use crate::heads::{is_new_side, is_ready_side, with_state};
+use crate::heads::{is_new_side, is_ready_side};
 use crate::step::{RepairEnd, RepairStep, Settling};
 use op_core::{Ans, Machine, Want, Why};
+use segment_head::split::with_state;
 use segment_head::word::{FREE, NORMAL, SPLITTING, state_of, version_of};
 use trace::line_of;
 use way::head_word;

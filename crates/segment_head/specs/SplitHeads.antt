@@ -1,5 +1,6 @@
 -- What a split makes of a header word: its 1-side, and the segment itself, which is the 0-side behind it.
-use Rattle.std.specs.Prelude.{ℕ, suc, ◌+◌, ◌*◌, ◌%◌, ◌^◌}
+use Rattle.std.specs.Prelude.{ℕ, suc, min, ◌+◌, ◌*◌, ◌%◌, ◌^◌}
+use Rattle.hash_word.specs.Hash.{hash_bits}
 use Rattle.segment_head.specs.HeadWord.{depth_bits, pattern_bits, version_in, depth_in, pattern_in, header_of}
 
 -- the depth of the 1-side of a segment with this header, and its pattern
@@ -8,6 +9,10 @@ side_depth_in head = suc (depth_in head)
 
 abbrev pub side_pattern_in : ℕ → ℕ
 side_pattern_in head = 2 * pattern_in head + 1
+
+-- how many bits of a hash that depth is, whatever the header is: all of them at the most
+abbrev pub side_depth : ℕ → ℕ
+side_depth head = min (side_depth_in head) hash_bits
 
 -- what a header word has of them, whatever the header is: both sides have the same depth, of 8 bits, and the 0-side and the 1-side a pattern of 32
 abbrev pub side_depth_field : ℕ → ℕ

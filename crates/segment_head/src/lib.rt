@@ -1,6 +1,6 @@
 //! The header of a segment: its version, its state, and which hashes it covers.
 //! A [`Head`] is read from one word of the image, and written back; [`Head::sibling`] is the header of the
-//! segment that a split fills; [`word`] and [`prefix`] have the functions of those who hold the word as it is.
+//! segment that a split fills; [`word`], [`prefix`] and [`split`] have the functions of those who hold the word as it is.
 //! `specs/HeadWord.antt` says what each bit of the word means.
 #![tactic(auto)]
 
@@ -12,6 +12,7 @@ ghost use Rattle.segment_head.specs.Written.{spare_in};
 
 mod laws;
 pub mod prefix;
+pub mod split;
 pub mod version;
 pub mod word;
 

@@ -4,7 +4,6 @@
 ghost use Rattle.std.specs.Prelude.{◌≡◌, ◌↔◌, ◌⊎◌, IsTrue};
 ghost use Rattle.segment_head.specs.HeadWord.{version_in, state_in, depth_in, pattern_in, header_of, is_live, HasLiveState};
 
-use hash_word::HASH_BITS;
 use word_bits::with_bits;
 
 /// How many bits the version has, the lowest ones of the word.
@@ -33,9 +32,6 @@ pub const NORMAL: u8 = 1;
 pub const SPLITTING: u8 = 2;
 /// That of a segment that takes records from a splitting one, and is not looked at yet.
 pub const FRESH: u8 = 3;
-
-/// How deep a segment is at the most that can be split: its sides have one more bit of a hash.
-pub const DEEPEST_SPLIT: u8 = HASH_BITS - 1;
 
 /// The version of the image when the segment was last current.
 pub fn version_of(h1: u64) -> u8

@@ -10,7 +10,8 @@ use crate::seek::copied_from;
 use bucket_meta::words;
 use enclose_op::Enclosed;
 use image_layout::{BLOCK_WORDS, BUCKETS, Geometry, HEADER, LINK, ROOT_WORD, SEGMENT_WORDS};
-use segment_head::word::{FRESH, SPLITTING, depth_of, header_of, pattern_of, version_of};
+use segment_head::split::{one_side_head, with_state};
+use segment_head::word::{FRESH, SPLITTING};
 
 /// What is stored. Words of a slot are numbered from its first header word on: number 1 is its header, number 2 its link, and number
 /// `32 + 32 * b` the lock word of bucket `b`.
@@ -47,24 +48,14 @@ pub(crate) const RECORD_WORDS: u16 = words::RECORD_WORDS as u16;
 pub fn split_head(whole: &Enclosed) -> u64
     ensures { result ≡ split_head whole.now }
 {
-    header_of(
-        version_of(whole.head),
-        SPLITTING,
-        depth_of(whole.head),
-        pattern_of(whole.head),
-    )
+    with_state(whole.head, SPLITTING)
 }
 
 /// The header of its new side.
 pub fn side_head(whole: &Enclosed) -> u64
     ensures { result ≡ side_head whole.now }
 {
-    header_of(
-        whole.site.version,
-        FRESH,
-        depth_of(whole.head).wrapping_add(1),
-        pattern_of(whole.head).wrapping_mul(2).wrapping_add(1),
-    )
+    one_side_head(whole.site.version, FRESH, whole.head)
 }
 
 // ---- words of slots

@@ -1,6 +1,0 @@
--- By the rules that all proofs share.
-use Rattle.std.proofs.Common.{rules}
-use Rattle.rest_op.proofs.heads.rest_head.Goals as goal
-
-pub returns : goal.returns
-returns c = search rules

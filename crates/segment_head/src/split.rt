@@ -1,0 +1,70 @@
+//! What a split makes of the header word of a segment: the headers of its two sides, their depth and the pattern of the 1-side, and the header with
+//! another state.
+
+ghost use Rattle.std.specs.Prelude.{◌≡◌};
+ghost use Rattle.segment_head.specs.SplitHeads.{side_depth, side_depth_field, zero_pattern_field, one_pattern_field, with_state, zero_side_head, one_side_head};
+
+use crate::word::{depth_of, header_of, pattern_of, version_of};
+use hash_word::HASH_BITS;
+
+/// How deep a segment is at the most that can be split: its sides have one more bit of a hash.
+const DEEPEST_SPLIT: u8 = HASH_BITS - 1;
+
+/// The depth of the sides of a segment with this header: one more than its own, and 64 at the most.
+pub fn side_depth(head: u64) -> u8
+    ensures { result ≡ side_depth head }
+{
+    depth_of(head).min(DEEPEST_SPLIT) + 1
+}
+
+/// What their headers have as their depth: its lowest 8 bits.
+fn side_depth_field(head: u64) -> u8
+    ensures { result ≡ side_depth_field head }
+{
+    depth_of(head).wrapping_add(1)
+}
+
+/// What the header of the 0-side has as its pattern: that of the segment with a 0 behind it, the lower 32 bits.
+fn zero_pattern_field(head: u64) -> u32
+    ensures { result ≡ zero_pattern_field head }
+{
+    pattern_of(head).wrapping_mul(2)
+}
+
+/// What that of the 1-side has: the same with a 1 behind it.
+pub fn one_pattern_field(head: u64) -> u32
+    ensures { result ≡ one_pattern_field head }
+{
+    pattern_of(head).wrapping_mul(2).wrapping_add(1)
+}
+
+/// A header with another state, and else as it was.
+pub fn with_state(head: u64, state: u8) -> u64
+    ensures { result ≡ with_state head state }
+{
+    header_of(version_of(head), state, depth_of(head), pattern_of(head))
+}
+
+/// The header of the 0-side, of this state and of the version that the segment had.
+pub fn zero_side_head(state: u8, head: u64) -> u64
+    ensures { result ≡ zero_side_head state head }
+{
+    header_of(
+        version_of(head),
+        state,
+        side_depth_field(head),
+        zero_pattern_field(head),
+    )
+}
+
+/// That of the 1-side, of this version and this state.
+pub fn one_side_head(version: u8, state: u8, head: u64) -> u64
+    ensures { result ≡ one_side_head version state head }
+{
+    header_of(
+        version,
+        state,
+        side_depth_field(head),
+        one_pattern_field(head),
+    )
+}
