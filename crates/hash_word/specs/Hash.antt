@@ -56,6 +56,10 @@ top d h = h / 2 ^ (hash_bits - d)
 abbrev pub first_hash_of : ℕ → ℕ → ℕ
 first_hash_of depth number = number * 2 ^ (hash_bits - depth)
 
+-- the greatest depth that a directory may have
+abbrev pub most_depth : ℕ
+most_depth = 16
+
 -- the place of a hash in a directory of depth g
 abbrev pub index_of : ℕ → ℕ → ℕ
 index_of g h = top g h

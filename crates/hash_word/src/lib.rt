@@ -13,6 +13,9 @@ pub const HASH_BITS: u8 = 64;
 /// How many bits a fingerprint has.
 pub const FINGERPRINT_BITS: u32 = 8;
 
+/// The greatest depth that a directory may have.
+pub const MOST_DEPTH: u64 = 16;
+
 /// How many home buckets a segment has.
 pub const HOMES: u8 = 64;
 

@@ -1,14 +1,11 @@
 -- Where the parts of an image stand, by word number. An image is a list of 64-bit words.
 use Rattle.std.specs.Prelude.{ℕ, ◌+◌, ◌-◌, ◌*◌, ◌/◌, ◌^◌, ◌≤◌}
-pub use Rattle.hash_word.specs.Hash.{homes}
+pub use Rattle.hash_word.specs.Hash.{homes, most_depth}
 use Rattle.bucket_meta.specs.Bucket.{record_slots, first_key, first_value, record_words}
 
--- how many slots for segments an image may have at most, how deep its directory may be, and the greatest kind of hash
+-- how many slots for segments an image may have at most, and the greatest kind of hash
 abbrev pub most_segments : ℕ
 most_segments = 16384
-
-abbrev pub most_depth : ℕ
-most_depth = 16
 
 abbrev pub most_kind : ℕ
 most_kind = 1

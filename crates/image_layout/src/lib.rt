@@ -8,11 +8,11 @@ mod laws;
 mod shape;
 pub mod state;
 
-pub use hash_word::HOMES;
+pub use hash_word::{HOMES, MOST_DEPTH};
 pub use laws::{parts_apart, parts_within, shape_in_range};
 pub use shape::{
     BLOCK, BLOCK_WORDS, BUCKETS, FORMAT_NUMBER, GeoFault, Geometry, HEADER, KIND_FROM,
-    LAST_OF_BUCKETS, LINK, MOST_DEPTH, MOST_KIND, MOST_SEGMENTS, MOST_WORDS, NOTE_WORDS, ROOT_WORD,
+    LAST_OF_BUCKETS, LINK, MOST_KIND, MOST_SEGMENTS, MOST_WORDS, NOTE_WORDS, ROOT_WORD,
     SEGMENT_SLOTS, SEGMENT_WORDS, SLOTS_OF_KEY, STASH_BUCKETS, STATE_WORD, WORDS_OF_BUCKETS,
     power_of_two,
 };

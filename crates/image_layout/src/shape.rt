@@ -5,7 +5,7 @@ ghost use Rattle.image_layout.specs.Volatile.{counter_word, power_word, allocati
 ghost use Rattle.image_layout.specs.Places.{IsShape, first_segment, words_of, entry_at, head_at, bucket_at, block, homes, stash_buckets, buckets, segment_words, most_words, most_segments, most_depth, most_kind};
 
 use bucket_meta::words::{BUCKET_WORDS, SLOTS};
-use hash_word::HOMES;
+use hash_word::{HOMES, MOST_DEPTH};
 use std::error::Error;
 use std::fmt;
 use std::marker::Model;
@@ -40,8 +40,6 @@ pub const NOTE_WORDS: u8 = 2 * HOMES;
 pub const SEGMENT_SLOTS: u64 = BUCKETS as u64 * SLOTS as u64;
 /// The most slots for segments that an image may have.
 pub const MOST_SEGMENTS: u64 = 16384;
-/// The greatest depth that a directory may have.
-pub const MOST_DEPTH: u64 = 16;
 /// The word where the segments of the largest image begin.
 const FIRST_SEGMENT_OF_LARGEST: u64 = (BLOCK + (1u64 << (MOST_DEPTH + 1)) - 1 + (BLOCK - 1)) / BLOCK
     * BLOCK;

@@ -95,7 +95,8 @@ impl Head {
         )
     }
 
-    /// The header of the 1-side: one bit deeper, with a 1 behind the pattern, and else the same.
+    /// The header of the 1-side: one bit deeper, with a 1 behind the pattern, and else the same. It is for depths below 20, which is more
+    /// than the greatest depth of a directory, and so than that of any segment.
     pub fn sibling(&self) -> Head
         requires depth { self.now.depth < 20 }
         requires pattern { self.now.pattern < 2 ^ self.now.depth }

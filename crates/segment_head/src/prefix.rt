@@ -1,7 +1,7 @@
 //! Which hashes a segment covers, as a depth and a pattern.
 
 ghost use Rattle.std.specs.Prelude.{◌≡◌, ◌+◌, ◌*◌, ◌^◌, ◌<◌, ◌≤◌, ◌↔◌, IsTrue};
-ghost use Rattle.hash_word.specs.Hash.{Covers};
+ghost use Rattle.hash_word.specs.Hash.{most_depth, Covers};
 ghost use Rattle.segment_head.specs.HeadWord.{depth_in, pattern_in};
 ghost use Rattle.segment_head.specs.Prefixes.{IsSidePrefix};
 
@@ -30,8 +30,8 @@ pub fn prefix_in(header: u64) -> Prefix
 
 /// Whether a prefix is that of the 1-side of another, with zeros alone behind it.
 pub fn is_side(whole: Prefix, side: Prefix) -> bool
-    requires whole { whole.depth ≤ 16 }
-    requires side { side.depth ≤ 16 }
+    requires whole { whole.depth ≤ most_depth }
+    requires side { side.depth ≤ most_depth }
     ensures { IsTrue result ↔ IsSidePrefix whole side }
 {
     whole.depth < side.depth
@@ -41,7 +41,7 @@ pub fn is_side(whole: Prefix, side: Prefix) -> bool
 
 /// Whether a hash is in the 1-side of a prefix.
 pub fn in_one_side(prefix: Prefix, hash: u64) -> bool
-    requires depth { prefix.depth ≤ 16 }
+    requires depth { prefix.depth ≤ most_depth }
     requires pattern { prefix.pattern < 2 ^ prefix.depth }
     ensures { IsTrue result ↔ Covers (prefix.depth + 1) (2 * prefix.pattern + 1) hash }
 {

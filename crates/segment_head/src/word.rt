@@ -14,6 +14,8 @@ const STATE_BITS: u32 = 8;
 const DEPTH_BITS: u32 = 8;
 /// How many bits behind the depth no field has.
 const SPARE_BITS: u32 = 8;
+/// How many bits the pattern has.
+pub const PATTERN_BITS: u8 = 32;
 
 /// The lowest bit of the state byte, which stands behind the version.
 const STATE_FROM: u32 = VERSION_BITS;

@@ -2,8 +2,8 @@
 
 ghost use Rattle.std.specs.Prelude.{◌≡◌, ◌≢◌, ◌↔◌, ℕ, ◌+◌, ◌^◌, ◌<◌, ◌≤◌, Option, None, Some};
 ghost use Rattle.trace.specs.Events.{with_word};
-ghost use Rattle.hash_word.specs.Hash.{index_of, hash_bits};
-ghost use Rattle.sound_image.specs.Places.{Shape, IsShape, most_depth, block, buckets, root_word, state_word, entry_at, header_word, link_word, bucket_at, words_of};
+ghost use Rattle.hash_word.specs.Hash.{index_of, hash_bits, most_depth};
+ghost use Rattle.sound_image.specs.Places.{Shape, IsShape, block, buckets, root_word, state_word, entry_at, header_word, link_word, bucket_at, words_of};
 ghost use Rattle.sound_image.specs.Segments.{ImageWords, Frame, frame_of, depth_at, IsLive, CoversHash, IsLiveFor, Owns, InOneSide, IsReadySide, HasReadySide};
 ghost use Rattle.segment_table.specs.Claims.{Claims, ClaimsNoOneSide, ClaimsOneSide, IsSideEntry, IsSoundFrame, HasSoundFrame, FollowsFrameRules};
 ghost use Rattle.segment_table.specs.Owner.{owner};

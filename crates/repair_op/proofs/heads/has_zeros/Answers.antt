@@ -10,7 +10,6 @@ no_zeros pattern before n small some far same =
     let below : before * 2 ^ n < 2 ^ 32 = omega (arith, small, same) in
     grind (arith, power, below, some)
 
--- src/heads.rt:27:1
-pub returns-else-zeros-lt32 : goal.returns-else-zeros-lt32
-returns-else-zeros-lt32 c = le-ltb c.args.zeros 32 c.if-zeros-lt32.false
-    ∙ sym (ne_eqb c.args.pattern (c.args.before * 2 ^ c.args.zeros) (no_zeros _ _ _ c.ranges.pattern.fits c.requires.some c.if-zeros-lt32.false))
+pub returns-else-zeros-lt-PATTERN_BITS : goal.returns-else-zeros-lt-PATTERN_BITS
+returns-else-zeros-lt-PATTERN_BITS c = le-ltb c.args.zeros 32 c.if-zeros-lt-PATTERN_BITS.false
+    ∙ sym (ne_eqb c.args.pattern (c.args.before * 2 ^ c.args.zeros) (no_zeros _ _ _ c.ranges.pattern.fits c.requires.some c.if-zeros-lt-PATTERN_BITS.false))
