@@ -44,8 +44,9 @@ impl Enclosed {
         ensures third { loaded.new.third ≡ loaded.old.third }
     {
         for slot in 0..SLOTS {
-            let at =
-                BUCKET_WORDS * usize::from(bucket) + FIRST_KEY + RECORD_WORDS * usize::from(slot);
+            let at = BUCKET_WORDS * usize::from(bucket)
+                + FIRST_KEY
+                + RECORD_WORDS * usize::from(slot);
             loaded.set_key(bucket, slot, self.buckets[at]);
         }
     }

@@ -243,8 +243,9 @@ impl RecordRule {
     {
         for b in 0..BUCKETS {
             if let Some(slot) = self.first_broken(geometry, words, s, b) {
-                let key =
-                    bucket_word(geometry, s, b) + FIRST_KEY + RECORD_WORDS * usize::from(slot);
+                let key = bucket_word(geometry, s, b)
+                    + FIRST_KEY
+                    + RECORD_WORDS * usize::from(slot);
                 return Some(key as u64);
             }
         }
