@@ -9,7 +9,7 @@ use Rattle.map_model.specs.Weave.{weave}
 use Rattle.map_model.specs.Legal.{replay}
 use Rattle.sound_image.specs.Image.{IsSoundImage}
 use Rattle.sound_image.specs.Records.{HasPair, HasAt}
-use Rattle.sound_image.specs.Left.{IsLeft}
+use Rattle.session.specs.Left.{IsLeft}
 use Rattle.bucket_words.specs.Hits.{find}
 use Rattle.bucket_words.proofs.segments.Rules.{find_of_at}
 use Rattle.session.specs.Callers.{history_of, undrawn}

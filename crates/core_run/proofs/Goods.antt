@@ -10,7 +10,7 @@ use Rattle.map_model.specs.Weave.{all_of, draws, weave_below, weave}
 use Rattle.map_model.specs.Legal.{InOrder, IsPlace, AreReplies, IsLegal, replay}
 use Rattle.image_layout.specs.Places.{Shape, words_of}
 use Rattle.sound_image.specs.Image.{IsSoundImage}
-use Rattle.sound_image.specs.Left.{HasPairsOf, IsLeft}
+use Rattle.session.specs.Left.{HasPairsOf, IsLeft}
 use Rattle.session.specs.Callers.{history_of, undrawn}
 use Rattle.restart_op.specs.declared.restart.RestartOp.{RestartOp}
 use Rattle.restart_op.specs.declared.close.CloseOp.{CloseOp}

@@ -11,7 +11,7 @@ use Rattle.map_model.specs.Map.{Map}
 use Rattle.map_model.specs.Weave.{draws, weave}
 use Rattle.map_model.specs.Legal.{replay}
 use Rattle.sound_image.specs.Segments.{frame_of}
-use Rattle.sound_image.specs.Left.{HasPairsOf}
+use Rattle.session.specs.Left.{HasPairsOf}
 use Rattle.segment_table.proofs.stores.Moved.{live_same}
 use Rattle.session.specs.Transcript.{transcript_of}
 use Rattle.session.specs.Session.{IsSession, IsClosed, HasSpentBucket}

@@ -12,7 +12,7 @@ use Rattle.image_layout.specs.Places.{Shape, key_at}
 use Rattle.map_model.specs.Map.{Map}
 use Rattle.sound_image.specs.Segments.{ImageWords, Frame, frame_of, Owns}
 use Rattle.sound_image.specs.Records.{key_hash, word_in, slot_key, slot_hash, HasRecord, HasOwnRecord, HasPair, HasAt}
-use Rattle.sound_image.specs.Left.{HasPairsOf}
+use Rattle.session.specs.Left.{HasPairsOf}
 use Rattle.sound_image.specs.Image.{IsSoundImage}
 use Rattle.sound_image.proofs.Hashes.{key_hash-fits}
 use Rattle.segment_table.specs.Owner.{owner}

@@ -6,7 +6,7 @@ use Rattle.trace.specs.Events.{Event, Trace}
 use Rattle.image_layout.specs.Places.{Shape}
 use Rattle.script_text.specs.declared.line.Line.{Line}
 use Rattle.map_model.specs.Map.{Map}
-use Rattle.sound_image.specs.Left.{HasPairsOf}
+use Rattle.session.specs.Left.{HasPairsOf}
 use Rattle.restart_op.specs.Close.{begun as close_begun}
 use Rattle.core_run.specs.declared.keeper.Keeper.{Keeper}
 use Rattle.core_run.specs.declared.keeper.Keeper.TheVariants.{Open, Closing}

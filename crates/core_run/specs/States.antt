@@ -12,7 +12,7 @@ use Rattle.map_model.specs.Legal.{IsLegal, replay}
 use Rattle.image_layout.specs.Places.{Shape, front_words, words_of}
 use Rattle.sound_image.specs.Image.{IsSoundImage}
 use Rattle.sound_image.specs.Segments.{frame_of, IsClean}
-use Rattle.sound_image.specs.Left.{HasPairsOf, IsLeft}
+use Rattle.session.specs.Left.{HasPairsOf, IsLeft}
 use Rattle.session.specs.Callers.{FollowsScript, IsAnswered, undrawn}
 use Rattle.session.specs.Session.{HadNoRoom}
 use Rattle.restart_op.specs.Close.{begun as close_begun}

@@ -22,7 +22,7 @@ use Rattle.part.specs.Part.{AsksWithin, PutsWords, EndsAsDone, PlansItsCall, Lea
 use Rattle.rounds.specs.Steps.{event_wanted}
 use Rattle.rounds.proofs.Events.{events_end}
 use Rattle.rounds.proofs.Wanted.{by_wanted, event_none}
-use Rattle.rest_op.specs.RestPart.{KeepsSplit}
+use Rattle.split_op.specs.Splitting.{KeepsSplit}
 use Rattle.split_op.specs.declared.copied.Copied.{Copied}
 use Rattle.split_op.specs.Copied.{split_head, side_head, copied_words}
 use Rattle.directory_op.specs.declared.op.DirectoryEnd.TheVariants.{Published, Off}

@@ -23,7 +23,7 @@ use Rattle.part.specs.Outcomes.{Outcome, off}
 use Rattle.part.specs.Part.{Part, Suits, next}
 use Rattle.rounds.specs.Steps.{rounds_wanted}
 use Rattle.rounds.specs.Stands.{kind_of}
-use Rattle.rest_op.specs.RestPart.{KeepsSplit}
+use Rattle.split_op.specs.Splitting.{KeepsSplit}
 use Rattle.split_op.specs.declared.copied.Copied.{Copied}
 use Rattle.split_op.specs.Copied.{KeepsCopied}
 use Rattle.directory_op.specs.declared.op.DirectoryEnd.TheVariants.{Published, Off}

@@ -7,3 +7,4 @@ pub mod GiveLaws
 pub mod EnclosePart
 pub mod Ends
 pub mod Phases
+pub mod Splitting

@@ -14,7 +14,7 @@ use Rattle.image_layout.specs.Places.{Shape, words_of}
 use Rattle.segment_head.specs.HeadWord.{free}
 use Rattle.sound_image.specs.Segments.{frame_of, state_at}
 use Rattle.sound_image.specs.Image.{IsSoundImage}
-use Rattle.sound_image.specs.Left.{IsLeft}
+use Rattle.session.specs.Left.{IsLeft}
 use Rattle.session.specs.Callers.{FollowsScript, undrawn}
 use Rattle.world.specs.Ground.{HasSpentLock}
 use Rattle.engine.specs.Core.{Core, tolds_of, histories}

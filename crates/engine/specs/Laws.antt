@@ -10,7 +10,7 @@ use Rattle.map_model.specs.Weave.{most_callers, weave}
 use Rattle.map_model.specs.Legal.{AreReplies, replay}
 use Rattle.image_layout.specs.Places.{Shape, state_word, homes}
 use Rattle.sound_image.specs.Records.{key_hash, HasExactNotes}
-use Rattle.sound_image.specs.Left.{HasPairsOf}
+use Rattle.session.specs.Left.{HasPairsOf}
 use Rattle.bucket_words.specs.Owners.{owner_of}
 use Rattle.bucket_words.specs.Hits.{Hit, find}
 use Rattle.trace.specs.Events.{Words}

@@ -4,7 +4,7 @@ use Rattle.trace.specs.Media.{IsPossible}
 use Rattle.map_model.specs.declared.call.Call.{Call}
 use Rattle.map_model.specs.Map.{Map}
 use Rattle.image_layout.specs.Places.{Shape, words_of}
-use Rattle.sound_image.specs.Left.{HasPairsOf}
+use Rattle.session.specs.Left.{HasPairsOf}
 use Rattle.session.specs.Transcript.{transcript_of}
 use Rattle.session.specs.Session.{IsSession}
 use Rattle.restart_op.specs.Course.{Course}

@@ -9,3 +9,17 @@ pub mod Told
 pub mod Structure
 pub mod WorkedFacts
 pub mod WorkedRepair
+pub use Rattle.bucket_words.proofs.segments
+pub use Rattle.bucket_words.proofs.Counts
+pub use Rattle.bucket_words.proofs.ExactNotes
+pub use Rattle.bucket_words.proofs.Slots
+pub use Rattle.segment_table.proofs.frames
+pub use Rattle.segment_table.proofs.Media
+pub use Rattle.segment_table.proofs.Claimers
+pub use Rattle.segment_table.proofs.FrameWords
+pub use Rattle.segment_table.proofs.StoreLaws
+pub use Rattle.segment_table.proofs.stores.Moved
+pub use Rattle.segment_table.proofs.stores.Roots
+pub use Rattle.segment_table.proofs.stores.SameRegion
+pub use Rattle.segment_table.proofs.stores.GoesLive
+pub use Rattle.segment_table.proofs.stores.Alike

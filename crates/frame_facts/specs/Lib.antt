@@ -2,3 +2,15 @@ pub mod Facts
 pub mod Keeping
 pub mod Copies
 pub mod DeadSlots
+pub use Rattle.bucket_words.specs.Buckets
+pub use Rattle.bucket_words.specs.Slots
+pub use Rattle.bucket_words.specs.Owners
+pub use Rattle.bucket_words.specs.Hits
+pub use Rattle.bucket_words.specs.Standing
+pub use Rattle.bucket_words.specs.TableChanges
+pub use Rattle.bucket_words.specs.HomeNotes
+pub use Rattle.bucket_words.specs.Core
+pub use Rattle.segment_table.specs.Claims
+pub use Rattle.segment_table.specs.Owner
+pub use Rattle.segment_table.specs.Media
+pub use Rattle.segment_table.specs.Stores

@@ -15,7 +15,7 @@ use Rattle.bucket_meta.specs.Bucket.{allocated}
 use Rattle.image_layout.specs.Places.{Shape, state_word, words_of, head_at, bucket_at, key_at, value_at}
 use Rattle.std.specs.FinMap.{get}
 use Rattle.map_model.specs.Map.{Map}
-use Rattle.sound_image.specs.Left.{HasPairsOf}
+use Rattle.session.specs.Left.{HasPairsOf}
 use Rattle.sound_image.proofs.SameRecords.{HasSameRecords, has_there}
 use Rattle.pm_trace.specs.declared.flushes.Flush.{Flush}
 use Rattle.pm_trace.specs.Memory.{Memory, flushes_of, unfenced}

@@ -20,7 +20,7 @@ use Rattle.image_layout.specs.Places.{Shape, state_word, words_of}
 use Rattle.image_layout.specs.Volatile.{all_words_of}
 use Rattle.map_model.specs.Map.{Map}
 use Rattle.sound_image.specs.Image.{IsSoundImage}
-use Rattle.sound_image.specs.Left.{HasPairsOf}
+use Rattle.session.specs.Left.{HasPairsOf}
 use Rattle.world.specs.Wants.{answer_to, word_of, event_of}
 use Rattle.world.specs.areas.Areas.{header_word}
 use Rattle.world.proofs.stepping.Answers.{is_answer}

@@ -6,7 +6,7 @@ ghost use Rattle.image_layout.specs.Places.{state_word};
 ghost use Rattle.map_model.specs.Map.{Map};
 ghost use Rattle.sound_image.specs.Image.{IsSoundImage};
 ghost use Rattle.sound_image.specs.Segments.{frame_of, IsClean};
-ghost use Rattle.sound_image.specs.Left.{HasPairsOf};
+ghost use Rattle.session.specs.Left.{HasPairsOf};
 ghost use Rattle.restart_op.specs.Restart.{started_for};
 ghost use Rattle.restart_op.specs.Restarted.{HasStarted};
 ghost use Rattle.image_layout.specs.StateWord.{with_marker};

@@ -40,6 +40,7 @@ use Rattle.enclose_op.specs.declared.give.Give.TheVariants as giving
 use Rattle.enclose_op.specs.Whole.{IsOf, IsWhole, kept_word, kept_third}
 use Rattle.enclose_op.specs.Giving.{given}
 use Rattle.enclose_op.specs.GiveLaws.{SuitsNext}
+use Rattle.enclose_op.specs.Splitting.{KeepsSplit}
 use Rattle.enclose_op.proofs.Places.{lock_is, head_is, kept_there}
 use Rattle.enclose_op.proofs.Backing.{give_wants, give_may, give_next}
 use Rattle.enclose_op.proofs.Giving.{give_some, give_answer, give_puts, give_makes, give_power, give_own, give_seen, give_plan, lock_low, give_in}
@@ -49,7 +50,7 @@ use Rattle.rest_op.specs.declared.op.RestStep.TheVariants.{Clear, Head, HeadFlus
 use Rattle.rest_op.specs.Steps.{rest_head, due, clear_from, is_cleared, clearing_by, noting, note_from, note_home, note_place, note_word, note_value, given_by, wanted_in, next_in, wanted, at_step, begun_in, end_at}
 use Rattle.rest_op.specs.Reckoned.{IsReckoned}
 use Rattle.rest_op.specs.Stands.{value_of, cleared_before, kind_at, HasAll, IsClearing, SuitsStep}
-use Rattle.rest_op.specs.RestPart.{outcome_at, rest_part, KeepsSplit, BeginsAsPart, BeginsUndecided, EndsAsSplit}
+use Rattle.rest_op.specs.RestPart.{outcome_at, rest_part, BeginsAsPart, BeginsUndecided, EndsAsSplit}
 use Rattle.rest_op.proofs.whole.Words.{other_value}
 use Rattle.rounds.proofs.Seeking.{seek_within}
 use Rattle.rest_op.proofs.whole.Known.{all_same}

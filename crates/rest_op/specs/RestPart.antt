@@ -1,34 +1,31 @@
 -- The rest of a split as a part of a call: with what it may begin, and how it ends.
-use Rattle.std.specs.Prelude.{◌≡◌, ℕ, suc, ◌+◌, ◌-◌, ◌*◌, ⊤, Bool, true, false, Option, None, Some, [], ◌∷◌}
+use Rattle.std.specs.Prelude.{◌≡◌, ℕ, suc, ◌+◌, ◌-◌, ◌*◌, ⊤, Bool, true, false, Option, None, Some}
 use Rattle.op_core.specs.declared.want.Want.TheVariants as want
 use Rattle.op_core.specs.declared.want.Ans.{Ans}
-use Rattle.segment_head.specs.HeadWord.{version_in, depth_in, pattern_in, normal, splitting}
+use Rattle.segment_head.specs.HeadWord.{version_in, pattern_in, normal}
 use Rattle.image_layout.specs.Places.{buckets, note_words}
-use Rattle.frame_facts.specs.Facts.{Lacks, Deep}
 use Rattle.map_model.specs.declared.call.Call.{Call}
 use Rattle.way.specs.Ways.{head_word}
 use Rattle.world.specs.declared.site.Site.{Site}
 use Rattle.world.specs.Ground.{Ground, IsGround}
-use Rattle.world.specs.Views.{View, Has}
-use Rattle.world.specs.Holders.{KnowsWord}
-use Rattle.world.specs.areas.Areas.{Segment, Whole, header_word}
-use Rattle.world.specs.areas.Splitting.{link_word, IsHeader, KnowsBuckets}
+use Rattle.world.specs.Views.{View}
+use Rattle.world.specs.areas.Splitting.{IsHeader}
 use Rattle.part.specs.Outcomes.{Outcome, finished}
 use Rattle.part.specs.Part.{Part}
-use Rattle.enclose_op.specs.Phases.{IsQuiet}
 use Rattle.whole_segment.specs.Rounds.{most_lines}
 use Rattle.rounds.specs.declared.rounds.Rounds.{Rounds}
 use Rattle.rounds.specs.Left.{rounds_left, few_left}
 use Rattle.rounds.specs.Waiting.{rounds_waiting}
 use Rattle.enclose_op.specs.declared.enclosed.Enclosed.{Enclosed}
-use Rattle.enclose_op.specs.Whole.{kept_words, IsOf, IsWhole, HoldsLocks, KnowsOnlyOf}
+use Rattle.enclose_op.specs.Whole.{IsOf, IsWhole}
 use Rattle.enclose_op.specs.Fits.{give_left}
+use Rattle.enclose_op.specs.Splitting.{KeepsSplit}
 use Rattle.rest_op.specs.declared.op.RestEnd.TheVariants as ends
 use Rattle.rest_op.specs.declared.op.RestStep.{RestStep}
 use Rattle.rest_op.specs.declared.op.RestStep.TheVariants.{Clear, Head, HeadFlush, HeadFence, Note, Open, Give, Ended}
 use Rattle.rest_op.specs.declared.op.RestOp.{RestOp}
 use Rattle.rest_op.specs.Steps.{rest_head, wanted, taken, begun_in, end_of}
-use Rattle.rest_op.specs.Reckoned.{side_depth, side_pattern, IsReckoned, rest_of}
+use Rattle.rest_op.specs.Reckoned.{side_depth, IsReckoned, rest_of}
 use Rattle.rest_op.specs.Stands.{kind_at, SuitsStep}
 
 -- ---- what is decided
@@ -100,23 +97,6 @@ abbrev pub segment_of : RestOp → ℕ
 segment_of op = op.whole.segment
 
 -- ---- where it begins
--- WHAT IT GOES ON FROM, once the side is published: the segment is splitting still, and whole; its header, its link and its words are known and
--- settled; and of its 1-side it claims nothing, and all entries name deeper segments
-pub record KeepsSplit (site : Ground) (here : Site) (call : Call) (e : Enclosed) (v : View) : Type 0 where
-  pub is : IsOf site here call e
-  pub whole : IsWhole site e
-  pub areas : v.areas ≡ Whole e.segment ∷ Segment e.segment ∷ []
-  pub locks : HoldsLocks site e v
-  pub head : ℕ
-  pub header : KnowsWord v (header_word site.shape e.segment) head
-  pub is_head : IsHeader head splitting (depth_in e.head) (pattern_in e.head) (version_in e.head)
-  pub link : (l : ℕ) × KnowsWord v (link_word site.shape e.segment) l
-  pub buckets_are : KnowsBuckets site.shape v e.segment (kept_words e)
-  pub known : KnowsOnlyOf site e v
-  pub lacks : Has (Lacks e.segment (side_depth e) (side_pattern e)) v.facts
-  pub deep : Has (Deep (depth_in e.head) (side_depth e) (side_pattern e)) v.facts
-  pub quiet : IsQuiet v
-
 -- with such a view, where it was reckoned right
 abbrev pub BeginsAsPart : Type 0
 BeginsAsPart = (site : Ground) (here : Site) (call : Call) (op : RestOp) (v : View) → KeepsSplit site here call op.whole v → IsReckoned op → op.step ≡ begun_in op → RestStands site here call op v

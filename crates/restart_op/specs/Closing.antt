@@ -11,7 +11,7 @@ use Rattle.image_layout.specs.Places.{Shape, IsShape, state_word, words_of, fron
 use Rattle.image_layout.specs.StateWord.{marker}
 use Rattle.sound_image.specs.Segments.{frame_of, IsClean}
 use Rattle.sound_image.specs.Image.{SaysShape, IsSoundImage}
-use Rattle.sound_image.specs.Left.{HasPairsOf}
+use Rattle.session.specs.Left.{HasPairsOf}
 use Rattle.bucket_words.specs.Owners.{IsStructure}
 use Rattle.bucket_words.specs.Hits.{find}
 use Rattle.world.specs.Ground.{Ground}

@@ -10,7 +10,7 @@ use Rattle.map_model.specs.Roomed.{Roomed, lists_of}
 use Rattle.image_layout.specs.Places.{Shape}
 use Rattle.sound_image.specs.Segments.{frame_of, IsClean}
 use Rattle.sound_image.specs.Image.{IsSoundImage}
-use Rattle.sound_image.specs.Left.{HasPairsOf}
+use Rattle.session.specs.Left.{HasPairsOf}
 use Rattle.session.specs.Session.{IsSession, SessionEnd}
 use Rattle.session.specs.Transcript.{Told, transcript_of}
 use Rattle.shared_image.specs.Restarted.{words_at_end}

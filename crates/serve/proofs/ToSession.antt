@@ -16,7 +16,7 @@ use Rattle.map_model.specs.Legal.{IsLegal, replay}
 use Rattle.map_model.specs.ByPlaces.{map_at}
 use Rattle.map_model.proofs.Elements.{All-from_each}
 use Rattle.sound_image.specs.Segments.{frame_of, state_at}
-use Rattle.sound_image.specs.Left.{HasPairsOf}
+use Rattle.session.specs.Left.{HasPairsOf}
 use Rattle.segment_table.proofs.stores.Moved.{live_same}
 use Rattle.session.specs.Session.{IsClosed, HadNoRoom, HasSpentBucket}
 use Rattle.shared_image.proofs.Beginning.{is_restart}

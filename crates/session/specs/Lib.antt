@@ -1,3 +1,4 @@
 pub mod Transcript
 pub mod Callers
+pub mod Left
 pub mod Session

@@ -17,7 +17,7 @@ use Rattle.sound_image.specs.Places.{Shape, front_words, bucket_at, buckets, slo
 use Rattle.sound_image.specs.Segments.{frame_of, IsClean, IsLive, state_at}
 use Rattle.sound_image.specs.Records.{key_hash}
 use Rattle.sound_image.specs.Image.{IsSoundImage}
-use Rattle.sound_image.specs.Left.{HasPairsOf, IsLeft}
+use Rattle.session.specs.Left.{HasPairsOf, IsLeft}
 use Rattle.session.specs.Transcript.{Told, transcript_of}
 use Rattle.session.specs.Callers.{FollowsScript, IsAnswered, history_of, undrawn}
 

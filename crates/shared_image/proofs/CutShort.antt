@@ -17,7 +17,7 @@ use Rattle.map_model.specs.Weave.{weave}
 use Rattle.map_model.specs.Legal.{replay, IsLegal}
 use Rattle.sound_image.specs.Records.{HasAt}
 use Rattle.sound_image.specs.Image.{SaysShape, IsSoundImage}
-use Rattle.sound_image.specs.Left.{AgreesAt, IsLeft}
+use Rattle.session.specs.Left.{AgreesAt, IsLeft}
 use Rattle.bucket_words.specs.Core.{core_of}
 use Rattle.bucket_words.specs.Hits.{find}
 use Rattle.world.specs.Ground.{Ground}

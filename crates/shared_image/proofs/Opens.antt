@@ -8,7 +8,7 @@ use Rattle.image_layout.specs.Volatile.{all_words_of}
 use Rattle.image_layout.specs.StateWord.{marker_in}
 use Rattle.map_model.specs.Map.{Map}
 use Rattle.sound_image.specs.Image.{SaysShape, IsSoundImage}
-use Rattle.sound_image.specs.Left.{HasPairsOf}
+use Rattle.session.specs.Left.{HasPairsOf}
 use Rattle.segment_table.specs.Claims.{HasSoundFrame}
 use Rattle.bucket_words.specs.Standing.{IsTable}
 use Rattle.bucket_words.specs.Hits.{find}

@@ -8,7 +8,7 @@ use Rattle.map_model.specs.Map.{Map}
 use Rattle.map_model.specs.Weave.{weave}
 use Rattle.map_model.specs.Legal.{replay, IsLegal}
 use Rattle.sound_image.specs.Image.{IsSoundImage}
-use Rattle.sound_image.specs.Left.{IsLeft}
+use Rattle.session.specs.Left.{IsLeft}
 use Rattle.world.specs.Ground.{Ground}
 use Rattle.world.specs.Views.{View}
 use Rattle.world.specs.Media.{IsPossible}

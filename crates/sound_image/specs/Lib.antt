@@ -3,7 +3,6 @@ pub mod Directory
 pub mod Records
 pub mod Rules
 pub mod Image
-pub mod Left
 pub mod Agreement
 pub use Rattle.image_layout.specs.Bucket
 pub use Rattle.image_layout.specs.Parts

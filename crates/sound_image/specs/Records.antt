@@ -1,16 +1,12 @@
 -- The records of an image, its pairs, and its overflow notes.
 use Rattle.std.specs.Prelude.{◌≡◌, ℕ, ◌+◌, ◌<◌, ◌==◌, ◌&&◌, Option, None, Some, List, [], ◌∷◌, ◌++◌, if◌then◌else◌}
 use Rattle.std.specs.List.{flat_map}
-use Rattle.hash_word.specs.declared.Kind.TheVariants.{Identity, Mix}
-use Rattle.hash_word.specs.Hash.{hash_of, home_of, finger_of, probing_of}
+use Rattle.hash_word.specs.Hash.{home_of, finger_of, probing_of}
+pub use Rattle.image_layout.specs.Keys.{key_hash}
 use Rattle.image_layout.specs.Notes.{OverflowNote, numbers_below, notes_on, AreExact}
 use Rattle.image_layout.specs.Bucket.{allocated, note_used, note_member, note_index, note_finger, overflow_count, record_slots}
 use Rattle.image_layout.specs.Places.{Shape, homes, buckets, bucket_at, key_at, value_at}
 use Rattle.sound_image.specs.Segments.{ImageWords, frame_of, Owns}
-
--- the hash of a key in an image of this kind
-abbrev pub key_hash : Shape → ℕ → ℕ
-key_hash shape key = if shape.kind == 0 then hash_of Identity key else hash_of Mix key
 
 module _ (shape : Shape) (word : ImageWords) where
   -- RECORDS: slot r of bucket b of segment s

@@ -6,5 +6,6 @@ pub mod Fits
 pub mod Remembers
 pub mod SplitPart
 pub use Rattle.enclose_op.specs.Whole
+pub use Rattle.enclose_op.specs.Splitting
 pub use Rattle.enclose_op.specs.declared.enclosed.Enclosed
 pub use Rattle.enclose_op.specs.Phases

@@ -3,10 +3,10 @@ use Rattle.std.proofs.Common.{◌≡◌, ℕ, Bool, true, false, Option, ap}
 use Rattle.map_model.specs.declared.call.Call.{Call}
 use Rattle.world.specs.declared.site.Site.{Site}
 use Rattle.world.specs.Ground.{Ground}
-use Rattle.shared_call.specs.Engines.{Engine}
-use Rattle.shared_call.specs.declared.tries.Answer.{Answer}
 use Rattle.vlock.specs.declared.knows.Watch.{Watch}
+use Rattle.shared_image.specs.Answer.{Answer}
 use Rattle.shared_image.specs.Calling.{HasCalled}
+use Rattle.shared_image.specs.Engines.{Engine}
 
 pub callers_stay : (site : Ground) (here : Site) (call : Call) (off : Bool) (p : Watch) (left : Option (Option ℕ)) (before : ℕ) (answer : Answer) (next : Engine) (q : Watch) (now : Option (Option ℕ)) (cuts : ℕ)
     → HasCalled site here call off p left before answer next q now cuts → q.view.callers ≡ p.view.callers

@@ -6,8 +6,7 @@ ghost use Rattle.shared_image.specs.Calling.{Rests};
 use crate::home::{cut_off, shared};
 use map_model::Reply;
 use outside::Fuse;
-use shared_call::Answer;
-use shared_image::{Caller, Pass, SharedImage};
+use shared_image::{Answer, Caller, Pass, SharedImage};
 use std::sync::Wait;
 use std::test::Fail;
 

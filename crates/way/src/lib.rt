@@ -6,8 +6,8 @@
 #![tactic(auto)]
 
 ghost use Rattle.std.specs.Prelude.{◌≡◌, ◌<◌, ◌≤◌, ◌^◌, ◌+◌};
+ghost use Rattle.image_layout.specs.Keys.{key_hash};
 ghost use Rattle.image_layout.specs.Places.{words_of, root_word, buckets, most_words};
-ghost use Rattle.sound_image.specs.Records.{key_hash};
 ghost use Rattle.way.specs.Ways.{entry_word, head_word, bucket_word};
 
 use hash_word::{HASH_BITS, Kind, dir_index, hash};

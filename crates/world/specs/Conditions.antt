@@ -12,12 +12,12 @@ use Rattle.bucket_meta.specs.Bucket.{lock_bit, unlocked}
 use Rattle.bucket_meta.specs.Notes.{AreExact}
 use Rattle.hash_word.specs.Hash.{home_of, probing_of}
 use Rattle.sound_image.specs.Records.{key_hash, stashed_of, HasExactNotes}
-use Rattle.bucket_words.specs.Standing.{IsTable}
-use Rattle.bucket_words.specs.Hits.{Hit, HasOnly, find}
-use Rattle.bucket_words.specs.Buckets.{value_in}
-use Rattle.bucket_words.specs.Owners.{owner_of, home_at}
-use Rattle.bucket_words.specs.HomeNotes.{SameHomeNotes}
-use Rattle.bucket_words.specs.TableChanges.{KeepsTable, ChangesKey}
+use Rattle.frame_facts.specs.Standing.{IsTable}
+use Rattle.frame_facts.specs.Hits.{Hit, HasOnly, find}
+use Rattle.frame_facts.specs.Buckets.{value_in}
+use Rattle.frame_facts.specs.Owners.{owner_of, home_at}
+use Rattle.frame_facts.specs.HomeNotes.{SameHomeNotes}
+use Rattle.frame_facts.specs.TableChanges.{KeepsTable, ChangesKey}
 use Rattle.frame_facts.specs.Facts.{Fact, Lives, Current, Rooted, Taken, HoldsFact}
 use Rattle.world.specs.Ground.{Ground, IsLockWord, IsUnder, version_of, IsStructured, spent_lock}
 use Rattle.world.specs.Views.{Glance, Move, Owed, View, Has, HasLock, IsGuarded, IsLoose, IsFirm}

@@ -4,7 +4,7 @@ use Rattle.trace.specs.Events.{Words}
 pub use Rattle.bucket_meta.specs.Bucket.{spent_lock}
 use Rattle.image_layout.specs.Places.{Shape, IsShape, root_word, state_word, bucket_at, buckets, block}
 use Rattle.image_layout.specs.StateWord.{image_version_in}
-use Rattle.segment_table.specs.Claims.{HasSoundFrame}
+use Rattle.frame_facts.specs.Claims.{HasSoundFrame}
 use Rattle.sound_image.specs.Segments.{frame_of}
 use Rattle.frame_facts.specs.Facts.{IsLiveSlot, IsCurrentSlot}
 

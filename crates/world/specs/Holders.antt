@@ -2,7 +2,7 @@
 use Rattle.std.specs.Prelude.{◌≡◌, ◌≢◌, ◌≤◌, ℕ, ◌+◌, ◌<◌, ◌⊎◌, [], true, false, None, Some, List}
 use Rattle.bucket_meta.specs.Bucket.{allocated, member, overflow_count, record_slots, key_place, value_place, note_fingers_part}
 use Rattle.bucket_meta.specs.Notes.{AreExact}
-use Rattle.bucket_words.specs.Core.{core_of}
+use Rattle.frame_facts.specs.Core.{core_of}
 use Rattle.hash_word.specs.Hash.{home_of, probing_of, finger_of}
 use Rattle.trace.specs.Events.{Words, with_word}
 use Rattle.image_layout.specs.Places.{Shape, bucket_at, value_at, block, homes, stash_buckets, buckets}
@@ -12,12 +12,12 @@ use Rattle.map_model.specs.declared.call.Call.{Call}
 use Rattle.map_model.specs.declared.entry.Reply.{Reply}
 use Rattle.map_model.specs.Map.{key_of}
 use Rattle.world.specs.History.{MayReply}
-use Rattle.bucket_words.specs.Buckets.{IsTaken, value_in, finger_in}
+use Rattle.frame_facts.specs.Buckets.{IsTaken, value_in, finger_in}
 use Rattle.bucket_meta.specs.Marks.{SameButSlot, KeepsUpper}
-use Rattle.bucket_words.specs.HomeNotes.{IsUnnoted}
-use Rattle.bucket_words.specs.Hits.{Hit}
-use Rattle.bucket_words.specs.Standing.{StandsAt}
-use Rattle.bucket_words.specs.TableChanges.{IsReadyAt}
+use Rattle.frame_facts.specs.HomeNotes.{IsUnnoted}
+use Rattle.frame_facts.specs.Hits.{Hit}
+use Rattle.frame_facts.specs.Standing.{StandsAt}
+use Rattle.frame_facts.specs.TableChanges.{IsReadyAt}
 use Rattle.world.specs.Ground.{Ground, IsUnder}
 use Rattle.world.specs.Views.{Move, Owed, View, Has, HasLock, IsLoose, IsFirm}
 use Rattle.world.specs.Kinds.{draws_place, stores, repays, publishes, stashes, copies, clears}

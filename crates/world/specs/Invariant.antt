@@ -5,9 +5,9 @@ use Rattle.trace.specs.Events.{Words}
 use Rattle.segment_head.specs.HeadWord.{version_in, state_in, depth_in, free, normal}
 use Rattle.image_layout.specs.Places.{bucket_at, homes, stash_buckets}
 use Rattle.sound_image.specs.Records.{key_hash, HasExactNotes}
-use Rattle.bucket_words.specs.Standing.{IsTable}
-use Rattle.bucket_words.specs.Hits.{Hit, find}
-use Rattle.bucket_words.specs.Owners.{owner_of}
+use Rattle.frame_facts.specs.Standing.{IsTable}
+use Rattle.frame_facts.specs.Hits.{Hit, find}
+use Rattle.frame_facts.specs.Owners.{owner_of}
 use Rattle.frame_facts.specs.Facts.{Fact, IsLiveSlot, IsUsedSlot, HoldsFact}
 use Rattle.sound_image.specs.Segments.{frame_of}
 use Rattle.world.specs.Ground.{Ground, IsGround, version_of, IsStructured, IsUnder, IsCurrentIn}

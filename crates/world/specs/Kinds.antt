@@ -17,7 +17,7 @@ use Rattle.world.specs.Ground.{spent_lock}
 use Rattle.map_model.specs.Map.{key_of, shown}
 use Rattle.map_model.specs.Legal.{seen_after}
 use Rattle.map_model.specs.Weave.{spent_count}
-use Rattle.bucket_words.specs.Core.{core_of}
+use Rattle.frame_facts.specs.Core.{core_of}
 use Rattle.frame_facts.specs.Facts.{Fact, Lives, Current, Rooted, Begins}
 use Rattle.world.specs.Views.{Glance, Answer, Move, Owed, View}
 use Rattle.world.specs.History.{Log, change_of}

@@ -21,8 +21,8 @@ pub mod Later
 pub mod Holders
 pub mod Readers
 pub mod Attempts
-pub use Rattle.bucket_words.specs.Core
-pub use Rattle.bucket_words.specs.Hits
+pub use Rattle.frame_facts.specs.Core
+pub use Rattle.frame_facts.specs.Hits
 pub use Rattle.frame_facts.specs.DeadSlots
 pub use Rattle.frame_facts.specs.Facts
-pub use Rattle.segment_table.specs.Claims
+pub use Rattle.frame_facts.specs.Claims

@@ -5,7 +5,7 @@ use Rattle.trace.specs.Events.{Words}
 use Rattle.image_layout.specs.Places.{words_of}
 use Rattle.map_model.specs.declared.call.Call.{Call}
 use Rattle.map_model.specs.Map.{key_of}
-use Rattle.bucket_words.specs.Core.{core_of}
+use Rattle.frame_facts.specs.Core.{core_of}
 use Rattle.world.specs.Ground.{Ground}
 use Rattle.world.specs.Views.{View, Has, At, IsLoose}
 use Rattle.world.specs.History.{Log, map_now, result_of}

@@ -13,8 +13,8 @@ use Rattle.map_model.specs.Legal.{InOrder, seen_of}
 use Rattle.image_layout.specs.Places.{header_word, bucket_at, buckets}
 use Rattle.sound_image.specs.Records.{key_hash}
 use Rattle.map_model.specs.declared.call.Call.TheVariants.{Remove}
-use Rattle.bucket_words.specs.Hits.{Hit, find}
-use Rattle.bucket_words.specs.Owners.{owner_of, home_at}
+use Rattle.frame_facts.specs.Hits.{Hit, find}
+use Rattle.frame_facts.specs.Owners.{owner_of, home_at}
 use Rattle.world.specs.Conditions.{IsMoveOf}
 use Rattle.world.specs.Ground.{Ground, IsLockWord, IsSpentLock, HasSpentLock, IsCurrentLock}
 use Rattle.world.specs.Views.{Glance, Answer, Move, Owed, View, Has, At, HasLock}

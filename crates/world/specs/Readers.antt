@@ -4,14 +4,14 @@ use Rattle.hash_word.specs.Hash.{home_of, probing_of, finger_of}
 use Rattle.trace.specs.Events.{Words}
 use Rattle.image_layout.specs.Places.{Shape, bucket_at, homes, stash_buckets}
 use Rattle.sound_image.specs.Records.{key_hash}
-use Rattle.bucket_words.specs.Buckets.{value_in}
-use Rattle.bucket_words.specs.Hits.{Hit}
-use Rattle.bucket_words.specs.Owners.{owner_of}
+use Rattle.frame_facts.specs.Buckets.{value_in}
+use Rattle.frame_facts.specs.Hits.{Hit}
+use Rattle.frame_facts.specs.Owners.{owner_of}
 use Rattle.world.specs.Ground.{Ground, IsUnder}
 use Rattle.world.specs.Views.{Glance, View, Has}
 use Rattle.world.specs.Kinds.{places}
 use Rattle.world.specs.Conditions.{IsNow, May}
-use Rattle.bucket_words.specs.HomeNotes.{IsUnnoted}
+use Rattle.frame_facts.specs.HomeNotes.{IsUnnoted}
 
 -- the 31 words behind the lock word of a bucket are noted: they are those of `word`
 pub record NotedBucket (shape : Shape) (notes : List Glance) (s b : ℕ) (word : Words) : Type 0 where

@@ -3,9 +3,9 @@ use Rattle.std.specs.Prelude.{◌≡◌, ◌≢◌, ℕ, ◌≤◌, List, [], �
 use Rattle.trace.specs.Events.{Words, value}
 use Rattle.image_layout.specs.Places.{Shape}
 use Rattle.image_layout.specs.Volatile.{power_word}
-use Rattle.bucket_words.specs.Standing.{IsTable}
-use Rattle.bucket_words.specs.Hits.{find}
-use Rattle.bucket_words.specs.Owners.{IsStructure}
+use Rattle.frame_facts.specs.Standing.{IsTable}
+use Rattle.frame_facts.specs.Hits.{find}
+use Rattle.frame_facts.specs.Owners.{IsStructure}
 use Rattle.world.specs.Ground.{Ground, IsStructured, IsSpentLock}
 use Rattle.world.specs.Views.{View, At}
 use Rattle.world.specs.History.{Log}

@@ -5,7 +5,7 @@ use Rattle.trace.specs.Events.{Words, line_of, Trace, value}
 use Rattle.trace.specs.Progress.{pending, HadSince}
 use Rattle.trace.specs.Steps.{HadSinceSettled}
 use Rattle.image_layout.specs.Places.{words_of}
-use Rattle.bucket_words.specs.Core.{core_of}
+use Rattle.frame_facts.specs.Core.{core_of}
 use Rattle.world.specs.Ground.{Ground}
 use Rattle.world.specs.Views.{View, Has, At}
 use Rattle.world.specs.Media.{MayLeave}

@@ -10,7 +10,7 @@ use Rattle.map_model.specs.declared.call.Call.{Call}
 use Rattle.map_model.specs.declared.call.Call.TheVariants.{Get}
 use Rattle.map_model.specs.Map.{Map}
 use Rattle.image_layout.specs.Places.{Shape, words_of}
-use Rattle.sound_image.specs.Left.{HasPairsOf}
+use Rattle.session.specs.Left.{HasPairsOf}
 use Rattle.session.specs.Callers.{IsAnswered}
 use Rattle.world.specs.Ground.{Ground}
 use Rattle.world.specs.Views.{View}

@@ -6,7 +6,7 @@ use Rattle.map_model.specs.Weave.{all_of, weave}
 use Rattle.map_model.specs.Legal.{replay}
 use Rattle.image_layout.specs.Places.{Shape}
 use Rattle.sound_image.specs.Image.{SaysShape}
-use Rattle.sound_image.specs.Left.{IsLeft}
+use Rattle.session.specs.Left.{IsLeft}
 use Rattle.session.specs.Callers.{FollowsScript, undrawn}
 use Rattle.engine.specs.Core.{run, tolds_of, histories}
 use Rattle.engine.specs.Laws.{opened, TurnsKeep, CallsAreScripts}

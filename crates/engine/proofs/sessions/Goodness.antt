@@ -19,7 +19,7 @@ use Rattle.map_model.specs.Weave.{weave}
 use Rattle.map_model.specs.Legal.{replay}
 use Rattle.sound_image.specs.Records.{HasAt}
 use Rattle.sound_image.specs.Image.{IsSoundImage}
-use Rattle.sound_image.specs.Left.{AgreesAt}
+use Rattle.session.specs.Left.{AgreesAt}
 use Rattle.session.specs.Callers.{undrawn_call, undrawn}
 use Rattle.segment_table.specs.Claims.{HasSoundFrame}
 use Rattle.bucket_words.specs.Hits.{find}

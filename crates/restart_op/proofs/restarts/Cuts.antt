@@ -16,7 +16,7 @@ use Rattle.image_layout.specs.StateWord.{marker_in}
 use Rattle.sound_image.specs.Segments.{ImageWords}
 use Rattle.sound_image.specs.Rules.{FollowsRules}
 use Rattle.sound_image.specs.Image.{IsSoundImage}
-use Rattle.sound_image.specs.Left.{HasPairsOf}
+use Rattle.session.specs.Left.{HasPairsOf}
 use Rattle.world.specs.areas.Areas.{header_word}
 use Rattle.world.specs.areas.Restarting.{SameButVersion}
 use Rattle.restart_op.specs.declared.restart.Started.{Started}

@@ -3,8 +3,8 @@ use Rattle.std.proofs.Common.{◌≡◌, ℕ, ◌+◌, ◌*◌, ◌-◌, ◌/◌
 use Rattle.hash_word.specs.Hash.{home_of}
 use Rattle.image_layout.specs.Places.{Shape, first_segment, bucket_at, words_of, homes}
 use Rattle.sound_image.specs.Records.{key_hash}
-use Rattle.bucket_words.specs.Core.{core_of}
-use Rattle.bucket_words.proofs.segments.Cores.{core_in}
+use Rattle.frame_facts.specs.Core.{core_of}
+use Rattle.frame_facts.proofs.segments.Cores.{core_in}
 use Rattle.world.specs.Ground.{IsLockWord, IsUnder}
 
 -- a home is one of the buckets before the stash

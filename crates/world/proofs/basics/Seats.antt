@@ -10,8 +10,8 @@ use Rattle.image_layout.specs.Places.{Shape, words_of}
 use Rattle.image_layout.specs.Volatile.{counter_word}
 use Rattle.map_model.specs.declared.call.Call.{Call}
 use Rattle.map_model.specs.Map.{key_of}
-use Rattle.bucket_words.specs.Core.{core_of}
-use Rattle.bucket_words.specs.Owners.{HasStructure}
+use Rattle.frame_facts.specs.Core.{core_of}
+use Rattle.frame_facts.specs.Owners.{HasStructure}
 use Rattle.world.specs.Ground.{Ground, IsLockWord, IsUnder}
 use Rattle.world.specs.Views.{View, Has, At, HasLock, IsGuarded}
 use Rattle.world.specs.Parts.{Locks}

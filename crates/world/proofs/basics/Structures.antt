@@ -7,11 +7,11 @@ use Rattle.image_layout.specs.Places.{Shape, root_word, entry_at, first_segment,
 use Rattle.image_layout.specs.Volatile.{counter_word, power_word}
 use Rattle.image_layout.proofs.Areas.{entry_before}
 use Rattle.sound_image.specs.Segments.{frame_of}
-use Rattle.segment_table.specs.Claims.{HasSoundFrame}
-use Rattle.segment_table.proofs.stores.Moved.{live_same}
-use Rattle.segment_table.proofs.stores.Roots.{untouched_keeps}
-use Rattle.bucket_words.specs.Owners.{IsStructure, HasStructure}
-use Rattle.bucket_words.proofs.segments.Places.{not_structure}
+use Rattle.frame_facts.specs.Claims.{HasSoundFrame}
+use Rattle.frame_facts.proofs.Moved.{live_same}
+use Rattle.frame_facts.proofs.Roots.{untouched_keeps}
+use Rattle.frame_facts.specs.Owners.{IsStructure, HasStructure}
+use Rattle.frame_facts.proofs.segments.Places.{not_structure}
 use Rattle.frame_facts.specs.Facts.{Fact, Rooted, IsLiveSlot, HoldsFact}
 use Rattle.frame_facts.specs.Keeping.{AreSound}
 use Rattle.frame_facts.proofs.Structure.{beside, followed}

@@ -6,14 +6,14 @@ use Rattle.trace.proofs.Replaced.{cases_at, replaced_other}
 use Rattle.image_layout.specs.Places.{words_of, bucket_at}
 use Rattle.image_layout.specs.Volatile.{counter_word, power_word}
 use Rattle.sound_image.specs.Records.{key_hash}
-use Rattle.bucket_words.specs.Core.{core_of, core, SameCoresIn}
-use Rattle.bucket_words.specs.Owners.{HasStructure, SameOwners, owner_of, home_at}
-use Rattle.bucket_words.specs.Standing.{IsTable}
-use Rattle.bucket_words.specs.Hits.{Hit, find}
-use Rattle.bucket_words.specs.TableChanges.{KeepsTable}
-use Rattle.bucket_words.proofs.segments.Places.{owner_kept, home_kept}
-use Rattle.bucket_words.proofs.segments.Deciding.{find_places as places_decide}
-use Rattle.bucket_words.proofs.segments.Cores.{keeps_of_cores, find_of_cores, core_structure, structure_within, hit_of_cores}
+use Rattle.frame_facts.specs.Core.{core_of, core, SameCoresIn}
+use Rattle.frame_facts.specs.Owners.{HasStructure, SameOwners, owner_of, home_at}
+use Rattle.frame_facts.specs.Standing.{IsTable}
+use Rattle.frame_facts.specs.Hits.{Hit, find}
+use Rattle.frame_facts.specs.TableChanges.{KeepsTable}
+use Rattle.frame_facts.proofs.segments.Places.{owner_kept, home_kept}
+use Rattle.frame_facts.proofs.segments.Deciding.{find_places as places_decide}
+use Rattle.frame_facts.proofs.segments.Cores.{keeps_of_cores, find_of_cores, core_structure, structure_within, hit_of_cores}
 use Rattle.world.specs.Ground.{Ground, IsLockWord, IsUnder}
 use Rattle.world.proofs.basics.Grounds.{lock_within, lock_core}
 

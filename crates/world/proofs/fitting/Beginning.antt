@@ -4,10 +4,10 @@ use Rattle.trace.specs.Events.{Words}
 use Rattle.segment_head.specs.HeadWord.{splitting}
 use Rattle.image_layout.specs.Places.{words_of}
 use Rattle.sound_image.specs.Segments.{frame_of, state_at}
-use Rattle.segment_table.specs.Claims.{HasSoundFrame}
-use Rattle.segment_table.proofs.stores.Roots.{untouched_keeps}
-use Rattle.bucket_words.specs.Core.{core}
-use Rattle.bucket_words.specs.Owners.{HasStructure}
+use Rattle.frame_facts.specs.Claims.{HasSoundFrame}
+use Rattle.frame_facts.proofs.Roots.{untouched_keeps}
+use Rattle.frame_facts.specs.Core.{core}
+use Rattle.frame_facts.specs.Owners.{HasStructure}
 use Rattle.frame_facts.proofs.Structure.{beside}
 use Rattle.world.specs.Ground.{Ground, IsGround, IsCurrentIn}
 use Rattle.world.specs.Views.{View, Has, At, HasLock, IsLoose}

@@ -6,7 +6,7 @@ use Rattle.trace.specs.Events.{Words, with_word, after, line_of}
 use Rattle.trace.specs.Events.Event.{loaded, exchanged}
 use Rattle.image_layout.specs.Places.{first_segment, words_of, bucket_at}
 use Rattle.image_layout.specs.Volatile.{counter_word}
-use Rattle.bucket_words.specs.Core.{core}
+use Rattle.frame_facts.specs.Core.{core}
 use Rattle.map_model.specs.declared.call.Call.{Call}
 use Rattle.frame_facts.specs.Facts.{Lives, Current}
 use Rattle.world.specs.Ground.{Ground, IsLockWord, IsUnder}

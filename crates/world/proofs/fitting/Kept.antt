@@ -3,7 +3,7 @@ use Rattle.std.proofs.Common.{◌≡◌, ◌≢◌, ◌⊎◌, ℕ, ◌+◌, ◌
 use Rattle.trace.specs.Events.{Words}
 use Rattle.segment_head.specs.HeadWord.{version_in, state_in, depth_in, pattern_in, free, splitting}
 use Rattle.sound_image.specs.Segments.{frame_of, state_at}
-use Rattle.segment_table.proofs.stores.Moved.{live_same}
+use Rattle.frame_facts.proofs.Moved.{live_same}
 use Rattle.world.specs.Ground.{Ground, version_of, IsCurrentIn}
 use Rattle.world.specs.Views.{View, Has, At, HasLock}
 use Rattle.world.specs.areas.Areas.{Area, Segment, Stale, Side, Free, Whole, Allocation, Directory, header_word}

@@ -6,7 +6,7 @@ use Rattle.trace.specs.Events.{Words}
 use Rattle.image_layout.specs.Places.{root_word, first_segment, entry_at}
 use Rattle.image_layout.proofs.Areas.{entry_before}
 use Rattle.sound_image.specs.Segments.{frame_of}
-use Rattle.segment_table.proofs.stores.Moved.{live_same}
+use Rattle.frame_facts.proofs.Moved.{live_same}
 use Rattle.frame_facts.specs.Facts.{Rooted, IsLiveSlot, HoldsFact}
 use Rattle.frame_facts.proofs.Told.{current_told, begins_told, rooted_told}
 use Rattle.world.specs.Ground.{Ground, version_of}

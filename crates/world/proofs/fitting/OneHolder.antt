@@ -6,7 +6,7 @@ use Rattle.segment_head.specs.HeadWord.{version_in, free, HasLiveState}
 use Rattle.image_layout.specs.Places.{Shape, block, root_word, first_segment, head_at, words_of, bucket_at, buckets}
 use Rattle.image_layout.proofs.Areas.{entry_before}
 use Rattle.sound_image.specs.Segments.{frame_of, state_at}
-use Rattle.segment_table.proofs.frames.SoundFrames.{apart}
+use Rattle.frame_facts.proofs.frames.SoundFrames.{apart}
 use Rattle.frame_facts.specs.Facts.{IsLiveSlot}
 use Rattle.frame_facts.specs.DeadSlots.{IsInSlot}
 use Rattle.world.specs.Ground.{Ground, IsUnder, version_of, IsCurrentIn}

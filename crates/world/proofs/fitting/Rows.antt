@@ -7,7 +7,7 @@ use Rattle.trace.proofs.Replaced.{replaced_same, replaced_other}
 use Rattle.segment_head.specs.HeadWord.{version_in, state_in, depth_in, pattern_in, free, splitting, HasLiveState}
 use Rattle.image_layout.specs.Places.{first_segment, words_of, bucket_at}
 use Rattle.sound_image.specs.Segments.{Frame, frame_of, state_at, depth_at, pattern_at}
-use Rattle.segment_table.proofs.stores.Moved.{live_same}
+use Rattle.frame_facts.proofs.Moved.{live_same}
 use Rattle.world.specs.Ground.{Ground, version_of, IsCurrentIn}
 use Rattle.world.specs.Views.{View, Has, At, HasLock}
 use Rattle.world.specs.areas.Areas.{Area, Segment, Stale, Side, Free, Whole, Allocation, Directory, header_word, is_side_at, is_stale_at, all_but}

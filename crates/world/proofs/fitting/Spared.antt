@@ -6,9 +6,9 @@ use Rattle.trace.proofs.Replaced.{replaced_other}
 use Rattle.segment_head.specs.HeadWord.{version_in, state_in, free, HasLiveState}
 use Rattle.image_layout.specs.Places.{words_of, bucket_at}
 use Rattle.sound_image.specs.Segments.{frame_of, state_at}
-use Rattle.segment_table.proofs.stores.Moved.{live_same}
-use Rattle.bucket_words.specs.Core.{core}
-use Rattle.bucket_words.proofs.segments.Cores.{structure_within}
+use Rattle.frame_facts.proofs.Moved.{live_same}
+use Rattle.frame_facts.specs.Core.{core}
+use Rattle.frame_facts.proofs.segments.Cores.{structure_within}
 use Rattle.world.specs.Ground.{Ground, version_of}
 use Rattle.world.specs.Views.{View, Has, At, HasLock, IsLoose}
 use Rattle.world.specs.areas.Areas.{Area, Segment, Stale, Side, Free, Whole, Allocation, Directory, header_word, is_side_at, is_whole_at, is_of_segment, is_of_allocation, is_of_directory, all_but}

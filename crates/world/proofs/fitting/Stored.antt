@@ -5,9 +5,9 @@ use Rattle.trace.specs.Events.{Words, with_word}
 use Rattle.trace.proofs.Replaced.{replaced_same, replaced_other}
 use Rattle.image_layout.specs.Places.{Shape, words_of}
 use Rattle.sound_image.specs.Segments.{frame_of}
-use Rattle.segment_table.proofs.stores.Moved.{live_same}
-use Rattle.bucket_words.specs.Core.{core_of}
-use Rattle.bucket_words.specs.Owners.{HasStructure}
+use Rattle.frame_facts.proofs.Moved.{live_same}
+use Rattle.frame_facts.specs.Core.{core_of}
+use Rattle.frame_facts.specs.Owners.{HasStructure}
 use Rattle.frame_facts.specs.Facts.{IsLiveSlot}
 use Rattle.world.specs.Ground.{Ground}
 use Rattle.world.specs.Views.{View, Has, At, IsLoose}

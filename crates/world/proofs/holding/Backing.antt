@@ -6,7 +6,7 @@ use Rattle.hash_word.specs.Hash.{home_of}
 use Rattle.trace.specs.Events.{Words}
 use Rattle.image_layout.specs.Places.{bucket_at}
 use Rattle.sound_image.specs.Records.{key_hash}
-use Rattle.bucket_words.specs.Owners.{home_at}
+use Rattle.frame_facts.specs.Owners.{home_at}
 use Rattle.world.specs.Ground.{Ground, IsGround}
 use Rattle.world.specs.Views.{Glance, Answer, View, Has, HasLock}
 use Rattle.world.specs.History.{Log, map_now}

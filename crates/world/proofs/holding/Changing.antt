@@ -7,24 +7,24 @@ use Rattle.trace.specs.Events.{Words, with_word}
 use Rattle.image_layout.specs.Places.{bucket_at, key_at}
 use Rattle.sound_image.specs.Records.{key_hash, word_in}
 use Rattle.map_model.specs.declared.call.Call.TheVariants.{Update, Remove}
-use Rattle.bucket_words.specs.Buckets.{IsTaken, value_in}
+use Rattle.frame_facts.specs.Buckets.{IsTaken, value_in}
 use Rattle.bucket_meta.specs.Marks.{SameButSlot}
-use Rattle.bucket_words.specs.Standing.{IsTable}
-use Rattle.bucket_words.specs.Hits.{Hit, HasOnly, find}
-use Rattle.bucket_words.specs.Owners.{owner_of}
-use Rattle.bucket_words.proofs.segments.Finding.{find_is}
-use Rattle.bucket_words.specs.TableChanges.{ChangesSlot}
-use Rattle.bucket_words.proofs.segments.changes.OneSlot.{go, only_new}
-use Rattle.bucket_words.proofs.segments.changes.OneRecord.{not_taken, vanishes, remove_key, update_key, update_changes, updated_kept}
+use Rattle.frame_facts.specs.Standing.{IsTable}
+use Rattle.frame_facts.specs.Hits.{Hit, HasOnly, find}
+use Rattle.frame_facts.specs.Owners.{owner_of}
+use Rattle.frame_facts.proofs.segments.Finding.{find_is}
+use Rattle.frame_facts.specs.TableChanges.{ChangesSlot}
+use Rattle.frame_facts.proofs.segments.changes.OneSlot.{go, only_new}
+use Rattle.frame_facts.proofs.segments.changes.OneRecord.{not_taken, vanishes, remove_key, update_key, update_changes, updated_kept}
 use Rattle.world.specs.Ground.{Ground, IsUnder}
 use Rattle.world.specs.Views.{Move, View, Has, HasLock}
 use Rattle.world.specs.History.{reply_by}
-use Rattle.bucket_words.specs.HomeNotes.{SameHomeNotes}
+use Rattle.frame_facts.specs.HomeNotes.{SameHomeNotes}
 use Rattle.world.specs.Kinds.{publishes}
 use Rattle.world.specs.Conditions.{IsNewest, StandsBeside, HoldsPlaces, May}
 use Rattle.world.specs.Holders.{KnowsBucket, FoundAt, FreesSlot}
-use Rattle.bucket_words.proofs.segments.Noted.{notes_same}
-use Rattle.bucket_words.proofs.segments.Stashed.{piece_by, stashed_by_pieces}
+use Rattle.frame_facts.proofs.segments.Noted.{notes_same}
+use Rattle.frame_facts.proofs.segments.Stashed.{piece_by, stashed_by_pieces}
 use Rattle.world.proofs.holding.Known.{hit_to, hit_from, but_slot, high_part, stash_of, newest_same, medium_same}
 use Rattle.world.proofs.holding.Owing.{notes_beside}
 

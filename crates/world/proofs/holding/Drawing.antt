@@ -2,21 +2,21 @@
 use Rattle.std.proofs.Common.{◌≡◌, ◌⊎◌, ℕ, ◌+◌, ◌/◌, ◌%◌, ◌^◌, ◌<◌, Bool, true, false, List, [], ◌∷◌, inl, inr, sym, ap, ◌∙◌, subst, arith}
 use Rattle.bucket_meta.specs.Notes.{OverflowNote, how_often}
 use Rattle.hash_word.specs.Hash.{home_of, finger_of}
-use Rattle.bucket_words.proofs.ExactNotes.{each_is_named, often_head}
+use Rattle.frame_facts.proofs.ExactNotes.{each_is_named, often_head}
 use Rattle.trace.specs.Events.{Words}
 use Rattle.image_layout.specs.Places.{bucket_at}
 use Rattle.sound_image.specs.Records.{key_hash, stashed_of}
 use Rattle.map_model.specs.declared.call.Call.{Call}
 use Rattle.map_model.specs.Map.{key_of}
-use Rattle.bucket_words.specs.Hits.{Hit}
+use Rattle.frame_facts.specs.Hits.{Hit}
 use Rattle.world.specs.Ground.{Ground}
 use Rattle.world.specs.Views.{Move, View, Has, HasLock}
 use Rattle.world.specs.Kinds.{draws_place}
 use Rattle.world.specs.Conditions.{IsNewest, IsOwedOf, IsKept, May}
-use Rattle.bucket_words.specs.HomeNotes.{IsUnnoted}
+use Rattle.frame_facts.specs.HomeNotes.{IsUnnoted}
 use Rattle.world.specs.Holders.{KnowsBucket, DrawsWell, OwesAsKnown, MayDraw}
 use Rattle.world.proofs.holding.Owing.{notes_known, count_known}
-use Rattle.bucket_words.proofs.segments.Stashed.{hit_stashed, not_there}
+use Rattle.frame_facts.proofs.segments.Stashed.{hit_stashed, not_there}
 use Rattle.world.proofs.holding.Known.{newest_same, hit_from}
 
 module _ (site : Ground) (v : View) (call : Call) (s : ℕ) (word : Words) (d : DrawsWell site v call s word) where

@@ -1,7 +1,7 @@
 -- What the holder of locks has to know of buckets to place a record, to change one, and to tell of one.
 use Rattle.std.proofs.Common.{Some, inr, sym, ap, ◌∙◌, subst}
 use Rattle.map_model.specs.Map.{key_of}
-use Rattle.bucket_words.proofs.segments.Finding.{find_is, find_none}
+use Rattle.frame_facts.proofs.segments.Finding.{find_is, find_none}
 use Rattle.world.specs.Ground.{Ground}
 use Rattle.world.specs.Views.{View}
 use Rattle.world.specs.History.{MayReply}

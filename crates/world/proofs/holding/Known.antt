@@ -3,10 +3,10 @@ use Rattle.std.proofs.Common.{◌≡◌, ℕ, ◌+◌, ◌*◌, ◌-◌, ◌/◌
 use Rattle.bucket_meta.specs.Bucket.{allocated, finger}
 use Rattle.trace.specs.Events.{Words}
 use Rattle.image_layout.specs.Places.{Shape, bucket_at}
-use Rattle.bucket_words.specs.Buckets.{key_in, value_in, finger_in}
+use Rattle.frame_facts.specs.Buckets.{key_in, value_in, finger_in}
 use Rattle.bucket_meta.specs.Marks.{SameButSlot}
-use Rattle.bucket_words.specs.Hits.{Hit}
-use Rattle.bucket_words.specs.TableChanges.{IsReadyAt}
+use Rattle.frame_facts.specs.Hits.{Hit}
+use Rattle.frame_facts.specs.TableChanges.{IsReadyAt}
 use Rattle.world.specs.Ground.{Ground, IsUnder}
 use Rattle.world.specs.Views.{View}
 use Rattle.world.specs.Conditions.{IsNewest, StandsBeside}

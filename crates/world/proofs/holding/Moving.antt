@@ -4,15 +4,15 @@ use Rattle.hash_word.specs.Hash.{home_of}
 use Rattle.trace.specs.Events.{Words, with_word}
 use Rattle.image_layout.specs.Places.{bucket_at}
 use Rattle.sound_image.specs.Records.{key_hash}
-use Rattle.bucket_words.specs.Buckets.{IsTaken, value_in}
+use Rattle.frame_facts.specs.Buckets.{IsTaken, value_in}
 use Rattle.bucket_meta.specs.Marks.{SameButSlot}
-use Rattle.bucket_words.specs.Standing.{IsTable}
-use Rattle.bucket_words.specs.Hits.{Hit}
-use Rattle.bucket_words.specs.Owners.{owner_of}
-use Rattle.bucket_words.specs.TableChanges.{KeepsTable, IsReadyAt, OnlyNewHit}
-use Rattle.bucket_words.specs.TableChanges.{ChangesSlot}
-use Rattle.bucket_words.proofs.segments.changes.OneSlot.{go, only_new}
-use Rattle.bucket_words.proofs.segments.changes.OneRecord.{not_taken, appears, copy_key, vanishes, clear_key}
+use Rattle.frame_facts.specs.Standing.{IsTable}
+use Rattle.frame_facts.specs.Hits.{Hit}
+use Rattle.frame_facts.specs.Owners.{owner_of}
+use Rattle.frame_facts.specs.TableChanges.{KeepsTable, IsReadyAt, OnlyNewHit}
+use Rattle.frame_facts.specs.TableChanges.{ChangesSlot}
+use Rattle.frame_facts.proofs.segments.changes.OneSlot.{go, only_new}
+use Rattle.frame_facts.proofs.segments.changes.OneRecord.{not_taken, appears, copy_key, vanishes, clear_key}
 use Rattle.world.specs.Ground.{Ground, IsUnder}
 use Rattle.world.specs.Views.{Move, View, Has, HasLock}
 use Rattle.world.specs.Kinds.{copies, clears}

@@ -5,12 +5,12 @@ use Rattle.bucket_meta.specs.Bucket.{overflow_count}
 use Rattle.trace.specs.Events.{Words, with_word}
 use Rattle.image_layout.specs.Places.{Shape, bucket_at, block, homes, buckets}
 use Rattle.sound_image.specs.Records.{key_hash, word_in, notes_of, stashed_of}
-use Rattle.bucket_words.specs.Core.{core_of}
-use Rattle.bucket_words.specs.TableChanges.{ChangesSlot}
-use Rattle.bucket_words.specs.HomeNotes.{SameHomeNotes}
-use Rattle.bucket_words.proofs.segments.Cores.{slots_of_cores}
-use Rattle.bucket_words.proofs.segments.Noted.{notes_same, notes_kept, count_kept}
-use Rattle.bucket_words.proofs.segments.Stashed.{stashed_same, others_stashed}
+use Rattle.frame_facts.specs.Core.{core_of}
+use Rattle.frame_facts.specs.TableChanges.{ChangesSlot}
+use Rattle.frame_facts.specs.HomeNotes.{SameHomeNotes}
+use Rattle.frame_facts.proofs.segments.Cores.{slots_of_cores}
+use Rattle.frame_facts.proofs.segments.Noted.{notes_same, notes_kept, count_kept}
+use Rattle.frame_facts.proofs.segments.Stashed.{stashed_same, others_stashed}
 use Rattle.world.specs.Ground.{Ground}
 use Rattle.world.specs.Views.{Owed, View}
 use Rattle.world.specs.Conditions.{IsOwedOf, IsOwed, IsNewest}

@@ -6,24 +6,24 @@ use Rattle.trace.specs.Events.{Words, with_word}
 use Rattle.image_layout.specs.Places.{bucket_at}
 use Rattle.sound_image.specs.Records.{key_hash}
 use Rattle.map_model.specs.declared.call.Call.TheVariants.{Insert}
-use Rattle.bucket_words.specs.Buckets.{IsTaken, value_in}
+use Rattle.frame_facts.specs.Buckets.{IsTaken, value_in}
 use Rattle.bucket_meta.specs.Marks.{SameButSlot}
-use Rattle.bucket_words.specs.Standing.{IsTable}
-use Rattle.bucket_words.specs.Owners.{owner_of}
-use Rattle.bucket_words.specs.Hits.{Hit, HasNone}
-use Rattle.bucket_words.specs.TableChanges.{ChangesKey, IsReadyAt, OnlyNewHit}
-use Rattle.bucket_words.proofs.segments.Finding.{find_none}
-use Rattle.bucket_words.specs.TableChanges.{ChangesSlot}
-use Rattle.bucket_words.proofs.segments.changes.OneSlot.{go, only_new}
-use Rattle.bucket_words.proofs.segments.changes.OneRecord.{not_both, appears, now, insert_key}
+use Rattle.frame_facts.specs.Standing.{IsTable}
+use Rattle.frame_facts.specs.Owners.{owner_of}
+use Rattle.frame_facts.specs.Hits.{Hit, HasNone}
+use Rattle.frame_facts.specs.TableChanges.{ChangesKey, IsReadyAt, OnlyNewHit}
+use Rattle.frame_facts.proofs.segments.Finding.{find_none}
+use Rattle.frame_facts.specs.TableChanges.{ChangesSlot}
+use Rattle.frame_facts.proofs.segments.changes.OneSlot.{go, only_new}
+use Rattle.frame_facts.proofs.segments.changes.OneRecord.{not_both, appears, now, insert_key}
 use Rattle.world.specs.Ground.{Ground, IsUnder}
 use Rattle.world.specs.Views.{View, HasLock, IsGuarded}
 use Rattle.world.specs.History.{reply_by}
 use Rattle.world.specs.Kinds.{publishes}
 use Rattle.world.specs.Conditions.{IsNewest, StandsBeside, AddsHeld, HoldsPlaces, IsPublishing, May}
-use Rattle.bucket_words.specs.HomeNotes.{IsUnnoted}
+use Rattle.frame_facts.specs.HomeNotes.{IsUnnoted}
 use Rattle.world.specs.Holders.{KnowsBucket, FoundNone, TakesSlot}
-use Rattle.bucket_words.proofs.segments.Stashed.{not_there}
+use Rattle.frame_facts.proofs.segments.Stashed.{not_there}
 use Rattle.bucket_meta.specs.Notes.{how_often}
 use Rattle.world.proofs.basics.Grounds.{home_near}
 use Rattle.world.proofs.holding.Known.{same_value, ready, hit_to, but_slot, high_part, stash_of, newest_same, medium_same}

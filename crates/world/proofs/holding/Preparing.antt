@@ -9,22 +9,22 @@ use Rattle.trace.specs.Events.{Words, with_word}
 use Rattle.trace.proofs.Replaced.{cases_at}
 use Rattle.image_layout.specs.Places.{Shape, bucket_at}
 use Rattle.sound_image.specs.Records.{word_in, notes_in}
-use Rattle.bucket_words.specs.Buckets.{finger_in}
-use Rattle.bucket_words.specs.Slots.{SameSlot}
-use Rattle.bucket_words.proofs.Counts.{same_pieces}
-use Rattle.bucket_words.specs.Standing.{IsTable}
-use Rattle.bucket_words.specs.Hits.{Hit}
-use Rattle.bucket_words.specs.TableChanges.{KeepsTable}
-use Rattle.bucket_words.proofs.segments.Places.{owners_kept, other_word}
-use Rattle.bucket_words.proofs.segments.changes.NoSlot.{same_there, same_back}
-use Rattle.bucket_words.proofs.segments.changes.Prepared.{slots_kept, behind_meta}
+use Rattle.frame_facts.specs.Buckets.{finger_in}
+use Rattle.frame_facts.specs.Slots.{SameSlot}
+use Rattle.frame_facts.proofs.Counts.{same_pieces}
+use Rattle.frame_facts.specs.Standing.{IsTable}
+use Rattle.frame_facts.specs.Hits.{Hit}
+use Rattle.frame_facts.specs.TableChanges.{KeepsTable}
+use Rattle.frame_facts.proofs.segments.Places.{owners_kept, other_word}
+use Rattle.frame_facts.proofs.segments.changes.NoSlot.{same_there, same_back}
+use Rattle.frame_facts.proofs.segments.changes.Prepared.{slots_kept, behind_meta}
 use Rattle.world.specs.Ground.{Ground}
 use Rattle.world.specs.Views.{View}
-use Rattle.bucket_words.specs.HomeNotes.{SameHomeNotes}
+use Rattle.frame_facts.specs.HomeNotes.{SameHomeNotes}
 use Rattle.world.specs.Kinds.{stores}
 use Rattle.world.specs.Conditions.{IsNewest, StandsBeside, May}
 use Rattle.world.specs.Holders.{KnowsMeta, SparesTaken, MayPrepare}
-use Rattle.bucket_words.proofs.segments.Stashed.{stashed_same}
+use Rattle.frame_facts.proofs.segments.Stashed.{stashed_same}
 
 -- ---- the overflow fingerprints of word 3
 abbrev pub note_piece : ℕ → ℕ → ℕ → ℕ → ℕ → List OverflowNote

@@ -7,18 +7,18 @@ use Rattle.hash_word.specs.Hash.{probing_of}
 use Rattle.trace.specs.Events.{Words, with_word}
 use Rattle.image_layout.specs.Places.{Shape, bucket_at}
 use Rattle.sound_image.specs.Records.{word_in, notes_in, notes_of, stashed_of, HasExactNotes}
-use Rattle.bucket_words.specs.Core.{core_of, core}
-use Rattle.bucket_words.specs.Hits.{Hit}
-use Rattle.bucket_words.proofs.segments.Places.{other_word}
-use Rattle.bucket_words.proofs.segments.changes.Prepared.{core_keeps}
+use Rattle.frame_facts.specs.Core.{core_of, core}
+use Rattle.frame_facts.specs.Hits.{Hit}
+use Rattle.frame_facts.proofs.segments.Places.{other_word}
+use Rattle.frame_facts.proofs.segments.changes.Prepared.{core_keeps}
 use Rattle.world.specs.Ground.{Ground, IsUnder}
 use Rattle.world.specs.Views.{Owed, View}
-use Rattle.bucket_words.specs.HomeNotes.{SameHomeNotes}
+use Rattle.frame_facts.specs.HomeNotes.{SameHomeNotes}
 use Rattle.world.specs.Kinds.{stores, repays}
 use Rattle.world.specs.Conditions.{IsNewest, IsOwing, IsHomeOf, IsOwedOf, IsTidy, IsHarmless, May}
 use Rattle.world.specs.Holders.{KnowsBucket, TouchesNote, MayRepay}
-use Rattle.bucket_words.proofs.segments.Stashed.{stashed_same as stashed_stays}
-use Rattle.bucket_words.proofs.segments.Cores.{slots_of_cores}
+use Rattle.frame_facts.proofs.segments.Stashed.{stashed_same as stashed_stays}
+use Rattle.frame_facts.proofs.segments.Cores.{slots_of_cores}
 use Rattle.world.proofs.basics.Tables.{same_hit, cores_replaced}
 use Rattle.world.proofs.holding.Known.{newest_same, medium_same}
 

@@ -7,8 +7,8 @@ use Rattle.trace.specs.Events.Event.{loaded, exchanged}
 use Rattle.image_layout.specs.Places.{words_of}
 use Rattle.image_layout.specs.Volatile.{counter_word, power_word}
 use Rattle.map_model.specs.declared.call.Call.{Call}
-use Rattle.bucket_words.specs.Core.{core}
-use Rattle.bucket_words.specs.Hits.{Hit, HasOnly}
+use Rattle.frame_facts.specs.Core.{core}
+use Rattle.frame_facts.specs.Hits.{Hit, HasOnly}
 use Rattle.world.specs.Ground.{Ground, IsLockWord}
 use Rattle.world.specs.Views.{Answer, Move, Owed, View, Has, At, HasLock}
 use Rattle.world.specs.Parts.{IsMoving}

@@ -7,7 +7,7 @@ use Rattle.trace.proofs.Replaced.{cases_at, replaced_same, replaced_other}
 use Rattle.image_layout.specs.Places.{words_of}
 use Rattle.map_model.specs.declared.call.Call.{Call}
 use Rattle.map_model.specs.Map.{key_of}
-use Rattle.bucket_words.specs.Core.{core_of, core}
+use Rattle.frame_facts.specs.Core.{core_of, core}
 use Rattle.world.specs.Ground.{Ground}
 use Rattle.world.specs.Views.{Answer, Move, Owed, View, Has, At, HasLock, IsLoose}
 use Rattle.world.specs.Media.{MayLeave, IsPossible, IsPlanned}

@@ -11,8 +11,8 @@ use Rattle.image_layout.specs.Places.{first_segment, bucket_at, homes}
 use Rattle.image_layout.specs.Volatile.{counter_word, power_word}
 use Rattle.sound_image.specs.Records.{HasExactNotes}
 use Rattle.map_model.specs.declared.call.Call.{Call}
-use Rattle.bucket_words.proofs.segments.Cores.{within_image}
-use Rattle.bucket_words.specs.Owners.{HasStructure}
+use Rattle.frame_facts.proofs.segments.Cores.{within_image}
+use Rattle.frame_facts.specs.Owners.{HasStructure}
 use Rattle.world.specs.Ground.{Ground, IsLockWord}
 use Rattle.world.specs.Views.{Move, Owed, View, Has, At, HasLock}
 use Rattle.world.specs.Parts.{NobodyOwes}
@@ -26,7 +26,7 @@ use Rattle.world.proofs.holding.Backing.{Backing}
 use Rattle.world.proofs.invariant.KeepMedia.{storer}
 use Rattle.world.proofs.invariant.KeepCopies.{same_test, look_moving, count_moving, answer_moving}
 use Rattle.world.proofs.holding.Owing.{same_notes, owed_same}
-use Rattle.bucket_words.proofs.segments.Noted.{exact_same}
+use Rattle.frame_facts.proofs.segments.Noted.{exact_same}
 
 not_test : (a b c d : ℕ) → (eqb a b && eqb c d) ≡ false → a ≡ b → c ≡ d → ⊥
 not_test a b c d f e g = let p : (eqb a b && eqb c d) ≡ true = rw (eq-eqb a b e, eq-eqb c d g) refl in absurd (cc)

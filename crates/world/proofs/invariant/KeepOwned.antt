@@ -5,12 +5,12 @@ use Rattle.trace.specs.Events.Event.{loaded, exchanged}
 use Rattle.image_layout.specs.Places.{words_of}
 use Rattle.image_layout.specs.Volatile.{counter_word, power_word}
 use Rattle.sound_image.specs.Records.{key_hash}
-use Rattle.bucket_words.specs.Core.{core}
-use Rattle.bucket_words.proofs.segments.Places.{owner_kept}
+use Rattle.frame_facts.specs.Core.{core}
+use Rattle.frame_facts.proofs.segments.Places.{owner_kept}
 use Rattle.world.specs.Ground.{Ground, IsLockWord}
 use Rattle.world.specs.Views.{View, At, IsGuarded}
-use Rattle.bucket_words.specs.Hits.{Hit}
-use Rattle.bucket_words.specs.Owners.{owner_of}
+use Rattle.frame_facts.specs.Hits.{Hit}
+use Rattle.frame_facts.specs.Owners.{owner_of}
 use Rattle.world.specs.Kinds.{Kind, peeks, asks_power, meets_root, meets_entry, meets_head, pins, finds_room, refuses, places, looks, glances_word, validates, learns, meets_lock, tries, stores, copies, clears, repays, publishes, stashes, flushes, fences, draws_place, unlocks, cuts_power}
 use Rattle.world.specs.Conditions.{AddsHeld, May}
 use Rattle.world.specs.Laws.{words_by}

@@ -9,9 +9,9 @@ use Rattle.image_layout.specs.Volatile.{counter_word, power_word}
 use Rattle.map_model.specs.declared.call.Call.{Call}
 use Rattle.map_model.specs.declared.entry.Reply.TheVariants.{Done}
 use Rattle.map_model.specs.Map.{key_of}
-use Rattle.bucket_words.specs.Core.{core}
-use Rattle.bucket_words.specs.Hits.{Hit, find}
-use Rattle.bucket_words.specs.Owners.{owner_of, home_at}
+use Rattle.frame_facts.specs.Core.{core}
+use Rattle.frame_facts.specs.Hits.{Hit, find}
+use Rattle.frame_facts.specs.Owners.{owner_of, home_at}
 use Rattle.std.specs.Option.{unwrap_or}
 use Rattle.world.specs.Ground.{Ground, IsLockWord}
 use Rattle.world.specs.Views.{Move, Owed, View, Has, At, HasLock, IsGuarded}
@@ -21,7 +21,7 @@ use Rattle.world.specs.Kinds.{Kind, peeks, asks_power, meets_root, meets_entry, 
 use Rattle.world.specs.Conditions.{IsHarmless, IsPublishing, IsUnplanned, HoldsHome, AddsHeld, HoldsPlaces, May}
 use Rattle.world.specs.Laws.{words_by, views_by}
 use Rattle.world.proofs.basics.Structures.{known_lock}
-use Rattle.bucket_words.proofs.segments.Places.{owner_kept, home_kept}
+use Rattle.frame_facts.proofs.segments.Places.{owner_kept, home_kept}
 use Rattle.hash_word.specs.Hash.{home_of}
 use Rattle.sound_image.specs.Records.{key_hash}
 use Rattle.world.proofs.basics.Tables.{core_owner, same_hit, same_home, same_find, lock_cores, counter_cores, power_cores}

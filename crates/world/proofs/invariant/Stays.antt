@@ -6,7 +6,7 @@ use Rattle.trace.specs.Events.Event.{loaded, exchanged}
 use Rattle.image_layout.specs.Places.{Shape}
 use Rattle.image_layout.specs.Volatile.{counter_word}
 use Rattle.map_model.specs.declared.call.Call.{Call}
-use Rattle.bucket_words.specs.Owners.{HasStructure}
+use Rattle.frame_facts.specs.Owners.{HasStructure}
 use Rattle.world.specs.Ground.{Ground, IsLockWord}
 use Rattle.world.specs.Views.{Answer, View, At}
 use Rattle.world.specs.Parts.{Locks}

@@ -7,10 +7,10 @@ use Rattle.image_layout.specs.Places.{bucket_at, buckets, homes}
 use Rattle.map_model.specs.declared.call.Call.TheVariants.{Remove}
 use Rattle.map_model.specs.Map.{key_of}
 use Rattle.sound_image.specs.Records.{key_hash}
-use Rattle.bucket_words.specs.Buckets.{value_in}
-use Rattle.bucket_words.specs.Hits.{Hit, find}
-use Rattle.bucket_words.specs.Owners.{owner_of, home_at}
-use Rattle.bucket_words.proofs.segments.Finding.{find_is}
+use Rattle.frame_facts.specs.Buckets.{value_in}
+use Rattle.frame_facts.specs.Hits.{Hit, find}
+use Rattle.frame_facts.specs.Owners.{owner_of, home_at}
+use Rattle.frame_facts.proofs.segments.Finding.{find_is}
 use Rattle.world.specs.Ground.{Ground}
 use Rattle.world.specs.Views.{Move, View, Has, At, HasLock}
 use Rattle.world.specs.History.{map_now}

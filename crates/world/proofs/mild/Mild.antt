@@ -9,11 +9,11 @@ use Rattle.image_layout.specs.Places.{Shape, block, bucket_at, homes, buckets}
 use Rattle.map_model.specs.declared.call.Call.{Call}
 use Rattle.map_model.specs.Map.{key_of}
 use Rattle.sound_image.specs.Records.{key_hash}
-use Rattle.bucket_words.specs.Core.{core_of}
-use Rattle.bucket_words.specs.Hits.{Hit, find}
-use Rattle.bucket_words.specs.Owners.{SameOwners, owner_of, home_at}
-use Rattle.bucket_words.proofs.segments.Cores.{hit_of_cores}
-use Rattle.bucket_words.proofs.segments.Noted.{exact_same}
+use Rattle.frame_facts.specs.Core.{core_of}
+use Rattle.frame_facts.specs.Hits.{Hit, find}
+use Rattle.frame_facts.specs.Owners.{SameOwners, owner_of, home_at}
+use Rattle.frame_facts.proofs.segments.Cores.{hit_of_cores}
+use Rattle.frame_facts.proofs.segments.Noted.{exact_same}
 use Rattle.world.specs.Ground.{Ground, IsCurrentIn}
 use Rattle.world.specs.Views.{Move, Owed, View, Has, At, HasLock}
 use Rattle.world.specs.Conditions.{IsOwed, HoldsMove}

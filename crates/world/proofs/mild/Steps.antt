@@ -10,12 +10,12 @@ use Rattle.trace.proofs.Replaced.{replaced_same, replaced_other}
 use Rattle.segment_head.specs.HeadWord.{version_in, state_in, depth_in, pattern_in, free, HasLiveState}
 use Rattle.image_layout.specs.Places.{Shape, first_segment, block, words_of, head_at, bucket_at, buckets}
 use Rattle.sound_image.specs.Segments.{frame_of}
-use Rattle.segment_table.proofs.frames.Owner.{same_owner}
-use Rattle.segment_table.proofs.StoreLaws.{goes_live as side_goes_live}
-use Rattle.bucket_words.specs.Core.{core_of}
-use Rattle.bucket_words.specs.Owners.{owner_of}
-use Rattle.bucket_words.proofs.segments.Cores.{within_image}
-use Rattle.bucket_words.proofs.segments.Places.{not_structure}
+use Rattle.frame_facts.proofs.frames.Owner.{same_owner}
+use Rattle.frame_facts.proofs.StoreLaws.{goes_live as side_goes_live}
+use Rattle.frame_facts.specs.Core.{core_of}
+use Rattle.frame_facts.specs.Owners.{owner_of}
+use Rattle.frame_facts.proofs.segments.Cores.{within_image}
+use Rattle.frame_facts.proofs.segments.Places.{not_structure}
 use Rattle.frame_facts.specs.DeadSlots.{IsInSlot}
 use Rattle.frame_facts.proofs.Owners.{owner_moves}
 use Rattle.frame_facts.specs.Facts.{Fact}

@@ -6,8 +6,8 @@ use Rattle.trace.specs.Events.{Words}
 use Rattle.hash_word.specs.Hash.{home_of}
 use Rattle.image_layout.specs.Places.{Shape, first_segment, words_of, bucket_at, buckets}
 use Rattle.sound_image.specs.Records.{key_hash}
-use Rattle.bucket_words.specs.Core.{core_of, core}
-use Rattle.bucket_words.specs.Owners.{owner_of}
+use Rattle.frame_facts.specs.Core.{core_of, core}
+use Rattle.frame_facts.specs.Owners.{owner_of}
 use Rattle.frame_facts.specs.DeadSlots.{IsInSlot}
 use Rattle.world.specs.Ground.{Ground, IsCurrentIn}
 use Rattle.world.specs.Views.{View, Has, At, HasLock, IsLoose}

@@ -4,9 +4,9 @@ use Rattle.trace.specs.Events.{Words, with_word}
 use Rattle.trace.proofs.Replaced.{replaced_other}
 use Rattle.image_layout.specs.Places.{Shape, words_of}
 use Rattle.sound_image.specs.Segments.{frame_of}
-use Rattle.segment_table.proofs.stores.Roots.{untouched_keeps}
-use Rattle.bucket_words.specs.Core.{core_of, core}
-use Rattle.bucket_words.specs.Owners.{HasStructure}
+use Rattle.frame_facts.proofs.Roots.{untouched_keeps}
+use Rattle.frame_facts.specs.Core.{core_of, core}
+use Rattle.frame_facts.specs.Owners.{HasStructure}
 use Rattle.frame_facts.specs.Facts.{Fact}
 use Rattle.frame_facts.proofs.Structure.{beside as same_frame}
 use Rattle.world.specs.Ground.{Ground, IsGround, IsStructured}

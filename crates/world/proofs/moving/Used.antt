@@ -7,8 +7,8 @@ use Rattle.trace.proofs.Replaced.{replaced_same, replaced_other}
 use Rattle.segment_head.specs.HeadWord.{version_in, state_in, depth_in, pattern_in, free}
 use Rattle.image_layout.specs.Places.{first_segment}
 use Rattle.sound_image.specs.Segments.{frame_of}
-use Rattle.segment_table.specs.Claims.{HasSoundFrame}
-use Rattle.bucket_words.specs.Owners.{HasStructure}
+use Rattle.frame_facts.specs.Claims.{HasSoundFrame}
+use Rattle.frame_facts.specs.Owners.{HasStructure}
 use Rattle.frame_facts.specs.Facts.{Used, Taken, IsUsedSlot}
 use Rattle.frame_facts.proofs.Structure.{followed}
 use Rattle.world.specs.Ground.{Ground, IsGround, version_of}

@@ -6,15 +6,15 @@ use Rattle.hash_word.specs.Hash.{home_of, probing_of, finger_of}
 use Rattle.trace.specs.Events.{Words}
 use Rattle.image_layout.specs.Places.{bucket_at}
 use Rattle.sound_image.specs.Records.{key_hash}
-use Rattle.bucket_words.specs.Hits.{Hit, HasNone}
-use Rattle.bucket_words.proofs.segments.Finding.{find_is, find_none}
+use Rattle.frame_facts.specs.Hits.{Hit, HasNone}
+use Rattle.frame_facts.proofs.segments.Finding.{find_is, find_none}
 use Rattle.world.specs.Ground.{Ground, IsUnder}
 use Rattle.world.specs.Views.{View}
 use Rattle.world.specs.Conditions.{IsNow}
-use Rattle.bucket_words.specs.HomeNotes.{IsUnnoted}
+use Rattle.frame_facts.specs.HomeNotes.{IsUnnoted}
 use Rattle.world.specs.Readers.{NotedBucket, Looked, MayAnswer}
-use Rattle.bucket_words.proofs.segments.Noted.{notes_same}
-use Rattle.bucket_words.proofs.segments.Stashed.{not_there}
+use Rattle.frame_facts.proofs.segments.Noted.{notes_same}
+use Rattle.frame_facts.proofs.segments.Stashed.{not_there}
 use Rattle.world.proofs.holding.Known.{hit_to, hit_from, same_value}
 
 module _ (site : Ground) (v : View) where

@@ -7,17 +7,17 @@ use Rattle.hash_word.specs.Hash.{home_of, probing_of, finger_of}
 use Rattle.bucket_meta.specs.Bucket.{note_used, note_member, note_index, note_finger, overflow_count, record_slots}
 use Rattle.bucket_meta.specs.Notes.{how_often, notes_by}
 use Rattle.bucket_meta.specs.Visits.{is_note, is_named, must_visit}
-use Rattle.bucket_words.proofs.Counts.{how_often-is_sum, how_often-append, no_piece}
+use Rattle.frame_facts.proofs.Counts.{how_often-is_sum, how_often-append, no_piece}
 use Rattle.trace.specs.Events.{Words}
 use Rattle.image_layout.specs.Places.{Shape, bucket_at, homes, stash_buckets, buckets}
 use Rattle.sound_image.specs.Records.{key_hash, HasExactNotes}
-use Rattle.bucket_words.specs.Buckets.{value_in, find_below}
-use Rattle.bucket_words.specs.Owners.{owner_of}
-use Rattle.bucket_words.specs.Hits.{Hit, HasNone, find}
-use Rattle.bucket_words.specs.Standing.{IsTable}
-use Rattle.bucket_words.specs.HomeNotes.{IsUnnoted}
-use Rattle.bucket_words.proofs.segments.Finding.{found_below, find_is, find_none}
-use Rattle.bucket_words.proofs.segments.Stashed.{not_there}
+use Rattle.frame_facts.specs.Buckets.{value_in, find_below}
+use Rattle.frame_facts.specs.Owners.{owner_of}
+use Rattle.frame_facts.specs.Hits.{Hit, HasNone, find}
+use Rattle.frame_facts.specs.Standing.{IsTable}
+use Rattle.frame_facts.specs.HomeNotes.{IsUnnoted}
+use Rattle.frame_facts.proofs.segments.Finding.{found_below, find_is, find_none}
+use Rattle.frame_facts.proofs.segments.Stashed.{not_there}
 use Rattle.world.proofs.stepping.Noting.{never}
 
 module _ (shape : Shape) (m : Words) (s b k : ℕ) (segment : s < shape.segments) (bucket : b < buckets) where

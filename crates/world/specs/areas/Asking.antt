@@ -7,11 +7,11 @@ use Rattle.segment_head.specs.HeadWord.{state_in, depth_in, pattern_in, normal, 
 use Rattle.image_layout.specs.Places.{Shape, root_word, state_word, bucket_at, homes, buckets}
 use Rattle.sound_image.specs.Segments.{frame_of}
 use Rattle.sound_image.specs.Records.{key_hash, HasExactNotes}
-use Rattle.bucket_words.specs.Core.{core_of, core}
-use Rattle.bucket_words.specs.Standing.{IsTable}
-use Rattle.bucket_words.specs.Hits.{Hit}
-use Rattle.bucket_words.specs.Owners.{owner_of}
-use Rattle.bucket_words.specs.TableChanges.{KeepsTable}
+use Rattle.frame_facts.specs.Core.{core_of, core}
+use Rattle.frame_facts.specs.Standing.{IsTable}
+use Rattle.frame_facts.specs.Hits.{Hit}
+use Rattle.frame_facts.specs.Owners.{owner_of}
+use Rattle.frame_facts.specs.TableChanges.{KeepsTable}
 use Rattle.frame_facts.specs.Facts.{Fact, Lives, Taken, HoldsFact}
 use Rattle.frame_facts.specs.Keeping.{KeepsFact, ClaimsNoneOfSide}
 use Rattle.frame_facts.specs.DeadSlots.{IsInSlot}

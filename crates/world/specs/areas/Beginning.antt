@@ -9,9 +9,9 @@ use Rattle.image_layout.specs.Places.{bucket_at, buckets, words_of}
 use Rattle.image_layout.specs.Volatile.{all_words_of}
 use Rattle.sound_image.specs.Segments.{frame_of, image_version, state_at}
 use Rattle.sound_image.specs.Directory.{VersionIsPast}
-use Rattle.segment_table.specs.Claims.{HasSoundFrame}
-use Rattle.bucket_words.specs.Standing.{IsTable}
-use Rattle.bucket_words.specs.Hits.{find}
+use Rattle.frame_facts.specs.Claims.{HasSoundFrame}
+use Rattle.frame_facts.specs.Standing.{IsTable}
+use Rattle.frame_facts.specs.Hits.{find}
 use Rattle.world.specs.Ground.{Ground, IsGround, version_of, IsStructured, IsCurrentIn}
 use Rattle.world.specs.Views.{View, At}
 use Rattle.world.specs.Parts.{total}

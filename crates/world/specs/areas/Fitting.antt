@@ -4,7 +4,7 @@ use Rattle.trace.specs.Events.{Words}
 use Rattle.segment_head.specs.HeadWord.{version_in, free, splitting, HasLiveState}
 use Rattle.image_layout.specs.Places.{Shape, block, root_word, words_of, bucket_at, buckets}
 use Rattle.sound_image.specs.Segments.{Frame, frame_of, state_at, depth_at, pattern_at}
-use Rattle.segment_table.specs.Claims.{HasSoundFrame}
+use Rattle.frame_facts.specs.Claims.{HasSoundFrame}
 use Rattle.frame_facts.specs.Facts.{IsLiveSlot}
 use Rattle.world.specs.Ground.{Ground, IsGround, version_of, IsCurrentIn}
 use Rattle.world.specs.Views.{View, Has, At, HasLock, IsGuarded}

@@ -2,8 +2,8 @@
 use Rattle.std.specs.Prelude.{◌≡◌, ◌≢◌, ◌==◌, ℕ, List, set, if◌then◌else◌}
 use Rattle.trace.specs.Events.{Words}
 use Rattle.image_layout.specs.Volatile.{power_word}
-use Rattle.bucket_words.specs.Core.{core}
-use Rattle.bucket_words.specs.Hits.{find}
+use Rattle.frame_facts.specs.Core.{core}
+use Rattle.frame_facts.specs.Hits.{find}
 use Rattle.frame_facts.specs.Facts.{Fact, HoldsFact}
 use Rattle.world.specs.Ground.{Ground, version_of, IsStructured, IsSpentLock}
 use Rattle.world.specs.Views.{View, Has, At}

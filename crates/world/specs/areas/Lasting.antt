@@ -4,10 +4,10 @@ use Rattle.trace.specs.Events.{Words, with_word}
 use Rattle.segment_head.specs.HeadWord.{state_in, free, normal}
 use Rattle.image_layout.specs.Places.{words_of, bucket_at, buckets}
 use Rattle.sound_image.specs.Segments.{frame_of, state_at}
-use Rattle.segment_table.specs.Claims.{HasSoundFrame}
-use Rattle.segment_table.specs.Media.{IsSteady}
-use Rattle.segment_table.specs.Stores.{GoesOn}
-use Rattle.bucket_words.specs.Owners.{owner_of}
+use Rattle.frame_facts.specs.Claims.{HasSoundFrame}
+use Rattle.frame_facts.specs.Media.{IsSteady}
+use Rattle.frame_facts.specs.Stores.{GoesOn}
+use Rattle.frame_facts.specs.Owners.{owner_of}
 use Rattle.frame_facts.specs.Facts.{IsLiveSlot}
 use Rattle.world.specs.Ground.{Ground}
 use Rattle.world.specs.Views.{View, Has, At, HasLock}

@@ -4,7 +4,7 @@ use Rattle.trace.specs.Events.{Words}
 use Rattle.segment_head.specs.HeadWord.{version_in}
 use Rattle.image_layout.specs.Places.{root_word, entry_at}
 use Rattle.sound_image.specs.Segments.{frame_of}
-use Rattle.segment_table.specs.Media.{first_hash}
+use Rattle.frame_facts.specs.Media.{first_hash}
 use Rattle.frame_facts.specs.Facts.{Lives, Current, Rooted, Begins}
 use Rattle.world.specs.Ground.{Ground, version_of}
 use Rattle.world.specs.Views.{View}

@@ -8,9 +8,9 @@ use Rattle.segment_head.specs.HeadWord.{version_in, state_in, depth_in, pattern_
 pub use Rattle.segment_head.specs.SplitHeads.{side_depth_in, side_pattern_in}
 use Rattle.image_layout.specs.Places.{block, root_word, entry_at, bucket_at, homes, buckets}
 use Rattle.sound_image.specs.Records.{key_hash, HasExactNotes}
-use Rattle.bucket_words.specs.Buckets.{key_in}
-use Rattle.bucket_words.specs.Hits.{Hit}
-use Rattle.bucket_words.specs.Core.{core_of}
+use Rattle.frame_facts.specs.Buckets.{key_in}
+use Rattle.frame_facts.specs.Hits.{Hit}
+use Rattle.frame_facts.specs.Core.{core_of}
 use Rattle.frame_facts.specs.Facts.{Fact, Owns, Lacks, Deep, Begins}
 use Rattle.frame_facts.specs.DeadSlots.{IsInSlot}
 use Rattle.world.specs.Ground.{Ground, version_of}

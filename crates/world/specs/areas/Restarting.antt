@@ -7,7 +7,7 @@ use Rattle.segment_head.specs.HeadWord.{version_in, state_in, depth_in, pattern_
 use Rattle.image_layout.specs.Places.{Shape, root_word, state_word, words_of, block}
 use Rattle.sound_image.specs.Segments.{frame_of, image_version, IsClean}
 use Rattle.sound_image.specs.Image.{IsSoundImage}
-use Rattle.bucket_words.specs.Hits.{find}
+use Rattle.frame_facts.specs.Hits.{find}
 use Rattle.world.specs.Ground.{Ground}
 use Rattle.world.specs.Views.{View, At}
 use Rattle.world.specs.Parts.{total}

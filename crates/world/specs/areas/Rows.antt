@@ -4,8 +4,8 @@ use Rattle.trace.specs.Events.{Words, with_word}
 use Rattle.segment_head.specs.HeadWord.{version_in, depth_in, pattern_in, free, normal, splitting, link_to}
 use Rattle.image_layout.specs.Places.{Shape}
 use Rattle.sound_image.specs.Segments.{Frame, frame_of, state_at, depth_at, pattern_at}
-use Rattle.segment_table.specs.Stores.{TakesSlot, FreesSlot, BeginsSplit, GoesLive, EndsSplit, DropsSplit, Renews}
-use Rattle.bucket_words.specs.Owners.{HasStructure}
+use Rattle.frame_facts.specs.Stores.{TakesSlot, FreesSlot, BeginsSplit, GoesLive, EndsSplit, DropsSplit, Renews}
+use Rattle.frame_facts.specs.Owners.{HasStructure}
 use Rattle.world.specs.Ground.{Ground, version_of, IsCurrentIn}
 use Rattle.world.specs.Views.{View, Has, At, HasLock}
 use Rattle.world.specs.Kinds.{loosened}

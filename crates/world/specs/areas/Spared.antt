@@ -4,7 +4,7 @@ use Rattle.trace.specs.Events.{Words, with_word}
 use Rattle.segment_head.specs.HeadWord.{version_in, free, splitting, HasLiveState}
 use Rattle.image_layout.specs.Places.{Shape, words_of}
 use Rattle.sound_image.specs.Segments.{frame_of, state_at}
-use Rattle.bucket_words.specs.Core.{core}
+use Rattle.frame_facts.specs.Core.{core}
 use Rattle.world.specs.Ground.{Ground, version_of, IsCurrentIn}
 use Rattle.world.specs.Views.{View, Has, At, HasLock, IsLoose}
 use Rattle.world.specs.Media.{MayLeave}

@@ -10,11 +10,11 @@ use Rattle.map_model.specs.declared.call.Call.{Call}
 use Rattle.map_model.specs.declared.call.Call.TheVariants.{Remove}
 use Rattle.map_model.specs.Map.{key_of}
 use Rattle.sound_image.specs.Records.{key_hash}
-use Rattle.bucket_words.specs.Core.{core}
-use Rattle.bucket_words.specs.Buckets.{value_in}
-use Rattle.bucket_words.specs.Hits.{Hit, find}
-use Rattle.bucket_words.specs.Owners.{owner_of, home_at}
-use Rattle.bucket_words.proofs.segments.Finding.{find_is}
+use Rattle.frame_facts.specs.Core.{core}
+use Rattle.frame_facts.specs.Buckets.{value_in}
+use Rattle.frame_facts.specs.Hits.{Hit, find}
+use Rattle.frame_facts.specs.Owners.{owner_of, home_at}
+use Rattle.frame_facts.proofs.segments.Finding.{find_is}
 use Rattle.world.specs.Ground.{Ground, IsUnder}
 use Rattle.world.specs.Views.{View, At, HasLock}
 use Rattle.world.specs.History.{Log, map_now, result_of, change_of}

@@ -7,11 +7,11 @@ use Rattle.map_model.specs.declared.call.Call.{Call}
 use Rattle.map_model.specs.declared.call.Call.TheVariants.{Remove}
 use Rattle.map_model.specs.Map.{key_of}
 use Rattle.sound_image.specs.Records.{key_hash}
-use Rattle.bucket_words.specs.Core.{core}
-use Rattle.bucket_words.specs.Standing.{IsTable}
-use Rattle.bucket_words.specs.Hits.{Hit, find}
-use Rattle.bucket_words.specs.Owners.{owner_of}
-use Rattle.bucket_words.proofs.segments.Places.{owner_kept}
+use Rattle.frame_facts.specs.Core.{core}
+use Rattle.frame_facts.specs.Standing.{IsTable}
+use Rattle.frame_facts.specs.Hits.{Hit, find}
+use Rattle.frame_facts.specs.Owners.{owner_of}
+use Rattle.frame_facts.proofs.segments.Places.{owner_kept}
 use Rattle.world.specs.Ground.{Ground}
 use Rattle.world.specs.Views.{Move, Owed, View, Has, At, HasLock}
 use Rattle.world.specs.Media.{IsPossible, Stands}

@@ -6,7 +6,7 @@ use Rattle.map_model.specs.declared.call.Call.{Call}
 use Rattle.trace.specs.Events.{Words}
 use Rattle.image_layout.specs.Places.{words_of}
 use Rattle.image_layout.specs.Volatile.{counter_word}
-use Rattle.bucket_words.specs.Core.{core_of}
+use Rattle.frame_facts.specs.Core.{core_of}
 use Rattle.frame_facts.specs.Facts.{Fact}
 use Rattle.world.specs.Ground.{Ground, IsUnder}
 use Rattle.world.specs.Views.{Glance, View, Has, At, HasLock, IsLoose}

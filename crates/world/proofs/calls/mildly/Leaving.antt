@@ -5,7 +5,7 @@ use Rattle.op_core.specs.declared.want.Want.{Want}
 use Rattle.trace.specs.Events.{Words, with_word}
 use Rattle.image_layout.specs.Places.{Shape}
 use Rattle.image_layout.specs.Volatile.{power_word}
-use Rattle.bucket_words.specs.Hits.{find}
+use Rattle.frame_facts.specs.Hits.{find}
 use Rattle.world.specs.Ground.{Ground}
 use Rattle.world.specs.Wants.{words_after}
 use Rattle.world.specs.Kinds.{Kind}

@@ -4,8 +4,8 @@ use Rattle.std.proofs.Common.{◌≡◌, ℕ, ◌%◌, ◌<◌, List, inl, inr, 
 use Rattle.trace.specs.Events.{Words}
 use Rattle.image_layout.specs.Places.{bucket_at, homes, buckets}
 use Rattle.sound_image.specs.Records.{HasExactNotes}
-use Rattle.bucket_words.specs.Hits.{find}
-use Rattle.bucket_words.specs.Owners.{home_at}
+use Rattle.frame_facts.specs.Hits.{find}
+use Rattle.frame_facts.specs.Owners.{home_at}
 use Rattle.world.specs.Ground.{Ground, IsCurrentIn}
 use Rattle.world.specs.Views.{View, At, HasLock}
 use Rattle.world.specs.History.{map_now}

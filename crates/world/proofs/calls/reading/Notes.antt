@@ -10,8 +10,8 @@ use Rattle.image_layout.specs.Volatile.{counter_word, power_word}
 use Rattle.hash_word.specs.Hash.{home_of}
 use Rattle.map_model.specs.declared.call.Call.{Call}
 use Rattle.sound_image.specs.Records.{key_hash}
-use Rattle.bucket_words.specs.Owners.{owner_of, home_at}
-use Rattle.bucket_words.proofs.segments.Places.{owner_within}
+use Rattle.frame_facts.specs.Owners.{owner_of, home_at}
+use Rattle.frame_facts.proofs.segments.Places.{owner_within}
 use Rattle.frame_facts.specs.Facts.{Lives, Current}
 use Rattle.world.specs.Ground.{Ground, IsLockWord, IsUnder, version_of, IsCurrentLock}
 use Rattle.world.specs.Views.{Glance, Answer, View, Has, At, IsGuarded}

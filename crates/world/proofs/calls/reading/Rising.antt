@@ -4,7 +4,7 @@ use Rattle.std.proofs.lemmas.Bool.{cases_eq}
 use Rattle.trace.specs.Events.{Words, with_word}
 use Rattle.trace.proofs.Replaced.{replaced_same, replaced_other}
 use Rattle.image_layout.specs.Places.{words_of}
-use Rattle.bucket_words.specs.Owners.{HasStructure}
+use Rattle.frame_facts.specs.Owners.{HasStructure}
 use Rattle.world.specs.Ground.{Ground, IsLockWord, IsUnder}
 use Rattle.world.specs.Views.{Glance, View, At, IsGuarded}
 use Rattle.world.specs.Parts.{Locks, IsPastLock}

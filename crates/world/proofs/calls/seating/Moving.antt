@@ -2,7 +2,7 @@
 use Rattle.std.proofs.Common.{◌≡◌, ◌⊎◌, ℕ, ◌+◌, List, inl, inr, subst}
 use Rattle.trace.specs.Events.{Words}
 use Rattle.image_layout.specs.Places.{bucket_at, homes}
-use Rattle.bucket_words.specs.Hits.{find}
+use Rattle.frame_facts.specs.Hits.{find}
 use Rattle.world.specs.Ground.{Ground, IsUnder}
 use Rattle.world.specs.Views.{Glance, View, Has}
 use Rattle.world.specs.History.{Log}

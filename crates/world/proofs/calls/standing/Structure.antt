@@ -10,8 +10,8 @@ use Rattle.segment_head.specs.HeadWord.{version_in, state_in, is_live}
 use Rattle.image_layout.specs.Places.{root_word, entry_at, head_at, words_of, bucket_at}
 use Rattle.image_layout.specs.Volatile.{counter_word, power_word}
 use Rattle.map_model.specs.declared.call.Call.{Call}
-use Rattle.bucket_words.specs.Core.{core}
-use Rattle.bucket_words.specs.Owners.{HasStructure}
+use Rattle.frame_facts.specs.Core.{core}
+use Rattle.frame_facts.specs.Owners.{HasStructure}
 use Rattle.frame_facts.specs.Facts.{Fact, Lives, Rooted}
 use Rattle.frame_facts.proofs.Structure.{followed}
 use Rattle.world.specs.Ground.{Ground, IsLockWord, version_of}

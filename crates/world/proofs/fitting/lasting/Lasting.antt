@@ -6,11 +6,11 @@ use Rattle.trace.proofs.Replaced.{replaced_same, replaced_other}
 use Rattle.segment_head.specs.HeadWord.{depth_in, pattern_in, HasLiveState}
 use Rattle.image_layout.specs.Places.{Shape, words_of}
 use Rattle.sound_image.specs.Segments.{frame_of}
-use Rattle.segment_table.specs.Media.{IsSteady}
-use Rattle.segment_table.proofs.Media.{steady_on}
-use Rattle.segment_table.proofs.stores.Moved.{live_same}
-use Rattle.segment_table.proofs.stores.GoesLive.{steady_same}
-use Rattle.bucket_words.specs.Owners.{HasStructure}
+use Rattle.frame_facts.specs.Media.{IsSteady}
+use Rattle.frame_facts.proofs.Media.{steady_on}
+use Rattle.frame_facts.proofs.Moved.{live_same}
+use Rattle.frame_facts.proofs.GoesLive.{steady_same}
+use Rattle.frame_facts.specs.Owners.{HasStructure}
 use Rattle.frame_facts.specs.Facts.{IsLiveSlot}
 use Rattle.world.specs.Ground.{Ground}
 use Rattle.world.specs.Views.{View, Has, At}

@@ -9,15 +9,15 @@ use Rattle.trace.proofs.Replaced.{cases_at, replaced_other}
 use Rattle.segment_head.specs.HeadWord.{state_in, depth_in, pattern_in, normal, splitting, HasLiveState}
 use Rattle.image_layout.specs.Places.{Shape, words_of, bucket_at}
 use Rattle.sound_image.specs.Segments.{frame_of}
-use Rattle.segment_table.specs.Claims.{HasSoundFrame}
-use Rattle.segment_table.specs.Stores.{GoesOn, StoreKeeps, StoreHandsOver}
-use Rattle.segment_table.proofs.StoreLaws.{takes_slot, frees_slot, begins_split, goes_live as side_goes_live, ends_split, drops_split, renews as byte_renews}
-use Rattle.segment_table.proofs.stores.Roots.{untouched_keeps}
-use Rattle.segment_table.proofs.stores.Moved.{live_for_same}
-use Rattle.segment_table.proofs.frames.Owner.{found_owns, claimer_found, same_owner}
-use Rattle.bucket_words.specs.Owners.{HasStructure, SameOwners, owner_of}
-use Rattle.bucket_words.proofs.segments.Places.{owner_kept}
-use Rattle.bucket_words.proofs.segments.Cores.{core_structure}
+use Rattle.frame_facts.specs.Claims.{HasSoundFrame}
+use Rattle.frame_facts.specs.Stores.{GoesOn, StoreKeeps, StoreHandsOver}
+use Rattle.frame_facts.proofs.StoreLaws.{takes_slot, frees_slot, begins_split, goes_live as side_goes_live, ends_split, drops_split, renews as byte_renews}
+use Rattle.frame_facts.proofs.Roots.{untouched_keeps}
+use Rattle.frame_facts.proofs.Moved.{live_for_same}
+use Rattle.frame_facts.proofs.frames.Owner.{found_owns, claimer_found, same_owner}
+use Rattle.frame_facts.specs.Owners.{HasStructure, SameOwners, owner_of}
+use Rattle.frame_facts.proofs.segments.Places.{owner_kept}
+use Rattle.frame_facts.proofs.segments.Cores.{core_structure}
 use Rattle.frame_facts.proofs.Structure.{beside}
 use Rattle.frame_facts.proofs.Owners.{owners_stay, owner_moves, owner_spared, owned_fits}
 use Rattle.world.specs.Ground.{Ground}

@@ -2,9 +2,9 @@
 use Rattle.std.proofs.Common.{◌≡◌, ℕ, ◌+◌, ◌*◌, ◌-◌, ◌^◌, ◌<◌, ◌≤◌, inl, inr, List, refl, sym, ap, ◌∙◌, subst, arith}
 use Rattle.trace.specs.Events.{Words}
 use Rattle.sound_image.specs.Segments.{Frame, frame_of, depth_at, pattern_at, IsReadySide, HasReadySide}
-use Rattle.segment_table.proofs.frames.Regions.{odd_power}
-use Rattle.segment_table.proofs.frames.SoundFrames.{apart}
-use Rattle.segment_table.proofs.Media.{ready_now, ready_there}
+use Rattle.frame_facts.proofs.frames.Regions.{odd_power}
+use Rattle.frame_facts.proofs.frames.SoundFrames.{apart}
+use Rattle.frame_facts.proofs.Media.{ready_now, ready_there}
 use Rattle.frame_facts.specs.Facts.{IsLiveSlot}
 use Rattle.world.specs.Ground.{Ground}
 use Rattle.world.specs.Views.{View, Has}

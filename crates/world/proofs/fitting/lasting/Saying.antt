@@ -5,9 +5,9 @@ use Rattle.trace.proofs.Replaced.{cases_at, replaced_same}
 use Rattle.segment_head.specs.HeadWord.{version_in}
 use Rattle.image_layout.specs.Places.{Shape, words_of}
 use Rattle.sound_image.specs.Segments.{frame_of}
-use Rattle.segment_table.specs.Claims.{HasSoundFrame}
-use Rattle.bucket_words.specs.Core.{core_of}
-use Rattle.bucket_words.specs.Owners.{HasStructure}
+use Rattle.frame_facts.specs.Claims.{HasSoundFrame}
+use Rattle.frame_facts.specs.Core.{core_of}
+use Rattle.frame_facts.specs.Owners.{HasStructure}
 use Rattle.frame_facts.specs.Facts.{Fact, HoldsFact, Lives, Current, Rooted, Owns, Lacks, Deep, Begins, Used, Taken, IsNewSide}
 use Rattle.frame_facts.specs.Keeping.{AreSound, ClaimsNoneOfSide, KeepsFact}
 use Rattle.frame_facts.proofs.Structure.{followed}

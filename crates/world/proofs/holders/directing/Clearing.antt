@@ -6,16 +6,16 @@ use Rattle.hash_word.specs.Hash.{Covers}
 use Rattle.image_layout.specs.Places.{Shape, block, first_segment, bucket_at, buckets}
 use Rattle.sound_image.specs.Segments.{frame_of}
 use Rattle.sound_image.specs.Records.{key_hash}
-use Rattle.segment_table.proofs.frames.Owner.{found_owns}
-use Rattle.segment_table.proofs.frames.SoundFrames.{owner_claims}
-use Rattle.segment_table.proofs.FrameWords.{buckets_apart}
-use Rattle.segment_table.proofs.StoreLaws.{stores_apart}
-use Rattle.bucket_words.specs.Buckets.{key_in}
-use Rattle.bucket_words.specs.Core.{core_of}
-use Rattle.bucket_words.specs.Owners.{owner_of}
-use Rattle.bucket_words.specs.TableChanges.{KeepsTable, KeepsOrLeaves}
-use Rattle.bucket_words.proofs.segments.changes.Foreign.{cleared_keeps}
-use Rattle.bucket_words.proofs.segments.changes.Prepared.{core_keeps}
+use Rattle.frame_facts.proofs.frames.Owner.{found_owns}
+use Rattle.frame_facts.proofs.frames.SoundFrames.{owner_claims}
+use Rattle.frame_facts.proofs.FrameWords.{buckets_apart}
+use Rattle.frame_facts.proofs.StoreLaws.{stores_apart}
+use Rattle.frame_facts.specs.Buckets.{key_in}
+use Rattle.frame_facts.specs.Core.{core_of}
+use Rattle.frame_facts.specs.Owners.{owner_of}
+use Rattle.frame_facts.specs.TableChanges.{KeepsTable, KeepsOrLeaves}
+use Rattle.frame_facts.proofs.segments.changes.Foreign.{cleared_keeps}
+use Rattle.frame_facts.proofs.segments.changes.Prepared.{core_keeps}
 use Rattle.frame_facts.specs.Facts.{Lacks}
 use Rattle.frame_facts.specs.DeadSlots.{IsInSlot}
 use Rattle.frame_facts.proofs.Owners.{owned_fits}

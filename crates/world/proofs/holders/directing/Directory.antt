@@ -6,9 +6,9 @@ use Rattle.trace.specs.Events.{Words}
 use Rattle.image_layout.specs.Places.{Shape, root_word, entry_at, first_segment}
 use Rattle.image_layout.proofs.Areas.{entry_before}
 use Rattle.sound_image.specs.Segments.{frame_of}
-use Rattle.segment_table.specs.Stores.{Doubles, NamesClaimer, StoreKeeps}
-use Rattle.segment_table.proofs.FrameWords.{other_areas_apart}
-use Rattle.segment_table.proofs.StoreLaws.{doubles, names_claimer, stores_apart}
+use Rattle.frame_facts.specs.Stores.{Doubles, NamesClaimer, StoreKeeps}
+use Rattle.frame_facts.proofs.FrameWords.{other_areas_apart}
+use Rattle.frame_facts.proofs.StoreLaws.{doubles, names_claimer, stores_apart}
 use Rattle.frame_facts.specs.Facts.{Owns, ClaimsAll}
 use Rattle.frame_facts.specs.Keeping.{KeepsFacts}
 use Rattle.frame_facts.proofs.Records.{structure_apart}

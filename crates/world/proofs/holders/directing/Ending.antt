@@ -4,9 +4,9 @@ use Rattle.trace.specs.Events.{Words}
 use Rattle.segment_head.specs.HeadWord.{version_in, state_in, depth_in, pattern_in, normal, splitting}
 use Rattle.image_layout.specs.Places.{Shape, root_word}
 use Rattle.sound_image.specs.Segments.{frame_of, image_version}
-use Rattle.segment_table.specs.Stores.{EndsSplit}
-use Rattle.segment_table.proofs.Claimers.{ready_claims_none}
-use Rattle.segment_table.proofs.StoreLaws.{ends_split}
+use Rattle.frame_facts.specs.Stores.{EndsSplit}
+use Rattle.frame_facts.proofs.Claimers.{ready_claims_none}
+use Rattle.frame_facts.proofs.StoreLaws.{ends_split}
 use Rattle.frame_facts.specs.Facts.{Lacks, Deep, ClaimsNone, NamesDeeper}
 use Rattle.frame_facts.proofs.Records.{structure_apart}
 use Rattle.frame_facts.proofs.Stores.{ends}

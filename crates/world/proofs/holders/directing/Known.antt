@@ -4,8 +4,8 @@ use Rattle.std.proofs.lemmas.Nat.{pow_pos}
 use Rattle.trace.specs.Events.{Words, with_word}
 use Rattle.trace.proofs.Replaced.{replaced_other}
 use Rattle.image_layout.specs.Places.{Shape, root_word, first_segment}
-use Rattle.segment_table.specs.Stores.{StoreKeeps}
-use Rattle.bucket_words.specs.Standing.{IsTable}
+use Rattle.frame_facts.specs.Stores.{StoreKeeps}
+use Rattle.frame_facts.specs.Standing.{IsTable}
 use Rattle.frame_facts.specs.Facts.{Fact}
 use Rattle.frame_facts.specs.Keeping.{KeepsFacts}
 use Rattle.frame_facts.specs.Copies.{IsNoBucketWord}

@@ -4,9 +4,9 @@ use Rattle.trace.specs.Events.{Words}
 use Rattle.segment_head.specs.HeadWord.{version_in, state_in, depth_in, pattern_in, free, normal, splitting, fresh}
 use Rattle.image_layout.specs.Places.{state_word}
 use Rattle.sound_image.specs.Segments.{frame_of, image_version}
-use Rattle.segment_table.specs.Stores.{BeginsSplit, TakesSlot}
-use Rattle.segment_table.proofs.StoreLaws.{begins_split, takes_slot}
-use Rattle.segment_table.proofs.frames.Regions.{doubled_fits}
+use Rattle.frame_facts.specs.Stores.{BeginsSplit, TakesSlot}
+use Rattle.frame_facts.proofs.StoreLaws.{begins_split, takes_slot}
+use Rattle.frame_facts.proofs.frames.Regions.{doubled_fits}
 use Rattle.frame_facts.proofs.Stores.{takes, begins}
 use Rattle.world.specs.Ground.{Ground, IsGround, version_of, IsStructured}
 use Rattle.world.specs.Views.{View, Has}

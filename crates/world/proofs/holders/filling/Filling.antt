@@ -4,8 +4,8 @@ use Rattle.trace.specs.Events.{Words}
 use Rattle.segment_head.specs.HeadWord.{state_in, splitting, HasLiveState}
 use Rattle.image_layout.specs.Places.{Shape, state_word, first_segment}
 use Rattle.sound_image.specs.Segments.{frame_of, IsLive}
-use Rattle.segment_table.specs.Stores.{Links}
-use Rattle.segment_table.proofs.StoreLaws.{links, stores_apart}
+use Rattle.frame_facts.specs.Stores.{Links}
+use Rattle.frame_facts.proofs.StoreLaws.{links, stores_apart}
 use Rattle.frame_facts.specs.DeadSlots.{IsInSlot, IsPlainInSlot}
 use Rattle.frame_facts.proofs.Stores.{linked, untouched}
 use Rattle.frame_facts.proofs.DeadSlots.{plain_apart, plain_no_entry, dead_store}

@@ -3,9 +3,9 @@ use Rattle.std.proofs.Common.{◌≡◌, ℕ, ◌+◌, ◌≤◌, ◌∙◌, ari
 use Rattle.trace.specs.Events.{Words, with_word}
 use Rattle.trace.proofs.Replaced.{replaced_other}
 use Rattle.image_layout.specs.Places.{Shape, block, head_at}
-use Rattle.segment_table.specs.Stores.{StoreKeeps}
-use Rattle.bucket_words.specs.Owners.{IsStructure}
-use Rattle.bucket_words.specs.TableChanges.{KeepsTable}
+use Rattle.frame_facts.specs.Stores.{StoreKeeps}
+use Rattle.frame_facts.specs.Owners.{IsStructure}
+use Rattle.frame_facts.specs.TableChanges.{KeepsTable}
 use Rattle.frame_facts.specs.Keeping.{AreSound}
 use Rattle.frame_facts.proofs.Records.{structure_apart, kept_table}
 use Rattle.world.specs.Ground.{Ground, IsGround, IsStructured}

@@ -6,8 +6,8 @@ use Rattle.segment_head.specs.HeadWord.{depth_in, pattern_in}
 use Rattle.image_layout.specs.Places.{bucket_at, buckets}
 use Rattle.sound_image.specs.Segments.{frame_of}
 use Rattle.sound_image.specs.Records.{key_hash}
-use Rattle.segment_table.proofs.frames.Owner.{found_owns}
-use Rattle.bucket_words.specs.Hits.{Hit}
+use Rattle.frame_facts.proofs.frames.Owner.{found_owns}
+use Rattle.frame_facts.specs.Hits.{Hit}
 use Rattle.world.specs.Ground.{Ground, IsUnder}
 use Rattle.world.specs.Views.{Move, View, Has, HasLock}
 use Rattle.world.specs.Conditions.{IsNewest}

@@ -7,9 +7,9 @@ use Rattle.trace.proofs.Replaced.{replaced_same, replaced_other}
 use Rattle.image_layout.specs.Places.{Shape, bucket_at, homes, state_word}
 use Rattle.sound_image.specs.Segments.{frame_of, image_version}
 use Rattle.sound_image.specs.Records.{key_hash, HasExactNotes}
-use Rattle.segment_table.specs.Stores.{Renews, StoreKeeps}
-use Rattle.segment_table.proofs.StoreLaws.{renews as version_kept}
-use Rattle.bucket_words.specs.Hits.{Hit}
+use Rattle.frame_facts.specs.Stores.{Renews, StoreKeeps}
+use Rattle.frame_facts.proofs.StoreLaws.{renews as version_kept}
+use Rattle.frame_facts.specs.Hits.{Hit}
 use Rattle.frame_facts.specs.Copies.{IsNoBucketWord}
 use Rattle.frame_facts.specs.DeadSlots.{IsInSlot}
 use Rattle.frame_facts.proofs.Records.{structure_apart}

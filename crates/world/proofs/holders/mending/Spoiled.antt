@@ -8,14 +8,14 @@ use Rattle.image_layout.specs.Places.{Shape, bucket_at, buckets}
 use Rattle.sound_image.specs.Segments.{frame_of}
 use Rattle.sound_image.specs.Records.{key_hash}
 use Rattle.sound_image.proofs.LowBits.{same_allocated, same_member}
-use Rattle.segment_table.proofs.frames.Owner.{found_owns}
-use Rattle.bucket_words.specs.Buckets.{key_in}
-use Rattle.bucket_words.specs.Core.{core_of}
-use Rattle.bucket_words.specs.Owners.{owner_of}
-use Rattle.bucket_words.specs.Hits.{Hit}
-use Rattle.bucket_words.specs.TableChanges.{KeepsTable, KeepsOrVacates}
-use Rattle.bucket_words.proofs.segments.Cores.{core_in}
-use Rattle.bucket_words.proofs.segments.changes.Vacated.{cleared_keeps}
+use Rattle.frame_facts.proofs.frames.Owner.{found_owns}
+use Rattle.frame_facts.specs.Buckets.{key_in}
+use Rattle.frame_facts.specs.Core.{core_of}
+use Rattle.frame_facts.specs.Owners.{owner_of}
+use Rattle.frame_facts.specs.Hits.{Hit}
+use Rattle.frame_facts.specs.TableChanges.{KeepsTable, KeepsOrVacates}
+use Rattle.frame_facts.proofs.segments.Cores.{core_in}
+use Rattle.frame_facts.proofs.segments.changes.Vacated.{cleared_keeps}
 use Rattle.world.specs.Ground.{Ground, IsGround}
 use Rattle.world.specs.Views.{View}
 use Rattle.world.specs.Holders.{KnowsWord}

@@ -3,7 +3,7 @@ use Rattle.std.proofs.Common.{◌≡◌, ℕ, suc, ◌+◌, ◌-◌, ◌%◌, �
 use Rattle.std.proofs.Math.Nat.{add-zero}
 use Rattle.trace.specs.Events.{Words}
 use Rattle.image_layout.specs.Places.{Shape, bucket_at, buckets}
-use Rattle.bucket_words.proofs.segments.changes.Prepared.{core_keeps}
+use Rattle.frame_facts.proofs.segments.changes.Prepared.{core_keeps}
 use Rattle.world.specs.Ground.{Ground, IsGround, IsLockWord, IsSpentLock}
 use Rattle.world.specs.Views.{View}
 use Rattle.world.specs.Holders.{KnowsWord}

@@ -7,10 +7,10 @@ use Rattle.trace.specs.Events.{Words}
 use Rattle.image_layout.specs.Places.{Shape, head_at, bucket_at, homes, buckets}
 use Rattle.sound_image.specs.Segments.{frame_of, InOneSide}
 use Rattle.sound_image.specs.Records.{key_hash, HasExactNotes}
-use Rattle.bucket_words.specs.Buckets.{IsTaken, key_in}
-use Rattle.bucket_words.specs.Slots.{SameSlot}
-use Rattle.bucket_words.specs.Hits.{Hit}
-use Rattle.bucket_words.proofs.segments.Noted.{exact_same}
+use Rattle.frame_facts.specs.Buckets.{IsTaken, key_in}
+use Rattle.frame_facts.specs.Slots.{SameSlot}
+use Rattle.frame_facts.specs.Hits.{Hit}
+use Rattle.frame_facts.proofs.segments.Noted.{exact_same}
 use Rattle.frame_facts.specs.Copies.{HasRecordOf, IsOfOneSide, IsSlotCopy}
 use Rattle.world.specs.Ground.{IsUnder}
 use Rattle.world.proofs.holding.Known.{meta, same_key, same_value, same_finger, hit_to}

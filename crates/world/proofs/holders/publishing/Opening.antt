@@ -6,11 +6,11 @@ use Rattle.segment_head.specs.HeadWord.{state_in, depth_in, pattern_in, normal, 
 use Rattle.image_layout.specs.Places.{bucket_at, homes, buckets}
 use Rattle.sound_image.specs.Segments.{Frame, frame_of, state_at, depth_at, pattern_at, IsLive, CoversHash}
 use Rattle.sound_image.specs.Records.{key_hash, HasExactNotes}
-use Rattle.segment_table.specs.Claims.{IsSoundFrame, HasSoundFrame}
-use Rattle.segment_table.specs.Owner.{owner}
-use Rattle.segment_table.proofs.frames.SoundFrames.{live_low, live_pattern}
-use Rattle.segment_table.proofs.frames.Owner.{claimer_found}
-use Rattle.bucket_words.specs.Hits.{Hit}
+use Rattle.frame_facts.specs.Claims.{IsSoundFrame, HasSoundFrame}
+use Rattle.frame_facts.specs.Owner.{owner}
+use Rattle.frame_facts.proofs.frames.SoundFrames.{live_low, live_pattern}
+use Rattle.frame_facts.proofs.frames.Owner.{claimer_found}
+use Rattle.frame_facts.specs.Hits.{Hit}
 use Rattle.frame_facts.specs.DeadSlots.{IsInSlot}
 use Rattle.frame_facts.proofs.Owners.{region_fits}
 use Rattle.frame_facts.proofs.Told.{unready_claims, normal_unready}

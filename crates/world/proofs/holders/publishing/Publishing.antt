@@ -7,11 +7,11 @@ use Rattle.image_layout.specs.Places.{Shape, root_word, state_word}
 use Rattle.image_layout.specs.StateWord.{image_version_in}
 use Rattle.sound_image.specs.Segments.{Frame, frame_of, InOneSide}
 use Rattle.sound_image.specs.Records.{key_hash}
-use Rattle.segment_table.specs.Stores.{GoesLive, StoreHandsOver}
-use Rattle.segment_table.proofs.StoreLaws.{goes_live as side_goes_live}
-use Rattle.bucket_words.specs.Owners.{owner_of}
-use Rattle.bucket_words.specs.Standing.{IsTable}
-use Rattle.bucket_words.specs.TableChanges.{KeepsTable}
+use Rattle.frame_facts.specs.Stores.{GoesLive, StoreHandsOver}
+use Rattle.frame_facts.proofs.StoreLaws.{goes_live as side_goes_live}
+use Rattle.frame_facts.specs.Owners.{owner_of}
+use Rattle.frame_facts.specs.Standing.{IsTable}
+use Rattle.frame_facts.specs.TableChanges.{KeepsTable}
 use Rattle.frame_facts.specs.Facts.{Fact, Lives, Current, Rooted, Owns, Lacks, Deep, Begins, Used, Taken}
 use Rattle.frame_facts.specs.Keeping.{ClaimsNoneOfSide}
 use Rattle.frame_facts.specs.Copies.{IsNoBucketWord}

@@ -5,10 +5,10 @@ use Rattle.trace.specs.Events.{Words}
 use Rattle.image_layout.specs.Places.{Shape, bucket_at, homes, buckets}
 use Rattle.sound_image.specs.Records.{HasExactNotes}
 use Rattle.hash_word.specs.Hash.{probing_of}
-use Rattle.bucket_words.specs.Hits.{Hit}
-use Rattle.bucket_words.specs.Slots.{SameSlot}
-use Rattle.bucket_words.proofs.segments.Noted.{notes_same, exact_same}
-use Rattle.bucket_words.proofs.segments.Stashed.{stashed_same}
+use Rattle.frame_facts.specs.Hits.{Hit}
+use Rattle.frame_facts.specs.Slots.{SameSlot}
+use Rattle.frame_facts.proofs.segments.Noted.{notes_same, exact_same}
+use Rattle.frame_facts.proofs.segments.Stashed.{stashed_same}
 use Rattle.world.specs.Views.{View}
 use Rattle.world.specs.areas.Splitting.{KnowsRecords}
 use Rattle.world.proofs.holders.publishing.Shown.{Shows, HasBuckets}

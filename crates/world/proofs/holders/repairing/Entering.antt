@@ -4,9 +4,9 @@ use Rattle.trace.specs.Events.{Words}
 use Rattle.segment_head.specs.HeadWord.{depth_in, pattern_in}
 use Rattle.image_layout.specs.Places.{Shape, root_word, entry_at}
 use Rattle.sound_image.specs.Segments.{frame_of, IsReadySide}
-use Rattle.segment_table.specs.Media.{first_hash}
-use Rattle.segment_table.specs.Stores.{NamesSide, StoreKeeps}
-use Rattle.segment_table.proofs.StoreLaws.{names_side as side_named}
+use Rattle.frame_facts.specs.Media.{first_hash}
+use Rattle.frame_facts.specs.Stores.{NamesSide, StoreKeeps}
+use Rattle.frame_facts.proofs.StoreLaws.{names_side as side_named}
 use Rattle.frame_facts.specs.Facts.{Begins, IsLiveSlot, ClaimsNone}
 use Rattle.frame_facts.specs.Keeping.{KeepsFacts}
 use Rattle.frame_facts.proofs.Records.{structure_apart}

@@ -4,8 +4,8 @@ use Rattle.trace.specs.Events.{Words}
 use Rattle.segment_head.specs.HeadWord.{version_in, state_in, depth_in, pattern_in, free, fresh, splitting}
 use Rattle.image_layout.specs.Places.{Shape}
 use Rattle.sound_image.specs.Segments.{frame_of, image_version}
-use Rattle.segment_table.specs.Stores.{FreesSlot}
-use Rattle.segment_table.proofs.StoreLaws.{frees_slot}
+use Rattle.frame_facts.specs.Stores.{FreesSlot}
+use Rattle.frame_facts.proofs.StoreLaws.{frees_slot}
 use Rattle.frame_facts.specs.Facts.{IsNewSide}
 use Rattle.frame_facts.proofs.Sides.{one_parent}
 use Rattle.frame_facts.proofs.Stores.{frees}

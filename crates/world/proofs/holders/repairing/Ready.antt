@@ -4,8 +4,8 @@ use Rattle.trace.specs.Events.{Words}
 use Rattle.segment_head.specs.HeadWord.{state_in, depth_in, pattern_in, splitting}
 use Rattle.image_layout.specs.Places.{Shape, root_word}
 use Rattle.sound_image.specs.Segments.{Frame, frame_of, IsLive, IsReadySide, HasReadySide}
-use Rattle.segment_table.specs.Claims.{ClaimsNoOneSide}
-use Rattle.segment_table.proofs.Claimers.{ready_claims_none}
+use Rattle.frame_facts.specs.Claims.{ClaimsNoOneSide}
+use Rattle.frame_facts.proofs.Claimers.{ready_claims_none}
 use Rattle.frame_facts.specs.Facts.{ClaimsNone}
 use Rattle.world.specs.Ground.{Ground, IsGround, IsStructured}
 use Rattle.world.specs.Kinds.{first_of_region}

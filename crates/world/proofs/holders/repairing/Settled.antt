@@ -5,9 +5,9 @@ use Rattle.hash_word.specs.Hash.{index_of}
 use Rattle.segment_head.specs.HeadWord.{depth_in, pattern_in}
 use Rattle.image_layout.specs.Places.{Shape, root_word, entry_at}
 use Rattle.sound_image.specs.Segments.{Frame, frame_of, depth_at, IsLive, InOneSide}
-use Rattle.segment_table.specs.Claims.{named_for}
-use Rattle.segment_table.specs.Media.{first_hash}
-use Rattle.segment_table.proofs.frames.SoundFrames.{way_begins}
+use Rattle.frame_facts.specs.Claims.{named_for}
+use Rattle.frame_facts.specs.Media.{first_hash}
+use Rattle.frame_facts.proofs.frames.SoundFrames.{way_begins}
 use Rattle.frame_facts.specs.Facts.{Fact, Begins, ClaimsNone, NamesDeeper, HoldsFact}
 use Rattle.world.specs.Ground.{Ground, IsGround, version_of, IsStructured}
 use Rattle.world.specs.Views.{View, Has}

@@ -4,11 +4,11 @@ use Rattle.std.proofs.lemmas.Bool.{cases_lt}
 use Rattle.std.proofs.lemmas.Nat.{pow_pos}
 use Rattle.hash_word.specs.Hash.{index_of}
 use Rattle.sound_image.specs.Segments.{Frame, depth_at, pattern_at, IsLive, CoversHash, IsLiveFor, InOneSide}
-use Rattle.segment_table.specs.Claims.{IsSoundFrame, IsSideEntry}
-use Rattle.segment_table.specs.Media.{first_hash}
-use Rattle.segment_table.proofs.frames.Regions.{fewer, first, top_of_first, top_below, first_least, zero_side_begins}
-use Rattle.segment_table.proofs.frames.SideEntries.{side_entry}
-use Rattle.segment_table.proofs.frames.SoundFrames.{first_covered, nested, side_covered}
+use Rattle.frame_facts.specs.Claims.{IsSoundFrame, IsSideEntry}
+use Rattle.frame_facts.specs.Media.{first_hash}
+use Rattle.frame_facts.proofs.frames.Regions.{fewer, first, top_of_first, top_below, first_least, zero_side_begins}
+use Rattle.frame_facts.proofs.frames.SideEntries.{side_entry}
+use Rattle.frame_facts.proofs.frames.SoundFrames.{first_covered, nested, side_covered}
 use Rattle.world.specs.areas.Repairing.{IsEntryOfSide}
 
 module _ (frame : Frame) (s : ℕ) (small : frame.root ≤ 64) where

@@ -4,9 +4,9 @@ use Rattle.trace.specs.Events.{Words}
 use Rattle.segment_head.specs.HeadWord.{version_in, state_in, depth_in, pattern_in, normal, splitting}
 use Rattle.image_layout.specs.Places.{Shape}
 use Rattle.sound_image.specs.Segments.{frame_of, image_version, HasReadySide}
-use Rattle.segment_table.specs.Stores.{DropsSplit}
-use Rattle.segment_table.proofs.Claimers.{unready_claims_all}
-use Rattle.segment_table.proofs.StoreLaws.{drops_split}
+use Rattle.frame_facts.specs.Stores.{DropsSplit}
+use Rattle.frame_facts.proofs.Claimers.{unready_claims_all}
+use Rattle.frame_facts.proofs.StoreLaws.{drops_split}
 use Rattle.frame_facts.specs.Facts.{ClaimsAll}
 use Rattle.frame_facts.proofs.Stores.{drops}
 use Rattle.world.specs.Ground.{Ground, IsGround, version_of, IsStructured}

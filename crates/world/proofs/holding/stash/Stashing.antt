@@ -7,19 +7,19 @@ use Rattle.trace.specs.Events.{Words, with_word}
 use Rattle.image_layout.specs.Places.{bucket_at}
 use Rattle.sound_image.specs.Records.{key_hash, word_in, notes_of, stashed_of}
 use Rattle.map_model.specs.declared.call.Call.TheVariants.{Insert}
-use Rattle.bucket_words.specs.Buckets.{value_in}
-use Rattle.bucket_words.specs.Hits.{Hit}
-use Rattle.bucket_words.specs.TableChanges.{IsReadyAt}
-use Rattle.bucket_words.specs.TableChanges.{ChangesSlot}
-use Rattle.bucket_words.proofs.segments.changes.OneRecord.{not_both}
+use Rattle.frame_facts.specs.Buckets.{value_in}
+use Rattle.frame_facts.specs.Hits.{Hit}
+use Rattle.frame_facts.specs.TableChanges.{IsReadyAt}
+use Rattle.frame_facts.specs.TableChanges.{ChangesSlot}
+use Rattle.frame_facts.proofs.segments.changes.OneRecord.{not_both}
 use Rattle.world.specs.Ground.{Ground, IsUnder}
 use Rattle.world.specs.Views.{Owed, View}
-use Rattle.bucket_words.specs.HomeNotes.{SameHomeNotes}
+use Rattle.frame_facts.specs.HomeNotes.{SameHomeNotes}
 use Rattle.world.specs.Kinds.{stashes}
 use Rattle.world.specs.Conditions.{IsNewest, IsHomeOf, IsOwing, IsOwed, May}
 use Rattle.world.specs.Holders.{KnowsBucket, FoundNone, TakesSlot}
 use Rattle.bucket_meta.specs.Notes.{AreExact}
-use Rattle.bucket_words.proofs.segments.Stashed.{comes}
+use Rattle.frame_facts.proofs.segments.Stashed.{comes}
 use Rattle.world.proofs.holding.Placing.{guarded, no_twin, none_newest, none_medium, stays, only, is_now, adding, publishing, nowhere, change}
 use Rattle.world.proofs.basics.Grounds.{home_near}
 use Rattle.world.proofs.holding.Known.{ready, high_part, newest_same, medium_same}

@@ -7,22 +7,22 @@ use Rattle.trace.specs.Events.{Words, with_word}
 use Rattle.image_layout.specs.Places.{bucket_at}
 use Rattle.sound_image.specs.Records.{key_hash, word_in, notes_of, stashed_of}
 use Rattle.map_model.specs.declared.call.Call.TheVariants.{Remove}
-use Rattle.bucket_words.specs.Buckets.{IsTaken}
+use Rattle.frame_facts.specs.Buckets.{IsTaken}
 use Rattle.bucket_meta.specs.Marks.{SameButSlot}
-use Rattle.bucket_words.specs.Standing.{IsTable}
-use Rattle.bucket_words.specs.Hits.{Hit}
-use Rattle.bucket_words.specs.TableChanges.{ChangesSlot}
-use Rattle.bucket_words.proofs.segments.changes.OneSlot.{go, only_new, cases_place, old_key}
-use Rattle.bucket_words.proofs.segments.changes.OneRecord.{not_taken, vanishes, remove_key}
+use Rattle.frame_facts.specs.Standing.{IsTable}
+use Rattle.frame_facts.specs.Hits.{Hit}
+use Rattle.frame_facts.specs.TableChanges.{ChangesSlot}
+use Rattle.frame_facts.proofs.segments.changes.OneSlot.{go, only_new, cases_place, old_key}
+use Rattle.frame_facts.proofs.segments.changes.OneRecord.{not_taken, vanishes, remove_key}
 use Rattle.world.specs.Ground.{Ground, IsUnder}
 use Rattle.world.specs.Views.{Owed, View, HasLock}
 use Rattle.world.specs.History.{reply_by}
-use Rattle.bucket_words.specs.HomeNotes.{SameHomeNotes}
+use Rattle.frame_facts.specs.HomeNotes.{SameHomeNotes}
 use Rattle.world.specs.Kinds.{stashes}
 use Rattle.world.specs.Conditions.{OwesNone, IsNewest, IsHomeOf, IsOwing, IsOwed, May}
 use Rattle.world.specs.Holders.{FoundAt, FreesSlot}
 use Rattle.bucket_meta.specs.Notes.{AreExact}
-use Rattle.bucket_words.proofs.segments.Stashed.{leaves}
+use Rattle.frame_facts.proofs.segments.Stashed.{leaves}
 use Rattle.world.proofs.holding.Changing.{hit_medium, held_place, own_medium, only_medium, found_medium}
 use Rattle.world.proofs.basics.Grounds.{home_near}
 use Rattle.world.proofs.holding.Known.{hit_from, but_slot, high_part, newest_same, medium_same}

@@ -7,7 +7,7 @@ use Rattle.image_layout.specs.Volatile.{counter_word, power_word}
 use Rattle.map_model.specs.Weave.{draws}
 use Rattle.map_model.specs.Legal.{InOrder, seen_of}
 use Rattle.sound_image.specs.Segments.{frame_of, image_version, state_at}
-use Rattle.bucket_words.specs.Core.{core}
+use Rattle.frame_facts.specs.Core.{core}
 use Rattle.world.specs.Ground.{Ground, version_of, IsCurrentIn, IsCurrentLock}
 use Rattle.world.specs.Views.{View, Has, At, IsLoose}
 use Rattle.world.specs.Media.{IsPossible}

@@ -12,26 +12,26 @@ use Rattle.sound_image.specs.Segments.{Frame, frame_of, image_version, state_at,
 use Rattle.sound_image.specs.Records.{key_hash, HasExactNotes}
 use Rattle.sound_image.specs.Rules.{IsCleanAndCurrent, CleanMeansRepaired, FollowsRules}
 use Rattle.sound_image.proofs.Hashes.{key_hash-fits}
-use Rattle.segment_table.specs.Claims.{HasSoundFrame}
-use Rattle.segment_table.specs.Stores.{Keeps}
-use Rattle.segment_table.proofs.frames.Rules as frame_rules
-use Rattle.segment_table.proofs.frames.SoundFrames.{owner_claims}
-use Rattle.segment_table.proofs.frames.Owner.{claimer_found}
-use Rattle.segment_table.proofs.stores.Moved.{HasNumbers, ready_same}
-use Rattle.segment_table.proofs.stores.SameRegion.{same_entries}
-use Rattle.segment_table.proofs.stores.Alike.{alike_keeps}
-use Rattle.bucket_words.specs.Owners.{SameOwners}
-use Rattle.bucket_words.specs.Slots.{SameSlot}
-use Rattle.bucket_words.specs.Hits.{Hit}
-use Rattle.bucket_words.specs.HomeNotes.{SameHomeNotes}
-use Rattle.bucket_words.specs.Standing.{IsTable}
-use Rattle.bucket_words.specs.TableChanges.{KeepsTable}
-use Rattle.bucket_words.proofs.Slots.{same_words}
-use Rattle.bucket_words.proofs.segments.Rules.{record_of, cases_order}
-use Rattle.bucket_words.proofs.segments.Rules as table_rules
-use Rattle.bucket_words.proofs.segments.Noted.{notes_same, exact_same}
-use Rattle.bucket_words.proofs.segments.Stashed.{stashed_same}
-use Rattle.bucket_words.proofs.segments.changes.NoSlot.{keeps}
+use Rattle.frame_facts.specs.Claims.{HasSoundFrame}
+use Rattle.frame_facts.specs.Stores.{Keeps}
+use Rattle.frame_facts.proofs.frames.Rules as frame_rules
+use Rattle.frame_facts.proofs.frames.SoundFrames.{owner_claims}
+use Rattle.frame_facts.proofs.frames.Owner.{claimer_found}
+use Rattle.frame_facts.proofs.Moved.{HasNumbers, ready_same}
+use Rattle.frame_facts.proofs.SameRegion.{same_entries}
+use Rattle.frame_facts.proofs.Alike.{alike_keeps}
+use Rattle.frame_facts.specs.Owners.{SameOwners}
+use Rattle.frame_facts.specs.Slots.{SameSlot}
+use Rattle.frame_facts.specs.Hits.{Hit}
+use Rattle.frame_facts.specs.HomeNotes.{SameHomeNotes}
+use Rattle.frame_facts.specs.Standing.{IsTable}
+use Rattle.frame_facts.specs.TableChanges.{KeepsTable}
+use Rattle.frame_facts.proofs.Slots.{same_words}
+use Rattle.frame_facts.proofs.segments.Rules.{record_of, cases_order}
+use Rattle.frame_facts.proofs.segments.Rules as table_rules
+use Rattle.frame_facts.proofs.segments.Noted.{notes_same, exact_same}
+use Rattle.frame_facts.proofs.segments.Stashed.{stashed_same}
+use Rattle.frame_facts.proofs.segments.changes.NoSlot.{keeps}
 use Rattle.frame_facts.proofs.Owners.{owner_stays}
 use Rattle.world.specs.Ground.{Ground, version_of, IsCurrentIn}
 use Rattle.world.specs.World.{World}

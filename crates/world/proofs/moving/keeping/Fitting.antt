@@ -8,7 +8,7 @@ use Rattle.trace.proofs.Replaced.{replaced_other}
 use Rattle.segment_head.specs.HeadWord.{version_in, state_in, depth_in, pattern_in, free, normal, fresh, HasLiveState}
 use Rattle.image_layout.specs.Places.{Shape, words_of, bucket_at}
 use Rattle.sound_image.specs.Segments.{frame_of, state_at}
-use Rattle.bucket_words.specs.Core.{core_of}
+use Rattle.frame_facts.specs.Core.{core_of}
 use Rattle.frame_facts.specs.Facts.{Lives, Fact}
 use Rattle.world.specs.Ground.{Ground, IsLockWord}
 use Rattle.world.specs.Views.{View, Has, At, HasLock}

@@ -8,9 +8,9 @@ use Rattle.trace.proofs.Replaced.{replaced_same, replaced_other}
 use Rattle.segment_head.specs.HeadWord.{version_in, state_in, HasLiveState}
 use Rattle.image_layout.specs.Places.{Shape, bucket_at, buckets}
 use Rattle.sound_image.specs.Segments.{frame_of}
-use Rattle.segment_table.proofs.stores.Moved.{live_same}
-use Rattle.bucket_words.specs.Owners.{IsStructure}
-use Rattle.bucket_words.proofs.segments.Cores.{structure_within}
+use Rattle.frame_facts.proofs.Moved.{live_same}
+use Rattle.frame_facts.specs.Owners.{IsStructure}
+use Rattle.frame_facts.proofs.segments.Cores.{structure_within}
 use Rattle.world.specs.Ground.{Ground, IsLockWord, IsCurrentIn, IsCurrentLock}
 use Rattle.world.specs.Views.{View, Has, At, HasLock}
 use Rattle.world.specs.Parts.{Locks}

@@ -7,10 +7,10 @@ use Rattle.trace.specs.Events.{Words}
 use Rattle.hash_word.specs.Hash.{top, Covers}
 use Rattle.segment_head.specs.HeadWord.{state_in, depth_in, pattern_in, normal, splitting, is_live, HasLiveState}
 use Rattle.sound_image.specs.Segments.{frame_of, depth_at, pattern_at, IsReadySide, HasReadySide}
-use Rattle.segment_table.proofs.frames.Regions.{fewer}
-use Rattle.segment_table.proofs.frames.SoundFrames.{live_low}
-use Rattle.bucket_words.specs.Owners.{IsStructure}
-use Rattle.bucket_words.proofs.segments.Cores.{core_structure}
+use Rattle.frame_facts.proofs.frames.Regions.{fewer}
+use Rattle.frame_facts.proofs.frames.SoundFrames.{live_low}
+use Rattle.frame_facts.specs.Owners.{IsStructure}
+use Rattle.frame_facts.proofs.segments.Cores.{core_structure}
 use Rattle.frame_facts.specs.Facts.{Fact, Begins, Owns, Lacks, IsLiveSlot}
 use Rattle.frame_facts.proofs.Told.{unready_claims, ready_lacks}
 use Rattle.world.specs.Ground.{Ground}

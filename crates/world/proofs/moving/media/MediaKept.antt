@@ -9,14 +9,14 @@ use Rattle.map_model.specs.declared.call.Call.{Call}
 use Rattle.map_model.specs.declared.call.Call.TheVariants.{Remove}
 use Rattle.sound_image.specs.Segments.{frame_of, IsLive}
 use Rattle.sound_image.specs.Records.{key_hash}
-use Rattle.segment_table.specs.Claims.{HasSoundFrame, Claims}
-use Rattle.segment_table.proofs.stores.Moved.{live_same, covers_same}
-use Rattle.segment_table.proofs.frames.SoundFrames.{owner_claims}
-use Rattle.segment_table.proofs.frames.Owner.{found_owns, claimer_found}
-use Rattle.bucket_words.specs.Core.{core_of, core}
-use Rattle.bucket_words.specs.Hits.{Hit, find}
-use Rattle.bucket_words.specs.Owners.{owner_of}
-use Rattle.bucket_words.proofs.segments.Cores.{hit_of_cores, core_structure}
+use Rattle.frame_facts.specs.Claims.{HasSoundFrame, Claims}
+use Rattle.frame_facts.proofs.Moved.{live_same, covers_same}
+use Rattle.frame_facts.proofs.frames.SoundFrames.{owner_claims}
+use Rattle.frame_facts.proofs.frames.Owner.{found_owns, claimer_found}
+use Rattle.frame_facts.specs.Core.{core_of, core}
+use Rattle.frame_facts.specs.Hits.{Hit, find}
+use Rattle.frame_facts.specs.Owners.{owner_of}
+use Rattle.frame_facts.proofs.segments.Cores.{hit_of_cores, core_structure}
 use Rattle.frame_facts.specs.Facts.{Fact, Owns, Taken}
 use Rattle.frame_facts.specs.DeadSlots.{IsInSlot}
 use Rattle.frame_facts.proofs.Owners.{owned_fits}

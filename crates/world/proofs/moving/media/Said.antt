@@ -8,9 +8,9 @@ use Rattle.hash_word.specs.Hash.{Covers}
 use Rattle.segment_head.specs.HeadWord.{state_in, depth_in, pattern_in, free, normal, splitting}
 use Rattle.image_layout.specs.Places.{root_word, entry_at, words_of}
 use Rattle.sound_image.specs.Segments.{Frame, frame_of}
-use Rattle.segment_table.specs.Media.{first_hash}
-use Rattle.bucket_words.specs.Core.{core_of, core}
-use Rattle.bucket_words.proofs.segments.Cores.{core_structure}
+use Rattle.frame_facts.specs.Media.{first_hash}
+use Rattle.frame_facts.specs.Core.{core_of, core}
+use Rattle.frame_facts.proofs.segments.Cores.{core_structure}
 use Rattle.frame_facts.specs.Facts.{Fact, Lives, Current, Rooted, Owns, Lacks, Deep, Begins, Used, Taken, HoldsFact}
 use Rattle.frame_facts.specs.Keeping.{AreSound, ClaimsNoneOfSide}
 use Rattle.frame_facts.specs.DeadSlots.{IsInSlot}

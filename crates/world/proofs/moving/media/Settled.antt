@@ -4,8 +4,8 @@ use Rattle.std.proofs.Common.{◌≡◌, ◌≢◌, ◌⊎◌, ℕ, ◌<◌, Lis
 use Rattle.std.proofs.lemmas.Bool.{cases_eq}
 use Rattle.trace.specs.Events.{Words}
 use Rattle.segment_head.specs.HeadWord.{state_in, free}
-use Rattle.bucket_words.specs.Core.{core}
-use Rattle.bucket_words.proofs.segments.Cores.{core_structure}
+use Rattle.frame_facts.specs.Core.{core}
+use Rattle.frame_facts.proofs.segments.Cores.{core_structure}
 use Rattle.world.specs.Ground.{Ground}
 use Rattle.world.specs.Views.{View, Has, At, IsLoose}
 use Rattle.world.specs.Media.{IsPossible}

@@ -6,7 +6,7 @@ use Rattle.trace.specs.Steps.{Writes}
 use Rattle.trace.proofs.Media.{had_of_may}
 use Rattle.segment_head.specs.HeadWord.{version_in, state_in, free}
 use Rattle.image_layout.specs.Places.{Shape, first_segment, words_of, bucket_at, buckets, entry_at}
-use Rattle.bucket_words.specs.Core.{core_of}
+use Rattle.frame_facts.specs.Core.{core_of}
 use Rattle.sound_image.specs.Segments.{frame_of, state_at}
 use Rattle.frame_facts.specs.Facts.{Lives, Current, IsLiveSlot}
 use Rattle.frame_facts.specs.DeadSlots.{IsInSlot}
