@@ -4,4 +4,6 @@ pub mod Search
 pub mod Found
 pub mod Marks
 pub mod Fingers
+pub mod Counts
+pub mod ExactNotes
 pub mod notes

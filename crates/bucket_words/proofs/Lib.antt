@@ -1,5 +1,13 @@
 pub mod segments
 pub mod Slots
 pub mod Finding
-pub use Rattle.stash.proofs.Counts
-pub use Rattle.stash.proofs.ExactNotes
+pub use Rattle.bucket_meta.proofs.Counts
+pub use Rattle.bucket_meta.proofs.ExactNotes
+pub use Rattle.segment_table.proofs.StoreLaws
+pub use Rattle.segment_table.proofs.Claimers
+pub use Rattle.segment_table.proofs.frames
+pub use Rattle.segment_table.proofs.stores
+pub use Rattle.segment_table.proofs.WorkedSplit
+pub use Rattle.segment_table.proofs.Media
+pub use Rattle.segment_table.proofs.FrameWords
+pub use Rattle.segment_table.proofs.Words

@@ -6,3 +6,10 @@ pub mod Standing
 pub mod TableChanges
 pub mod HomeNotes
 pub mod Core
+pub use Rattle.segment_table.specs.Stores
+pub use Rattle.segment_table.specs.Claims
+pub use Rattle.segment_table.specs.Media
+pub use Rattle.segment_table.specs.Pairs
+pub use Rattle.segment_table.specs.Owner
+pub use Rattle.segment_table.specs.Segments
+pub use Rattle.segment_table.specs.Records

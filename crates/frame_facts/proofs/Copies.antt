@@ -2,9 +2,9 @@
 use Rattle.std.proofs.Common.{◌≡◌, ℕ, ◌<◌, Some, sym, subst, ◌∙◌}
 use Rattle.trace.specs.Events.{Words}
 use Rattle.image_layout.specs.Places.{Shape}
-use Rattle.sound_image.specs.Segments.{frame_of, InOneSide}
-use Rattle.sound_image.specs.Records.{key_hash}
-use Rattle.segment_table.specs.Pairs.{Holds, IsCopied}
+use Rattle.bucket_words.specs.Segments.{frame_of, InOneSide}
+use Rattle.bucket_words.specs.Records.{key_hash}
+use Rattle.bucket_words.specs.Pairs.{Holds, IsCopied}
 use Rattle.bucket_words.specs.Owners.{owner_of}
 use Rattle.bucket_words.specs.Hits.{Hit}
 use Rattle.bucket_words.specs.Standing.{StandsAt, IsTable}

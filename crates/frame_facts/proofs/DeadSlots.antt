@@ -5,10 +5,10 @@ use Rattle.trace.specs.Events.{Words, with_word}
 use Rattle.trace.proofs.Replaced.{replaced_other}
 use Rattle.image_layout.specs.Places.{Shape, first_segment, root_word, head_at, bucket_at, buckets}
 use Rattle.image_layout.proofs.Areas.{entry_before}
-use Rattle.sound_image.specs.Segments.{frame_of, IsLive}
-use Rattle.sound_image.specs.Records.{key_hash}
-use Rattle.segment_table.proofs.frames.Owner.{found_owns, same_owner}
-use Rattle.segment_table.specs.Stores.{IsFrameWord}
+use Rattle.bucket_words.specs.Segments.{frame_of, IsLive}
+use Rattle.bucket_words.specs.Records.{key_hash}
+use Rattle.bucket_words.proofs.frames.Owner.{found_owns, same_owner}
+use Rattle.bucket_words.specs.Stores.{IsFrameWord}
 use Rattle.bucket_words.specs.Buckets.{value_in}
 use Rattle.bucket_words.specs.Slots.{SameSlot}
 use Rattle.bucket_words.specs.Owners.{SameOwners, owner_of}

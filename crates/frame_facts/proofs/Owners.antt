@@ -5,14 +5,14 @@ use Rattle.std.proofs.lemmas.Nat.{pow_pos, pow-add, le-div}
 use Rattle.hash_word.specs.Hash.{top}
 use Rattle.trace.specs.Events.{Words, with_word}
 use Rattle.image_layout.specs.Places.{Shape, IsShape}
-use Rattle.sound_image.specs.Segments.{Frame, frame_of, depth_at, pattern_at, IsLive, InOneSide}
-use Rattle.segment_table.specs.Claims.{IsSoundFrame, HasSoundFrame}
-use Rattle.segment_table.specs.Owner.{owner}
-use Rattle.segment_table.specs.Stores.{Keeps, HandsOver, StoreKeeps}
-use Rattle.segment_table.proofs.frames.Regions.{doubled_fits}
-use Rattle.segment_table.proofs.frames.SoundFrames.{live_low, live_pattern}
-use Rattle.segment_table.proofs.frames.Owner.{found_owns}
-use Rattle.segment_table.proofs.Claimers.{kept_owner, handed_owner, unhanded_owner}
+use Rattle.bucket_words.specs.Segments.{Frame, frame_of, depth_at, pattern_at, IsLive, InOneSide}
+use Rattle.bucket_words.specs.Claims.{IsSoundFrame, HasSoundFrame}
+use Rattle.bucket_words.specs.Owner.{owner}
+use Rattle.bucket_words.specs.Stores.{Keeps, HandsOver, StoreKeeps}
+use Rattle.bucket_words.proofs.frames.Regions.{doubled_fits}
+use Rattle.bucket_words.proofs.frames.SoundFrames.{live_low, live_pattern}
+use Rattle.bucket_words.proofs.frames.Owner.{found_owns}
+use Rattle.bucket_words.proofs.Claimers.{kept_owner, handed_owner, unhanded_owner}
 use Rattle.bucket_words.specs.Owners.{SameOwners}
 
 -- what has the top bits of a pattern has 64 bits

@@ -5,12 +5,12 @@ use Rattle.image_layout.specs.Bucket.{record_slots}
 use Rattle.trace.specs.Events.{Words, with_word}
 use Rattle.trace.proofs.Replaced.{replaced_other}
 use Rattle.image_layout.specs.Places.{Shape, IsShape, bucket_at, buckets, words_of}
-use Rattle.sound_image.specs.Segments.{frame_of, InOneSide}
-use Rattle.sound_image.specs.Records.{key_hash}
-use Rattle.segment_table.specs.Claims.{HasSoundFrame}
-use Rattle.segment_table.specs.Stores.{StoreKeeps, StoreHandsOver}
-use Rattle.segment_table.specs.Pairs.{Holds}
-use Rattle.segment_table.proofs.frames.Deciding.{one_side}
+use Rattle.bucket_words.specs.Segments.{frame_of, InOneSide}
+use Rattle.bucket_words.specs.Records.{key_hash}
+use Rattle.bucket_words.specs.Claims.{HasSoundFrame}
+use Rattle.bucket_words.specs.Stores.{StoreKeeps, StoreHandsOver}
+use Rattle.bucket_words.specs.Pairs.{Holds}
+use Rattle.bucket_words.proofs.frames.Deciding.{one_side}
 use Rattle.bucket_words.specs.Buckets.{value_in}
 use Rattle.bucket_words.specs.Slots.{SameSlot}
 use Rattle.bucket_words.specs.Owners.{IsStructure, owner_of}

@@ -4,9 +4,9 @@ use Rattle.trace.specs.Events.{Words, with_word}
 use Rattle.trace.proofs.Replaced.{replaced_other}
 use Rattle.segment_head.specs.HeadWord.{version_in, state_in, depth_in, pattern_in}
 use Rattle.image_layout.specs.Places.{Shape, head_at}
-use Rattle.sound_image.specs.Segments.{Frame, frame_of, state_at, depth_at, pattern_at}
-use Rattle.segment_table.specs.Claims.{IsSoundFrame}
-use Rattle.segment_table.proofs.frames.SoundFrames.{apart}
+use Rattle.bucket_words.specs.Segments.{Frame, frame_of, state_at, depth_at, pattern_at}
+use Rattle.bucket_words.specs.Claims.{IsSoundFrame}
+use Rattle.bucket_words.proofs.frames.SoundFrames.{apart}
 use Rattle.frame_facts.specs.Facts.{IsNewSide, IsUsedSlot}
 
 -- by what its two headers and the link say

@@ -6,17 +6,17 @@ use Rattle.trace.proofs.Replaced.{replaced_same, replaced_other}
 use Rattle.segment_head.specs.HeadWord.{version_in, state_in, depth_in, pattern_in, free, normal, splitting, fresh}
 use Rattle.image_layout.specs.Places.{Shape, first_segment, root_word, entry_at, head_at, bucket_at, block, buckets}
 use Rattle.image_layout.proofs.Areas.{entry_before}
-use Rattle.sound_image.specs.Segments.{Frame, frame_of, state_at, IsLive, HasReadySide}
-use Rattle.segment_table.specs.Claims.{Claims, IsSoundFrame}
-use Rattle.segment_table.specs.Stores.{TakesSlot, FreesSlot, Links, BeginsSplit, GoesLive, NamesClaimer, NamesSide, EndsSplit, DropsSplit, Renews, HandsOver}
-use Rattle.segment_table.specs.Stores.{Doubles, IsFrameWord, StoreKeeps, StoreHandsOver}
-use Rattle.segment_table.proofs.frames.Regions.{first, top_of_first, first_fits}
-use Rattle.segment_table.proofs.frames.Deciding.{one_side}
-use Rattle.segment_table.proofs.stores.Moved.{HeaderStored}
-use Rattle.segment_table.proofs.Words.{header_stored}
-use Rattle.segment_table.proofs.FrameWords.{other_areas_apart, buckets_apart}
-use Rattle.segment_table.proofs.Claimers.{kept_back}
-use Rattle.segment_table.proofs.StoreLaws.{takes_slot, frees_slot, links, begins_split, doubles, goes_live, names_claimer, ends_split, names_side, drops_split, renews, stores_apart}
+use Rattle.bucket_words.specs.Segments.{Frame, frame_of, state_at, IsLive, HasReadySide}
+use Rattle.bucket_words.specs.Claims.{Claims, IsSoundFrame}
+use Rattle.bucket_words.specs.Stores.{TakesSlot, FreesSlot, Links, BeginsSplit, GoesLive, NamesClaimer, NamesSide, EndsSplit, DropsSplit, Renews, HandsOver}
+use Rattle.bucket_words.specs.Stores.{Doubles, IsFrameWord, StoreKeeps, StoreHandsOver}
+use Rattle.bucket_words.proofs.frames.Regions.{first, top_of_first, first_fits}
+use Rattle.bucket_words.proofs.frames.Deciding.{one_side}
+use Rattle.bucket_words.proofs.stores.Moved.{HeaderStored}
+use Rattle.bucket_words.proofs.Words.{header_stored}
+use Rattle.bucket_words.proofs.FrameWords.{other_areas_apart, buckets_apart}
+use Rattle.bucket_words.proofs.Claimers.{kept_back}
+use Rattle.bucket_words.proofs.StoreLaws.{takes_slot, frees_slot, links, begins_split, doubles, goes_live, names_claimer, ends_split, names_side, drops_split, renews, stores_apart}
 use Rattle.frame_facts.specs.Facts.{Fact, Lives, Current, Rooted, Owns, Lacks, Deep, Begins, Used, Taken, IsLiveSlot, IsCurrentSlot, IsNewSide, IsUsedSlot, IsTakenSlot}
 use Rattle.frame_facts.specs.Keeping.{Both, AreSound, HaveOneRoot, KeepsVersion, IsEntry, ClaimsNoneOfSide, FreesNone, KeepsFact, KeepsFacts, Spares}
 use Rattle.frame_facts.proofs.Carrying.{StaysSo, keeps_fact}

@@ -4,11 +4,11 @@ use Rattle.trace.specs.Events.{Words}
 use Rattle.segment_head.specs.HeadWord.{version_in, state_in}
 use Rattle.image_layout.specs.Places.{Shape, root_word, state_word, entry_at, head_at}
 use Rattle.image_layout.proofs.Areas.{entry_before}
-use Rattle.sound_image.specs.Segments.{frame_of}
-use Rattle.segment_table.specs.Stores.{Keeps}
-use Rattle.segment_table.proofs.stores.Moved.{live_same}
-use Rattle.segment_table.proofs.stores.Roots.{Beside, untouched_keeps}
-use Rattle.segment_table.proofs.Claimers.{kept_back}
+use Rattle.bucket_words.specs.Segments.{frame_of}
+use Rattle.bucket_words.specs.Stores.{Keeps}
+use Rattle.bucket_words.proofs.stores.Moved.{live_same}
+use Rattle.bucket_words.proofs.stores.Roots.{Beside, untouched_keeps}
+use Rattle.bucket_words.proofs.Claimers.{kept_back}
 use Rattle.bucket_words.specs.Owners.{HasStructure}
 use Rattle.frame_facts.specs.Facts.{Fact, Lives, Current, Rooted, Owns, Lacks, Deep, Begins, Used, Taken, IsLiveSlot, HoldsFact}
 use Rattle.frame_facts.specs.Keeping.{AreSound}

@@ -5,12 +5,12 @@ use Rattle.std.proofs.lemmas.Bool.{cases_eq}
 use Rattle.hash_word.specs.Hash.{top}
 use Rattle.trace.specs.Events.{Words, with_word}
 use Rattle.image_layout.specs.Places.{IsShape}
-use Rattle.sound_image.specs.Segments.{frame_of}
-use Rattle.segment_table.specs.Claims.{HasSoundFrame}
-use Rattle.segment_table.specs.Stores.{Links, BeginsSplit, TakesSlot, Doubles, GoesLive, NamesClaimer, EndsSplit}
-use Rattle.segment_table.proofs.frames.Regions.{top_below}
-use Rattle.segment_table.proofs.Claimers.{ready_claims_none}
-use Rattle.segment_table.proofs.WorkedSplit.{eight, opened, opened-sound, joined, joined-sound, split, split-sound, taken, taken-sound, deeper, deeper-sound, shared, handed, named, named-sound, ended}
+use Rattle.bucket_words.specs.Segments.{frame_of}
+use Rattle.bucket_words.specs.Claims.{HasSoundFrame}
+use Rattle.bucket_words.specs.Stores.{Links, BeginsSplit, TakesSlot, Doubles, GoesLive, NamesClaimer, EndsSplit}
+use Rattle.bucket_words.proofs.frames.Regions.{top_below}
+use Rattle.bucket_words.proofs.Claimers.{ready_claims_none}
+use Rattle.bucket_words.proofs.WorkedSplit.{eight, opened, opened-sound, joined, joined-sound, split, split-sound, taken, taken-sound, deeper, deeper-sound, shared, handed, named, named-sound, ended}
 use Rattle.frame_facts.specs.Facts.{Fact, Lives, Current, Rooted, Owns, Lacks, Deep, Begins, Used, Taken, HoldsFact}
 use Rattle.frame_facts.specs.Keeping.{AreSound, ClaimsNoneOfSide, KeepsFact, KeepsFacts}
 use Rattle.frame_facts.proofs.Stores.{takes, begins, ends, linked, doubled, named_claimer, went_live}

@@ -3,13 +3,13 @@
 use Rattle.std.proofs.Common.{◌≡◌, ◌≢◌, ℕ, suc, ◌+◌, ◌%◌, ◌^◌, ◌<◌, ◌≤◌, ◌⊎◌, inl, inr, refl, sym, ap, subst, lit<, lit≤, arith}
 use Rattle.trace.specs.Events.{Words, with_word}
 use Rattle.segment_head.specs.HeadWord.{version_in, state_in, normal, splitting}
-use Rattle.sound_image.specs.Segments.{frame_of, IsReadySide, HasReadySide}
-use Rattle.segment_table.specs.Claims.{HasSoundFrame}
-use Rattle.segment_table.specs.Stores.{FreesSlot, NamesSide, DropsSplit, Renews}
-use Rattle.segment_table.proofs.frames.Regions.{top_below}
-use Rattle.segment_table.proofs.Claimers.{unready_claims_all}
-use Rattle.segment_table.proofs.StoreLaws.{opens, frees_slot, drops_split}
-use Rattle.segment_table.proofs.WorkedSplit.{eight, deeper, deeper-sound, shared}
+use Rattle.bucket_words.specs.Segments.{frame_of, IsReadySide, HasReadySide}
+use Rattle.bucket_words.specs.Claims.{HasSoundFrame}
+use Rattle.bucket_words.specs.Stores.{FreesSlot, NamesSide, DropsSplit, Renews}
+use Rattle.bucket_words.proofs.frames.Regions.{top_below}
+use Rattle.bucket_words.proofs.Claimers.{unready_claims_all}
+use Rattle.bucket_words.proofs.StoreLaws.{opens, frees_slot, drops_split}
+use Rattle.bucket_words.proofs.WorkedSplit.{eight, deeper, deeper-sound, shared}
 use Rattle.frame_facts.specs.Facts.{Fact, Lives, Current, Rooted, Owns, Begins, Taken, IsNewSide, HoldsFact}
 use Rattle.frame_facts.specs.Keeping.{KeepsFact, KeepsFacts}
 use Rattle.frame_facts.proofs.Sides.{one_parent}

@@ -3,9 +3,9 @@ use Rattle.std.specs.Prelude.{◌≡◌, ◌≢◌, ◌↔◌, ℕ, ◌+◌, ◌
 use Rattle.trace.specs.Events.{Words}
 use Rattle.image_layout.specs.Bucket.{member, record_slots}
 use Rattle.image_layout.specs.Places.{Shape, block, buckets, bucket_at}
-use Rattle.sound_image.specs.Segments.{frame_of, InOneSide}
-use Rattle.sound_image.specs.Records.{key_hash}
-use Rattle.segment_table.specs.Pairs.{IsCopied}
+use Rattle.bucket_words.specs.Segments.{frame_of, InOneSide}
+use Rattle.bucket_words.specs.Records.{key_hash}
+use Rattle.bucket_words.specs.Pairs.{IsCopied}
 use Rattle.bucket_words.specs.Buckets.{IsTaken, key_in, value_in, finger_in}
 use Rattle.bucket_words.specs.Hits.{Hit}
 use Rattle.bucket_words.specs.Standing.{IsRight}

@@ -4,9 +4,9 @@ use Rattle.trace.specs.Events.{Words}
 use Rattle.hash_word.specs.Hash.{Covers}
 use Rattle.segment_head.specs.HeadWord.{version_in, free, splitting, fresh, link_to}
 use Rattle.image_layout.specs.Places.{Shape, root_word, entry_at}
-use Rattle.sound_image.specs.Segments.{Frame, frame_of, state_at, depth_at, pattern_at, IsLive}
-use Rattle.segment_table.specs.Claims.{Claims, named_for}
-use Rattle.segment_table.specs.Media.{first_hash}
+use Rattle.bucket_words.specs.Segments.{Frame, frame_of, state_at, depth_at, pattern_at, IsLive}
+use Rattle.bucket_words.specs.Claims.{Claims, named_for}
+use Rattle.bucket_words.specs.Media.{first_hash}
 
 -- A FACT. A region is the hashes whose top bits, as many as its depth says, are its pattern
 pub data Fact : Type 0 where

@@ -4,9 +4,9 @@ use Rattle.trace.specs.Events.{Words, with_word}
 use Rattle.hash_word.specs.Hash.{Covers}
 use Rattle.segment_head.specs.HeadWord.{version_in}
 use Rattle.image_layout.specs.Places.{Shape, IsShape, root_word, entry_at, header_word, link_word}
-use Rattle.sound_image.specs.Segments.{Frame, frame_of, InOneSide}
-use Rattle.segment_table.specs.Claims.{HasSoundFrame}
-use Rattle.segment_table.specs.Stores.{StoreKeeps}
+use Rattle.bucket_words.specs.Segments.{Frame, frame_of, InOneSide}
+use Rattle.bucket_words.specs.Claims.{HasSoundFrame}
+use Rattle.bucket_words.specs.Stores.{StoreKeeps}
 use Rattle.frame_facts.specs.Facts.{Fact, Owns, Taken, IsLiveSlot, IsCurrentSlot, IsNewSide, IsUsedSlot, IsTakenSlot, HoldsFact}
 
 -- so it is in the newest words, and so in the medium

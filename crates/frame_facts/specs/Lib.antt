@@ -10,7 +10,7 @@ pub use Rattle.bucket_words.specs.Standing
 pub use Rattle.bucket_words.specs.TableChanges
 pub use Rattle.bucket_words.specs.HomeNotes
 pub use Rattle.bucket_words.specs.Core
-pub use Rattle.segment_table.specs.Claims
-pub use Rattle.segment_table.specs.Owner
-pub use Rattle.segment_table.specs.Media
-pub use Rattle.segment_table.specs.Stores
+pub use Rattle.bucket_words.specs.Claims
+pub use Rattle.bucket_words.specs.Owner
+pub use Rattle.bucket_words.specs.Media
+pub use Rattle.bucket_words.specs.Stores

@@ -3,10 +3,10 @@
 ghost use Rattle.std.specs.Prelude.{◌≡◌, ◌≢◌, ℕ, ◌+◌, ◌^◌, ◌<◌, ◌≤◌};
 ghost use Rattle.trace.specs.Events.{Words, with_word};
 ghost use Rattle.image_layout.specs.Places.{Shape, most_depth, root_word, entry_at, header_word, link_word, bucket_at, block, buckets};
-ghost use Rattle.sound_image.specs.Segments.{Frame, frame_of};
-ghost use Rattle.segment_table.specs.Claims.{IsSoundFrame};
-ghost use Rattle.segment_table.specs.Stores.{TakesSlot, FreesSlot, Links, BeginsSplit, GoesLive, NamesClaimer, NamesSide, EndsSplit, DropsSplit, Renews};
-ghost use Rattle.segment_table.specs.Stores.{Doubles, IsFrameWord};
+ghost use Rattle.bucket_words.specs.Segments.{Frame, frame_of};
+ghost use Rattle.bucket_words.specs.Claims.{IsSoundFrame};
+ghost use Rattle.bucket_words.specs.Stores.{TakesSlot, FreesSlot, Links, BeginsSplit, GoesLive, NamesClaimer, NamesSide, EndsSplit, DropsSplit, Renews};
+ghost use Rattle.bucket_words.specs.Stores.{Doubles, IsFrameWord};
 ghost use Rattle.frame_facts.specs.Facts.{Fact, Taken, IsNewSide};
 ghost use Rattle.frame_facts.specs.Keeping.{Both, AreSound, HaveOneRoot, KeepsVersion, IsEntry, ClaimsNoneOfSide, FreesNone, KeepsFact, KeepsFacts, Spares};
 

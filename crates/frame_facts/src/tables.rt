@@ -4,9 +4,9 @@
 ghost use Rattle.std.specs.Prelude.{◌≡◌, ◌≢◌, ℕ, ◌<◌, ◌≤◌, Some};
 ghost use Rattle.trace.specs.Events.{Words, with_word};
 ghost use Rattle.image_layout.specs.Places.{Shape, IsShape, header_word, words_of};
-ghost use Rattle.sound_image.specs.Segments.{frame_of, IsLive, InOneSide};
-ghost use Rattle.segment_table.specs.Claims.{HasSoundFrame};
-ghost use Rattle.segment_table.specs.Stores.{GoesLive, StoreKeeps};
+ghost use Rattle.bucket_words.specs.Segments.{frame_of, IsLive, InOneSide};
+ghost use Rattle.bucket_words.specs.Claims.{HasSoundFrame};
+ghost use Rattle.bucket_words.specs.Stores.{GoesLive, StoreKeeps};
 ghost use Rattle.bucket_words.specs.Owners.{IsStructure, SameOwners, owner_of};
 ghost use Rattle.bucket_words.specs.Standing.{IsTable};
 ghost use Rattle.bucket_words.specs.TableChanges.{KeepsTable};

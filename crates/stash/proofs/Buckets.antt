@@ -13,8 +13,8 @@ use Rattle.stash.specs.Noted.{IsNotedIn, IsNotedInSegment, AreNotedInOrder}
 use Rattle.stash.specs.NoteSlots.{note_slot_at, IsBare}
 use Rattle.stash.specs.Segment.{Stashed, of_home, bucket, IsExactSegment}
 use Rattle.hash_word.specs.Hash.{probing_of}
-use Rattle.stash.proofs.Counts.{same_pieces}
-use Rattle.stash.proofs.ExactNotes.{exact_moves}
+use Rattle.bucket_meta.proofs.Counts.{same_pieces}
+use Rattle.bucket_meta.proofs.ExactNotes.{exact_moves}
 use Rattle.stash.proofs.Pieces.{piece, piece_of_unused}
 
 -- ---- the records of one home

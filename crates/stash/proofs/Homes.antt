@@ -7,8 +7,8 @@ use Rattle.bucket_meta.specs.declared.metadata.Meta.{Meta}
 use Rattle.bucket_meta.specs.Notes.{OverflowNote, how_often}
 use Rattle.stash.specs.Exact.{notes_at, notes_of, IsExactFor, IsNotedOrCounted}
 use Rattle.stash.specs.NoteSlots.{NoteSlot, note_slot_at, filled_note_slot, freed_note_slot, IsUnused, IsNoteAt, NoteSlotBecomes, IsLowest, HoldsNowhere}
-use Rattle.stash.proofs.Counts.{how_often-is_sum, how_often-append, no_piece, piece_at_most}
-use Rattle.stash.proofs.ExactNotes.{IsOneMore, one_more_by_sums, same_or_other, each_is_named}
+use Rattle.bucket_meta.proofs.Counts.{how_often-is_sum, how_often-append, no_piece, piece_at_most}
+use Rattle.bucket_meta.proofs.ExactNotes.{IsOneMore, one_more_by_sums, same_or_other, each_is_named}
 use Rattle.stash.proofs.Pieces.{piece, piece_of_unused, this_side_changes}
 
 -- ---- one note slot is filled or freed

@@ -6,7 +6,7 @@ use Rattle.bucket_meta.specs.declared.metadata.Meta.{Meta}
 use Rattle.bucket_meta.specs.Notes.{OverflowNote}
 use Rattle.stash.specs.Exact.{notes_at}
 use Rattle.stash.specs.NoteSlots.{NoteSlot, note_slot_at, NoteSlotBecomes}
-use Rattle.stash.proofs.Counts.{IsSum, same_pieces, changed_piece}
+use Rattle.bucket_meta.proofs.Counts.{IsSum, same_pieces, changed_piece}
 
 -- the note of a note slot, if it is of this side
 abbrev pub piece : ℕ → NoteSlot → List OverflowNote

@@ -8,8 +8,8 @@ use Rattle.word_bits.specs.Bits.{bit}
 use Rattle.bucket_meta.specs.Notes.{OverflowNote, how_often}
 use Rattle.stash.specs.Exact.{notes_at}
 use Rattle.stash.specs.NoteSlots.{IsNoteAt, IsLowest, HoldsNowhere}
-use Rattle.stash.proofs.Counts.{how_often-append}
-use Rattle.stash.proofs.ExactNotes.{same_or_other, often_head}
+use Rattle.bucket_meta.proofs.Counts.{how_often-append}
+use Rattle.bucket_meta.proofs.ExactNotes.{same_or_other, often_head}
 use Rattle.stash.proofs.Homes.{not_held, held}
 
 pub each_stash : (P : ℕ → Type 0) → P 0 → P 1 → (k : ℕ) → k < 2 → P k

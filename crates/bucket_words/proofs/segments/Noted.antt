@@ -5,7 +5,7 @@ use Rattle.std.proofs.lemmas.Bool.{cases_eq}
 use Rattle.hash_word.specs.Hash.{probing_of}
 use Rattle.bucket_meta.specs.Notes.{OverflowNote, AreExact, notes_by}
 use Rattle.bucket_meta.specs.Bucket.{note_used, note_member, note_index, note_finger, overflow_count}
-use Rattle.stash.proofs.Counts.{same_pieces}
+use Rattle.bucket_meta.proofs.Counts.{same_pieces}
 use Rattle.trace.specs.Events.{Words, with_word}
 use Rattle.image_layout.specs.Places.{Shape, bucket_at, homes, buckets}
 use Rattle.segment_table.specs.Records.{word_in, notes_in, notes_of, stashed_of, HasExactNotes}

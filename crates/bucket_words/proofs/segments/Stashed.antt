@@ -5,8 +5,8 @@ use Rattle.std.proofs.lemmas.Bool.{cases_eq, eq-eqb, ne_eqb}
 use Rattle.hash_word.specs.Hash.{home_of, finger_of}
 use Rattle.bucket_meta.specs.Notes.{OverflowNote, how_often, AreExact}
 use Rattle.bucket_meta.specs.Bucket.{allocated, overflow_count, record_slots}
-use Rattle.stash.proofs.Counts.{IsSum, same_pieces, changed_piece, piece_at_most, how_often-is_sum, length-is_sum, how_often-append}
-use Rattle.stash.proofs.ExactNotes.{same_or_other, often_head, each_is_named}
+use Rattle.bucket_meta.proofs.Counts.{IsSum, same_pieces, changed_piece, piece_at_most, how_often-is_sum, length-is_sum, how_often-append}
+use Rattle.bucket_meta.proofs.ExactNotes.{same_or_other, often_head, each_is_named}
 use Rattle.trace.specs.Events.{Words}
 use Rattle.image_layout.specs.Places.{Shape, bucket_at, key_at, homes, stash_buckets}
 use Rattle.segment_table.specs.Records.{key_hash, word_in, notes_of, stashed_in, stashed_of, HasExactNotes}

@@ -6,7 +6,7 @@ use Rattle.std.specs.List.{flat_map}
 use Rattle.hash_word.specs.Hash.{home_of, finger_of}
 use Rattle.bucket_meta.specs.Bucket.{allocated}
 use Rattle.bucket_meta.specs.Notes.{OverflowNote, numbers_below, AreExact}
-use Rattle.stash.proofs.Counts.{pieces_more}
+use Rattle.bucket_meta.proofs.Counts.{pieces_more}
 use Rattle.trace.specs.Events.{Words}
 use Rattle.image_layout.specs.Places.{Shape}
 use Rattle.sound_image.specs.Records.{word_in, slot_hash, stashed_in, stashed_of}

@@ -7,8 +7,8 @@ use Rattle.std.proofs.lemmas.Option.{none-some, same_Some}
 use Rattle.bucket_meta.specs.Bucket.{note_used, note_member, note_index, note_finger, overflow_count}
 use Rattle.bucket_meta.specs.Notes.{OverflowNote, AreExact, notes_by}
 use Rattle.bucket_meta.specs.NoteWords.{is_unused, unused_place, raised_count, FillsPlace}
-use Rattle.stash.proofs.Counts.{same_pieces, changed_piece}
-use Rattle.stash.proofs.ExactNotes.{IsOneMore, one_more_by_sums, often_head}
+use Rattle.bucket_meta.proofs.Counts.{same_pieces, changed_piece}
+use Rattle.bucket_meta.proofs.ExactNotes.{IsOneMore, one_more_by_sums, often_head}
 use Rattle.world.proofs.holding.Preparing.{note_piece}
 
 -- ---- an unused place

@@ -4,7 +4,7 @@ use Rattle.bucket_meta.specs.Bucket.{note_used, note_finger, overflow_count}
 use Rattle.bucket_meta.specs.Notes.{OverflowNote, AreExact, notes_by}
 use Rattle.bucket_meta.specs.NoteWords.{unused_place, noted_mark, noted_fingers, raised_count, FillsPlace}
 use Rattle.bucket_meta.proofs.notes.Noted.{fills_mark, fills_place, finger_there}
-use Rattle.stash.proofs.ExactNotes.{more_left, more_right}
+use Rattle.bucket_meta.proofs.ExactNotes.{more_left, more_right}
 use Rattle.stash_op.specs.declared.step.NoteBucket.{NoteBucket}
 use Rattle.stash_op.specs.declared.step.NoteBucket.TheVariants.{Home, Probing}
 use Rattle.stash_op.specs.declared.step.NoteWords.{NoteWords}

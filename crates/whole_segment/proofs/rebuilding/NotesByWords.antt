@@ -9,7 +9,7 @@ use Rattle.bucket_meta.proofs.fields.FieldBits.{note_used_is, note_member_is, no
 use Rattle.hash_word.specs.Hash.{probing_of}
 use Rattle.stash.specs.Exact.{notes_at, IsExactFor}
 use Rattle.stash.specs.NoteSlots.{SameSlots}
-use Rattle.stash.proofs.Counts.{same_pieces}
+use Rattle.bucket_meta.proofs.Counts.{same_pieces}
 use Rattle.whole_segment.specs.Notes.{HasExactNotes, KeepsRecords}
 
 -- a note slot that has the same in both

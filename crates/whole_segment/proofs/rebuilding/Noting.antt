@@ -8,10 +8,10 @@ use Rattle.hash_word.specs.Hash.{probing_of}
 use Rattle.image_layout.specs.Places.{homes, stash_buckets}
 use Rattle.stash.specs.NoteSlots.{NoteSlot, filled_note_slot}
 use Rattle.stash.specs.Segment.{Stashed, of_home}
-use Rattle.stash.proofs.Counts.{same_pieces, changed_piece}
+use Rattle.bucket_meta.proofs.Counts.{same_pieces, changed_piece}
 use Rattle.stash.proofs.Pieces.{piece, piece_of_unused}
 use Rattle.stash.proofs.Buckets.{of_home_own, of_home_other}
-use Rattle.stash.proofs.ExactNotes.{IsOneMore, one_more_by_sums, more_left, more_right, exact_with_note, exact_with_count, exact_moves}
+use Rattle.bucket_meta.proofs.ExactNotes.{IsOneMore, one_more_by_sums, more_left, more_right, exact_with_note, exact_with_count, exact_moves}
 use Rattle.whole_segment.specs.Rebuilding.{Overflow, no_overflow, unused_in, with_note, with_count, changed, noted_by, noted, all_noted}
 
 -- the notes of a bucket that are of one side

@@ -11,7 +11,7 @@ use Rattle.bucket_meta.specs.Notes.{OverflowNote, numbers_below, AreExact, notes
 use Rattle.hash_word.specs.Hash.{probing_of}
 use Rattle.image_layout.specs.Places.{homes, stash_buckets}
 use Rattle.stash.specs.Segment.{Stashed}
-use Rattle.stash.proofs.Counts.{same_pieces}
+use Rattle.bucket_meta.proofs.Counts.{same_pieces}
 use Rattle.stash.proofs.Pieces.{piece}
 use Rattle.stash.proofs.Buckets.{of_home_at_most}
 use Rattle.whole_segment.specs.Notes.{entry_of, entries_below, stash_entries, stashed_of, HasExactNotes, KeepsRecords}

@@ -5,8 +5,8 @@ use Rattle.bucket_meta.specs.Bucket.{overflow_count}
 use Rattle.bucket_meta.specs.Notes.{OverflowNote, how_often, AreExact, notes_by}
 use Rattle.bucket_meta.specs.NoteWords.{note_place, freed_mark, freed_fingers, lowered_count, FreesPlace}
 use Rattle.bucket_meta.proofs.notes.Freed.{frees_mark, frees_place}
-use Rattle.stash.proofs.Counts.{how_often-append}
-use Rattle.stash.proofs.ExactNotes.{more_left, more_right, often_head, each_is_named, same_or_other, exact_without_note, exact_without_count}
+use Rattle.bucket_meta.proofs.Counts.{how_often-append}
+use Rattle.bucket_meta.proofs.ExactNotes.{more_left, more_right, often_head, each_is_named, same_or_other, exact_without_note, exact_without_count}
 use Rattle.world.proofs.stepping.Telling.{unnamed}
 use Rattle.phase.specs.declared.role.Role.{Role}
 use Rattle.phase.specs.declared.role.Role.TheVariants.{Home, Probing}

@@ -7,8 +7,8 @@ use Rattle.bucket_meta.specs.Bucket.{note_used, note_member, note_index, note_fi
 use Rattle.bucket_meta.specs.Notes.{OverflowNote, notes_by}
 use Rattle.bucket_meta.specs.Visits.{is_note, is_named}
 use Rattle.bucket_meta.specs.NoteWords.{note_place, lowered_count, FreesPlace}
-use Rattle.stash.proofs.Counts.{same_pieces, changed_piece}
-use Rattle.stash.proofs.ExactNotes.{IsOneMore, one_more_by_sums}
+use Rattle.bucket_meta.proofs.Counts.{same_pieces, changed_piece}
+use Rattle.bucket_meta.proofs.ExactNotes.{IsOneMore, one_more_by_sums}
 use Rattle.world.proofs.holding.Preparing.{note_piece}
 
 -- ---- a note that is there

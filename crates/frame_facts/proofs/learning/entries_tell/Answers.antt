@@ -1,7 +1,7 @@
 -- An entry names where the way to a claimer begins.
 use Rattle.std.proofs.Common.{◌<◌, ap, subst, sym, ◌∙◌}
 use Rattle.image_layout.specs.Places.{entry_at}
-use Rattle.sound_image.specs.Segments.{frame_of, depth_at}
+use Rattle.bucket_words.specs.Segments.{frame_of, depth_at}
 use Rattle.frame_facts.proofs.Told.{rooted_told, deep_told, deep_there}
 use Rattle.frame_facts.proofs.learning.entries_tell.Goals as goal
 

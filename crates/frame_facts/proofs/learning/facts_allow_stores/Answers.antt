@@ -1,6 +1,6 @@
 -- A segment has a ready side where it claims nothing of its 1-side.
-use Rattle.sound_image.specs.Segments.{frame_of}
-use Rattle.segment_table.proofs.Claimers.{ready_claims_none, unready_claims_all}
+use Rattle.bucket_words.specs.Segments.{frame_of}
+use Rattle.bucket_words.proofs.Claimers.{ready_claims_none, unready_claims_all}
 use Rattle.frame_facts.proofs.Told.{claimer_by_claims, names_side}
 use Rattle.frame_facts.proofs.learning.facts_allow_stores.Goals as goal
 

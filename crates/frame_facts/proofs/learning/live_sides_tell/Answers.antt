@@ -3,8 +3,8 @@ use Rattle.std.proofs.Common.{◌+◌, inr, arith}
 use Rattle.trace.specs.Events.{with_word}
 use Rattle.segment_head.specs.HeadWord.{splitting, fresh}
 use Rattle.image_layout.specs.Places.{head_at}
-use Rattle.sound_image.specs.Segments.{frame_of}
-use Rattle.segment_table.proofs.StoreLaws.{goes_live}
+use Rattle.bucket_words.specs.Segments.{frame_of}
+use Rattle.bucket_words.proofs.StoreLaws.{goes_live}
 use Rattle.frame_facts.proofs.Sides.{other_slot}
 use Rattle.frame_facts.proofs.Told.{side_claims, segment_lacks}
 use Rattle.frame_facts.proofs.learning.live_sides_tell.Goals as goal

@@ -1,7 +1,7 @@
 -- The first bits of a hash are those of more of them.
 use Rattle.std.proofs.Common.{◌/◌, ◌^◌, ap, ◌∙◌}
-use Rattle.sound_image.specs.Segments.{frame_of}
-use Rattle.segment_table.proofs.frames.Regions.{fewer}
+use Rattle.bucket_words.specs.Segments.{frame_of}
+use Rattle.bucket_words.proofs.frames.Regions.{fewer}
 use Rattle.frame_facts.proofs.Told.{deep_joined}
 use Rattle.frame_facts.proofs.learning.regions_have_parts.Goals as goal
 

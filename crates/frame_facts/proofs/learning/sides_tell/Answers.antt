@@ -1,6 +1,6 @@
 -- A segment claims what it covers, but what a ready side has.
 use Rattle.std.proofs.Common.{inl}
-use Rattle.sound_image.specs.Segments.{frame_of}
+use Rattle.bucket_words.specs.Segments.{frame_of}
 use Rattle.frame_facts.proofs.Told.{unready_claims, ready_lacks, normal_unready, unready_there, ready_in}
 use Rattle.frame_facts.proofs.learning.sides_tell.Goals as goal
 

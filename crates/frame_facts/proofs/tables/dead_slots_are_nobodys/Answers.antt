@@ -1,5 +1,5 @@
 -- An owner lives, so it is in another slot.
-use Rattle.segment_table.proofs.StoreLaws.{stores_apart}
+use Rattle.bucket_words.proofs.StoreLaws.{stores_apart}
 use Rattle.frame_facts.proofs.Stores.{untouched}
 use Rattle.frame_facts.proofs.DeadSlots.{plain_apart, plain_no_entry, owners_same, dead_store}
 use Rattle.frame_facts.proofs.tables.dead_slots_are_nobodys.Goals as goal

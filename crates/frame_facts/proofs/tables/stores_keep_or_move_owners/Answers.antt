@@ -2,8 +2,8 @@
 use Rattle.std.proofs.Common.{◌+◌, inr}
 use Rattle.trace.specs.Events.{with_word}
 use Rattle.image_layout.specs.Places.{head_at}
-use Rattle.sound_image.specs.Segments.{frame_of}
-use Rattle.segment_table.proofs.StoreLaws.{goes_live}
+use Rattle.bucket_words.specs.Segments.{frame_of}
+use Rattle.bucket_words.proofs.StoreLaws.{goes_live}
 use Rattle.frame_facts.proofs.Owners.{owners_stay, owner_moves, owner_spared}
 use Rattle.frame_facts.proofs.tables.stores_keep_or_move_owners.Goals as goal
 

@@ -2,7 +2,7 @@
 use Rattle.std.proofs.Common.{◌≡◌, refl, arith}
 use Rattle.word_bits.specs.Bits.{bit}
 use Rattle.stash.specs.Exact.{IsNamed, notes_of}
-use Rattle.stash.proofs.ExactNotes.{each_is_named}
+use Rattle.bucket_meta.proofs.ExactNotes.{each_is_named}
 use Rattle.stash.proofs.Visits.{each_stash, set_of_two, often_contained}
 use Rattle.stash.proofs.notes.must_visit.Goals as goal
 

@@ -2,7 +2,7 @@
 use Rattle.std.proofs.Common.{rules, subst, sym, refl, ℕ, ◌∷◌}
 use Rattle.bucket_meta.specs.Notes.{AreExact}
 use Rattle.stash.specs.Exact.{notes_of}
-use Rattle.stash.proofs.ExactNotes.{exact_with_note}
+use Rattle.bucket_meta.proofs.ExactNotes.{exact_with_note}
 use Rattle.stash.proofs.Homes.{filled_home, filled_probe}
 use Rattle.stash.proofs.Pieces.{piece_of_unused, other_side_stays}
 use Rattle.stash.proofs.notes.note.Goals as goal

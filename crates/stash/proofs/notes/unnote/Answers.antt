@@ -3,7 +3,7 @@ use Rattle.std.proofs.Common.{rules, ap, subst, sym, refl, arith, ℕ}
 use Rattle.bucket_meta.specs.Notes.{AreExact}
 use Rattle.stash.specs.Exact.{notes_of}
 use Rattle.stash.specs.NoteSlots.{NoteSlotBecomes, IsNoteAt, freed_note_slot}
-use Rattle.stash.proofs.ExactNotes.{exact_without_note, exact_without_count}
+use Rattle.bucket_meta.proofs.ExactNotes.{exact_without_note, exact_without_count}
 use Rattle.stash.proofs.Homes.{freed_home, freed_probe, one_lowest, none_holds, not_of_home}
 use Rattle.stash.proofs.Pieces.{piece, other_side_stays}
 use Rattle.stash.proofs.notes.unnote.Goals as goal

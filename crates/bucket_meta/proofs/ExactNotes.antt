@@ -3,7 +3,7 @@ use Rattle.std.proofs.Common.{◌≡◌, ◌≢◌, ℕ, ◌+◌, ◌-◌, ◌�
 use Rattle.std.proofs.Math.Nat.{eq-zero-or-pos}
 use Rattle.std.proofs.lemmas.Bool.Decides.{eqb_tells}
 use Rattle.bucket_meta.specs.Notes.{OverflowNote, how_often, AreExact}
-use Rattle.stash.proofs.Counts.{IsSum, how_often-append, how_often-is_sum, length-is_sum}
+use Rattle.bucket_meta.proofs.Counts.{IsSum, how_often-append, how_often-is_sum, length-is_sum}
 
 -- one list has what the other has and this note once more
 pub record IsOneMore (more less : List OverflowNote) (note : OverflowNote) : Type 0 where
