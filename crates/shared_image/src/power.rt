@@ -1,6 +1,6 @@
 //! An image is powered on: its medium is laid out, restarted and opened.
 
-ghost use Rattle.std.specs.Prelude.{◌≡◌, ℕ, ◌+◌, ◌<◌, ◌≤◌, ◌^◌, IfOk, length, slice_index};
+ghost use Rattle.std.specs.Prelude.{◌≡◌, ℕ, ◌+◌, ◌<◌, ◌^◌, IfOk, length, slice_index};
 ghost use Rattle.std.specs.FinMap.{get};
 ghost use Rattle.image_layout.specs.Places.{words_of, state_word};
 ghost use Rattle.image_layout.specs.Volatile.{all_words_of};

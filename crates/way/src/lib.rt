@@ -5,9 +5,9 @@
 //! depth or a slot that the image has not gives the root's word, so each function answers for any numbers.
 #![tactic(auto)]
 
-ghost use Rattle.std.specs.Prelude.{◌≡◌, ◌<◌, ◌≤◌, ◌^◌, ◌+◌};
+ghost use Rattle.std.specs.Prelude.{◌≡◌, ◌<◌, ◌≤◌, ◌+◌};
 ghost use Rattle.image_layout.specs.Keys.{key_hash};
-ghost use Rattle.image_layout.specs.Places.{words_of, root_word, buckets, most_words};
+ghost use Rattle.image_layout.specs.Places.{buckets, most_words};
 ghost use Rattle.way.specs.Ways.{entry_word, head_word, bucket_word};
 
 use hash_word::{HASH_BITS, Kind, dir_index, hash};
