@@ -113,6 +113,18 @@ upper_fingers_from = count_from + count_bits
 abbrev pub note_fingers_from : ℕ
 note_fingers_from = fingerprint_bits * (record_slots - fingers_of_word)
 
+-- how many note slots have their fingerprints in w3: the lower ones, and the others have theirs in w1
+abbrev pub lower_notes : ℕ
+lower_notes = 2
+
+-- how many bits of w3 these fingerprints have: lower_notes * fingerprint_bits
+abbrev pub note_fingers_bits : ℕ
+note_fingers_bits = 16
+
+-- from which bit of w1 on the fingerprint of note slot 3 stands, behind that of note slot 2
+abbrev pub last_finger_from : ℕ
+last_finger_from = upper_fingers_from + fingerprint_bits
+
 -- 1 where note slot i, of 4, holds the note of a record that stands in the stash
 abbrev pub note_used : ℕ → ℕ → ℕ
 note_used i w1 = bit (note_used_from + i) w1
@@ -128,16 +140,24 @@ note_index i w1 = bit (note_index_from + i) w1
 -- the fingerprint of a note: 0 and 1 stand in w3, 2 and 3 in w1
 abbrev pub note_finger : ℕ → ℕ → ℕ → ℕ
 note_finger i w1 w3 =
-    if nat_lt i 2 then bits (note_fingers_from + fingerprint_bits * i) fingerprint_bits w3
-    else bits (upper_fingers_from + fingerprint_bits * (i - 2)) fingerprint_bits w1
+    if nat_lt i lower_notes then bits (note_fingers_from + fingerprint_bits * i) fingerprint_bits w3
+    else bits (upper_fingers_from + fingerprint_bits * (i - lower_notes)) fingerprint_bits w1
 
 -- how many records of this bucket stand in the stash without a note
 abbrev pub overflow_count : ℕ → ℕ
 overflow_count w1 = bits count_from count_bits w1
 
+-- from which bit of w1 on no field has a bit: last_finger_from + fingerprint_bits
+abbrev pub spare_from : ℕ
+spare_from = 61
+
+-- how many bits these are, up to the word's last: 64 - spare_from
+abbrev pub spare_bits : ℕ
+spare_bits = 3
+
 -- the bits of w1 that no field has
 abbrev pub spare_part : ℕ → ℕ
-spare_part w1 = bits 61 3 w1
+spare_part w1 = bits spare_from spare_bits w1
 
 -- what w1 says of the record slots: which have a record, and which of these stand in their probing bucket
 abbrev pub slots_part : ℕ → ℕ
@@ -148,4 +168,4 @@ abbrev pub slot_fingers_part : ℕ → ℕ
 slot_fingers_part w3 = w3 % 2 ^ note_fingers_from
 
 abbrev pub note_fingers_part : ℕ → ℕ
-note_fingers_part w3 = w3 / 2 ^ note_fingers_from % 2 ^ 16
+note_fingers_part w3 = w3 / 2 ^ note_fingers_from % 2 ^ note_fingers_bits

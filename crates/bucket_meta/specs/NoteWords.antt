@@ -3,7 +3,7 @@ use Rattle.std.specs.Prelude.{◌≡◌, ◌≢◌, ℕ, ◌+◌, ◌-◌, ◌*�
 use Rattle.std.specs.Int.{bit_not, w64}
 use Rattle.word_bits.specs.Bits.{mask}
 use Rattle.hash_word.specs.Hash.{fingerprint_bits}
-use Rattle.bucket_meta.specs.Bucket.{note_used, note_member, note_index, note_finger, overflow_count, record_slots, note_slots, fingers_of_word, note_used_from, note_member_from, note_index_from, count_from, upper_fingers_from, note_fingers_from, slots_part, slot_fingers_part}
+use Rattle.bucket_meta.specs.Bucket.{note_used, note_member, note_index, note_finger, overflow_count, record_slots, note_slots, fingers_of_word, note_used_from, note_member_from, note_index_from, count_from, upper_fingers_from, last_finger_from, note_fingers_from, slots_part, slot_fingers_part}
 use Rattle.bucket_meta.specs.Marks.{with_finger}
 use Rattle.bucket_meta.specs.Visits.{is_note}
 
@@ -18,7 +18,7 @@ note_place w1 w3 side finger index =
 
 -- the fingerprints of places 2 and 3 stand in the metadata word
 abbrev pub finger_bits : ℕ → ℕ
-finger_bits i = if i == 2 then 255 * 2 ^ upper_fingers_from else if i == 3 then 255 * 2 ^ (upper_fingers_from + fingerprint_bits) else 0
+finger_bits i = if i == 2 then 255 * 2 ^ upper_fingers_from else if i == 3 then 255 * 2 ^ last_finger_from else 0
 
 -- the metadata word where note slot i is free: each of its bits there is 0
 abbrev pub freed_mark : ℕ → ℕ → ℕ
@@ -70,7 +70,7 @@ with_bit w i on = if on == 1 then bit_or w (mask i) else bit_and w (bit_not w64 
 abbrev pub with_note_finger : ℕ → ℕ → ℕ → ℕ
 with_note_finger w1 i finger =
     if i == 2 then bit_or (bit_and w1 (bit_not w64 (finger_bits 2))) (finger * 2 ^ upper_fingers_from)
-    else if i == 3 then bit_or (bit_and w1 (bit_not w64 (finger_bits 3))) (finger * 2 ^ (upper_fingers_from + fingerprint_bits))
+    else if i == 3 then bit_or (bit_and w1 (bit_not w64 (finger_bits 3))) (finger * 2 ^ last_finger_from)
     else w1
 
 -- the metadata word where note slot i has a note of this side, fingerprint and stash bucket, whatever it had
@@ -116,7 +116,7 @@ four bit_of = bit_of 0 + 2 * bit_of 1 + 4 * bit_of 2 + 8 * bit_of 3
 abbrev pub first_made : ℕ → (used side index : ℕ → ℕ) → (count third fourth : ℕ) → ℕ
 first_made w1 used side index count third fourth =
     slots_part w1 + 2 ^ note_used_from * four used + 2 ^ note_member_from * four side + 2 ^ note_index_from * four index
-    + 2 ^ count_from * count + 2 ^ upper_fingers_from * third + 2 ^ (upper_fingers_from + fingerprint_bits) * fourth
+    + 2 ^ count_from * count + 2 ^ upper_fingers_from * third + 2 ^ last_finger_from * fourth
 
 -- word 3 that says of the record slots what w3 says, and has the fingerprints of note slots 0 and 1
 abbrev pub third_made : ℕ → (first second : ℕ) → ℕ

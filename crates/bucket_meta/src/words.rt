@@ -57,6 +57,9 @@ pub const FINGERS_OF_WORD: u8 = 8;
 /// From which bit of word 3 on the fingerprints of note slots 0 and 1 stand, above those of record slots.
 pub const NOTE_FINGERS_FROM: u32 = FINGERPRINT_BITS * (SLOTS - FINGERS_OF_WORD) as u32;
 
+/// How many note slots have their fingerprints in word 3: the lower ones, and the others have theirs in word 1.
+const LOWER_NOTES: u8 = 2;
+
 /// Which byte of word 3 is the fingerprint of note slot 0.
 const FIRST_NOTE_BYTE: u8 = SLOTS - FINGERS_OF_WORD;
 
@@ -266,7 +269,7 @@ pub fn note_finger_of(w1: u64, w3: u64, note_slot: u8) -> u8
     requires { note_slot < note_slots }
     ensures { result ≡ note_finger note_slot w1 w3 }
 {
-    if note_slot < 2 {
+    if note_slot < LOWER_NOTES {
         bits_of(
             w3,
             NOTE_FINGERS_FROM + FINGERPRINT_BITS * u32::from(note_slot),
@@ -275,7 +278,7 @@ pub fn note_finger_of(w1: u64, w3: u64, note_slot: u8) -> u8
     } else {
         bits_of(
             w1,
-            UPPER_FINGERS_FROM + FINGERPRINT_BITS * u32::from(note_slot - 2),
+            UPPER_FINGERS_FROM + FINGERPRINT_BITS * u32::from(note_slot - LOWER_NOTES),
             FINGERPRINT_BITS,
         ) as u8
     }
