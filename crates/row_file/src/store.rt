@@ -47,10 +47,10 @@ pub(crate) fn set_word(image: &mut [u8], word: Word) -> bool {
 pub fn change(alloc: Global, image: &mut Vec<u8>, line: &Line) -> Result<()> {
     match line {
         Line::Image(count) => {
-            if *count > ROOM as u64 / 8 {
+            if *count > ROOM as u64 / WORD_BYTES {
                 bail!("an image of {count} words is too large");
             }
-            *image = vec![in alloc; 0u8; *count as usize * 8]?;
+            *image = vec![in alloc; 0u8; *count as usize * WORD_BYTES as usize]?;
         }
         Line::Bytes(count) => {
             if *count > ROOM as u64 {
