@@ -231,14 +231,14 @@ module _ (site : Ground) (here : Site) (call : Call) where
 
     -- what may be loose: words of the slot but its header, or the one word that was stored
     abbrev pub MayBeLoose : Batch → ℕ → Type 0
-    MayBeLoose (Empty number) i = (p : ℕ) × (2 ≤ p) × (p < segment_words) × (i ≡ side_at c p)
+    MayBeLoose (Empty number) i = (p : ℕ) × (link_number ≤ p) × (p < segment_words) × (i ≡ side_at c p)
     MayBeLoose (Link false) i = ⊥
     MayBeLoose (Link true) i = i ≡ link_word site.shape c.whole.segment
     MayBeLoose (Mark false) i = ⊥
     MayBeLoose (Mark true) i = i ≡ header_word site.shape c.whole.segment
     MayBeLoose (New false) i = ⊥
     MayBeLoose (New true) i = i ≡ side_at c header_number
-    MayBeLoose (Copy number) i = (p : ℕ) × (2 ≤ p) × (p < segment_words) × (i ≡ side_at c p)
+    MayBeLoose (Copy number) i = (p : ℕ) × (link_number ≤ p) × (p < segment_words) × (i ≡ side_at c p)
 
     -- WHILE A TASK IS STORED
     pub record IsSplitting (batch : Batch) (v : View) : Type 0 where

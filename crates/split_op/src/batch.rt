@@ -32,7 +32,7 @@ pub enum Batch {
 /// The number of the header word of a slot.
 pub const HEADER_NUMBER: u16 = HEADER as u16;
 /// That of the word of its link.
-const LINK_NUMBER: u16 = LINK as u16;
+pub(crate) const LINK_NUMBER: u16 = LINK as u16;
 /// How many words a slot has.
 pub const SLOT_WORDS: u16 = SEGMENT_WORDS as u16;
 /// The word of a bucket in which the key of its first record slot stands.

@@ -3,7 +3,7 @@
 ghost use Rattle.std.specs.Prelude.{◌≡◌};
 ghost use Rattle.split_op.specs.Steps.{go, back, searched, looked, finished, put_to, stored, given_to, next_in, last_slot};
 
-use crate::batch::{Batch, after, due};
+use crate::batch::{Batch, LINK_NUMBER, after, due};
 use crate::op::SplitOp;
 use crate::seek::copied_from;
 use crate::step::{SplitEnd, SplitStep};
@@ -49,7 +49,7 @@ fn looked(op: &mut SplitOp, bucket: u8, lock: u64)
     if bucket < BUCKETS - 1 {
         op.step = SplitStep::Look(bucket + 1);
     } else {
-        op.step = SplitStep::Put(Batch::Empty(2), Rounds::begun());
+        op.step = SplitStep::Put(Batch::Empty(LINK_NUMBER), Rounds::begun());
     }
 }
 
