@@ -1,6 +1,7 @@
 //! The header of a segment: its version, its state, and which hashes it covers.
 //! A [`Head`] is read from one word of the image, and written back; [`Head::sibling`] is the header of the
-//! segment that a split fills; [`word`], [`prefix`] and [`split`] have the functions of those who hold the word as it is.
+//! segment that a split fills; [`word`], [`prefix`] and [`split`] have the functions of those who hold the word as it is,
+//! and [`link`] those of the word behind it.
 //! `specs/HeadWord.antt` says what each bit of the word means.
 #![tactic(auto)]
 
@@ -11,6 +12,7 @@ ghost use Rattle.segment_head.specs.Sides.{IsOneSideOf, CoversOnes};
 ghost use Rattle.segment_head.specs.Written.{spare_in};
 
 mod laws;
+pub mod link;
 pub mod prefix;
 pub mod split;
 pub mod version;

@@ -148,7 +148,7 @@ module _ (site : Ground) (ground : IsGround site) (here : Site) (call : Call) (o
     due_in_image (Empty k) word value e =
         let o = due_if (nat_lt k segment_words) (slot_word c.whole.site.geometry c.side k, empty_value locks k) (word, value) e in
         word_in_image c.side k word is.slot.slot (ltb-true k segment_words o.0) (ap (λ (z : ℕ × ℕ). z.0) o.1)
-    due_in_image (Link false) word value e = word_in_image c.whole.segment 2 word is.keeps.is.located.within (omega arith) (first_is (slot_word c.whole.site.geometry c.whole.segment 2, (c.side + 1) % 2 ^ 64) (word, value) e)
+    due_in_image (Link false) word value e = word_in_image c.whole.segment 2 word is.keeps.is.located.within (omega arith) (first_is (slot_word c.whole.site.geometry c.whole.segment 2, suc c.side % 2 ^ 64) (word, value) e)
     due_in_image (Link true) word value e = absurd (none-some _ e)
     due_in_image (Mark false) word value e = word_in_image c.whole.segment 1 word is.keeps.is.located.within (omega arith) (first_is (slot_word c.whole.site.geometry c.whole.segment 1, split_head c.whole) (word, value) e)
     due_in_image (Mark true) word value e = absurd (none-some _ e)
@@ -324,8 +324,8 @@ module _ (site : Ground) (ground : IsGround site) (here : Site) (call : Call) (o
     store_by (Link false) is i x is_due e stores =
         let slot = is.slot.slot in
         let most = ground.shape.segments in
-        let next_is : (c.side + 1) % 2 ^ 64 ≡ suc c.side = omega (arith, slot, most) in
-        let q = ap (λ (z : ℕ). (link_word site.shape c.whole.segment, z)) (sym next_is) ∙ at_slot is.keeps c.whole.segment 2 ((c.side + 1) % 2 ^ 64) is.keeps.is.located.within (i, x) (same_Some _ _ is_due) in
+        let next_is : suc c.side % 2 ^ 64 ≡ suc c.side = omega (arith, slot, most) in
+        let q = ap (λ (z : ℕ). (link_word site.shape c.whole.segment, z)) (sym next_is) ∙ at_slot is.keeps c.whole.segment 2 (suc c.side % 2 ^ 64) is.keeps.is.located.within (i, x) (same_Some _ _ is_due) in
         set_fits (Link false) rounds is stands lines i x (Link true) e stores refl
         (subst (λ (z : ℕ × ℕ). MayAt site (sets z.0 z.1) v) q (may_link site ground here call c v locks is))
         (λ u st areas. link_more site here call c locks v u is (subst (λ (z : ℕ × ℕ). HasStored v u z.0 z.1) (sym q) st) areas)

@@ -176,7 +176,7 @@ module _ (site : Ground) (here : Site) (call : Call) (op : SplitOp) (is : IsOf s
       subst (λ (z : ℕ). z < 2 ^ 64) (ap (λ (z : ℕ × ℕ). z.1) o.1)
       (choose (λ (z : ℕ). z < 2 ^ 64) (nat_lt k 32 || nat_lt 0 (k % 32)) 0 (slice_index op.locks (k / 32 - 1) / 2 * 2) (λ _. omega arith) (λ _. half_fits (slice_index op.locks (k / 32 - 1)) (s.splits.slot.row.small (k / 32 - 1))))
   value_fits (Link false) rounds s word value f =
-      subst (λ (z : ℕ). z < 2 ^ 64) (second_is (slot_word e.site.geometry e.segment 2, (op.copied.side + 1) % 2 ^ 64) (word, value) f) (omega arith)
+      subst (λ (z : ℕ). z < 2 ^ 64) (second_is (slot_word e.site.geometry e.segment 2, suc op.copied.side % 2 ^ 64) (word, value) f) (omega arith)
   value_fits (Link true) rounds s word value f = absurd (none-some _ f)
   value_fits (Mark false) rounds s word value f =
       subst (λ (z : ℕ). z < 2 ^ 64) (second_is (slot_word e.site.geometry e.segment 1, split_head e) (word, value) f)

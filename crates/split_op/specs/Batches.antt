@@ -2,6 +2,7 @@
 use Rattle.std.specs.Prelude.{ℕ, zero, suc, ◌+◌, ◌-◌, ◌*◌, ◌/◌, ◌%◌, ◌^◌, nat_lt, ◌==◌, ◌&&◌, ◌||◌, not, Bool, true, false, Option, None, Some, List, slice_index, if◌then◌else◌}
 use Rattle.bucket_meta.specs.Bucket.{first_key, lock_bit, lock_version, record_words}
 use Rattle.bucket_meta.specs.Search.{is_taken}
+use Rattle.segment_head.specs.HeadWord.{link_to}
 use Rattle.image_layout.specs.Places.{Shape, root_word, head_at, segment_words, buckets, block, header_number, link_number}
 use Rattle.split_op.specs.declared.batch.Batch.{Batch}
 use Rattle.split_op.specs.declared.batch.Batch.TheVariants.{Empty, Link, Mark, New, Copy}
@@ -47,7 +48,7 @@ module _ (c : Copied) (locks : List ℕ) where
   -- THE STORE that is to come: its word and its value
   abbrev pub due : Batch → Option (ℕ × ℕ)
   due (Empty number) = if nat_lt number segment_words then Some (slot_word c.whole.site.geometry c.side number, empty_value locks number) else None
-  due (Link false) = Some (slot_word c.whole.site.geometry c.whole.segment link_number, (c.side + 1) % 2 ^ 64)
+  due (Link false) = Some (slot_word c.whole.site.geometry c.whole.segment link_number, link_to c.side % 2 ^ 64)
   due (Mark false) = Some (slot_word c.whole.site.geometry c.whole.segment header_number, split_head c.whole)
   due (New false) = Some (slot_word c.whole.site.geometry c.side header_number, side_head c.whole)
   due (Copy number) = if nat_lt number segment_words then Some (slot_word c.whole.site.geometry c.side number, slice_index c.words (number - block)) else None

@@ -10,6 +10,7 @@ use crate::seek::copied_from;
 use bucket_meta::words;
 use enclose_op::Enclosed;
 use image_layout::{BLOCK_WORDS, BUCKETS, Geometry, HEADER, LINK, ROOT_WORD, SEGMENT_WORDS};
+use segment_head::link::link_to;
 use segment_head::split::{one_side_head, with_state};
 use segment_head::word::{FRESH, SPLITTING};
 
@@ -122,7 +123,7 @@ pub fn due(copied: &Copied, locks: &[u64; BUCKETS as usize], batch: Batch) -> Op
         )),
         Batch::Link(false) => Some((
             slot_word(geometry, copied.whole.segment, LINK_NUMBER),
-            copied.side.wrapping_add(1),
+            link_to(copied.side),
         )),
         Batch::Mark(false) => Some((
             slot_word(geometry, copied.whole.segment, HEADER_NUMBER),
