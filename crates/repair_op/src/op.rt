@@ -8,6 +8,7 @@ use crate::guarded::Guarded;
 use crate::heads::{is_new_side, is_ready_side};
 use crate::step::{RepairEnd, RepairStep, Settling};
 use op_core::{Ans, Machine, Want, Why};
+use segment_head::link::linked_slot;
 use segment_head::split::with_state;
 use segment_head::word::{FREE, NORMAL, SPLITTING, state_of, version_of};
 use trace::line_of;
@@ -140,7 +141,7 @@ impl RepairOp {
 fn linked(link: u64) -> RepairStep
     ensures { result ≡ linked link }
 {
-    match link.checked_sub(1) {
+    match linked_slot(link) {
         Some(slot) => RepairStep::Side(slot),
         None => RepairStep::Unmark(Settling::Store),
     }
