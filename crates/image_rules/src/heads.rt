@@ -8,6 +8,7 @@ ghost use Rattle.image_rules.specs.Divided.{IsNumbered, IsDivided, IsPrefixOf, I
 
 use hash_word::covers;
 use image_layout::{Geometry, HEADER, LINK};
+use segment_head::link::linked_slot;
 use segment_head::prefix::{Prefix, in_one_side, is_side, prefix_in};
 use segment_head::word::{self, SPLITTING};
 
@@ -69,8 +70,11 @@ fn named_slot(geometry: &Geometry, words: &[u64], s: u64) -> Option<u64>
     ensures none { IfNone result ((n : ℕ) → IsNamed (frame_of geometry.now (slice_index words.now)) s n → ⊥) }
 {
     let link = words[geometry.head_at(s) as usize + LINK as usize];
-    if link > 0 && link <= geometry.segments() {
-        Some(link - 1)
+    let Some(slot) = linked_slot(link) else {
+        return None;
+    };
+    if slot < geometry.segments() {
+        Some(slot)
     } else {
         None
     }
