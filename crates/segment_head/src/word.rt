@@ -17,6 +17,13 @@ const SPARE_BITS: u32 = 8;
 /// How many bits the pattern has.
 pub const PATTERN_BITS: u8 = 32;
 
+/// The bits of the version.
+const VERSION_MASK: u64 = (1 << VERSION_BITS) - 1;
+/// Those of the state byte, shifted down to the lowest ones.
+const STATE_MASK: u64 = (1 << STATE_BITS) - 1;
+/// Those of the depth, shifted down too.
+const DEPTH_MASK: u64 = (1 << DEPTH_BITS) - 1;
+
 /// The lowest bit of the state byte, which stands behind the version.
 const STATE_FROM: u32 = VERSION_BITS;
 /// That of the depth.
@@ -39,21 +46,21 @@ pub const FRESH: u8 = 3;
 pub fn version_of(h1: u64) -> u8
     ensures { result ≡ version_in h1 }
 {
-    (h1 & 0xFF) as u8
+    (h1 & VERSION_MASK) as u8
 }
 
 /// The state byte: one of the four states, or a number above 3.
 pub fn state_of(h1: u64) -> u8
     ensures { result ≡ state_in h1 }
 {
-    ((h1 >> STATE_FROM) & 0xFF) as u8
+    ((h1 >> STATE_FROM) & STATE_MASK) as u8
 }
 
 /// How many top bits of a hash the pattern is compared with.
 pub fn depth_of(h1: u64) -> u8
     ensures { result ≡ depth_in h1 }
 {
-    ((h1 >> DEPTH_FROM) & 0xFF) as u8
+    ((h1 >> DEPTH_FROM) & DEPTH_MASK) as u8
 }
 
 /// What these bits are in the hashes that the segment covers.
