@@ -5,17 +5,21 @@ use Rattle.std.specs.Prelude.{◌≡◌, ℕ, ◌+◌, ◌-◌, ◌/◌, ◌%◌
 abbrev pub first_version : ℕ
 first_version = 1
 
+-- how many bits the version has, the lowest ones of the word
+abbrev pub version_bits : ℕ
+version_bits = 8
+
 -- bits 0 to 7: the version of the image
 abbrev pub image_version_in : ℕ → ℕ
-image_version_in state = state % 2 ^ 8
+image_version_in state = state % 2 ^ version_bits
 
 -- the last version that an image may have
 abbrev pub last_image_version : ℕ
-last_image_version = 2 ^ 8 - 1
+last_image_version = 2 ^ version_bits - 1
 
 -- the clean marker: bit 8
 abbrev pub marker : ℕ
-marker = 2 ^ 8
+marker = 2 ^ version_bits
 
 -- 1 where the image is marked clean
 abbrev pub marker_in : ℕ → ℕ
