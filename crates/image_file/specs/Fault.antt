@@ -1,7 +1,7 @@
 -- When bytes are the file of an image, and which fault they have else.
 use Rattle.std.specs.Prelude.{◌≡◌, ◌≢◌, ℕ, ◌*◌, ◌/◌, ◌%◌, ◌^◌, ◌<◌, ◌≤◌, ◌⊎◌, List, length, drop, ⊤}
 use Rattle.byteorder.specs.Endian.{little_number}
-use Rattle.image_layout.specs.Places.{Shape, IsShape, most_kind, format_number, kind_from, block, words_of}
+use Rattle.image_layout.specs.Places.{Shape, IsShape, most_kind, format_number, kind_from, block, front_magic, front_format, front_segments, front_depth, words_of}
 use Rattle.sound_image.specs.Segments.{ImageWords}
 use Rattle.sound_image.specs.Image.{word_bytes, image_bytes, magic, IsSoundImage}
 use Rattle.image_file.specs.declared.fault.ImageFault.{ImageFault}
@@ -14,16 +14,16 @@ word_in_file bytes i = little_number word_bytes (drop (word_bytes * i) bytes)
 
 -- the shape that words 1 to 3 say
 abbrev pub shape_in : ImageWords → Shape
-shape_in word = record { segments = word 2; depth = word 3; kind = word 1 / 2 ^ kind_from }
+shape_in word = record { segments = word front_segments; depth = word front_depth; kind = word front_format / 2 ^ kind_from }
 
 module _ (word : ImageWords) where
   abbrev pub HasMagic : Type 0
-  HasMagic = word 0 ≡ magic
+  HasMagic = word front_magic ≡ magic
 
   -- the number of the format, and a kind of hash above it
   pub record HasFormat : Type 0 where
-    pub number : word 1 % 2 ^ kind_from ≡ format_number
-    pub kind : word 1 / 2 ^ kind_from ≤ most_kind
+    pub number : word front_format % 2 ^ kind_from ≡ format_number
+    pub kind : word front_format / 2 ^ kind_from ≤ most_kind
 
 -- all that is looked at before the rules is right
 pub record IsFramed (bytes : List ℕ) : Type 0 where

@@ -10,7 +10,10 @@ ghost use Rattle.image_file.specs.Formatted.{IsFormatted};
 use crate::medium::Medium;
 use crate::words::Words;
 use image_layout::state::{self, FIRST_VERSION};
-use image_layout::{FORMAT_NUMBER, Geometry, HEADER, KIND_FROM, STATE_WORD, shape_in_range};
+use image_layout::{
+    FORMAT_NUMBER, FRONT_DEPTH, FRONT_FORMAT, FRONT_MAGIC, FRONT_SEGMENTS, Geometry, HEADER,
+    KIND_FROM, STATE_WORD, shape_in_range,
+};
 use map_model::NoMemory;
 use segment_head::{Head, State};
 use std::alloc::Global;
@@ -43,10 +46,10 @@ fn empty_words(alloc: Global, geometry: &Geometry) -> Result<Words, NoMemory>
     ensures { IfOk result (IsFormatted geometry.now) }
 {
     let mut words = vec![in alloc; 0u64; geometry.words() as usize]?;
-    words[0] = MAGIC;
-    words[1] = FORMAT_NUMBER + (geometry.kind() << KIND_FROM);
-    words[2] = geometry.segments();
-    words[3] = geometry.depth();
+    words[FRONT_MAGIC] = MAGIC;
+    words[FRONT_FORMAT] = FORMAT_NUMBER + (geometry.kind() << KIND_FROM);
+    words[FRONT_SEGMENTS] = geometry.segments();
+    words[FRONT_DEPTH] = geometry.depth();
     words[STATE_WORD as usize] = first_state();
     words[geometry.head_at(0) as usize + HEADER as usize] = first_header();
     Ok(Words::new(words))

@@ -10,7 +10,10 @@ use crate::fault::ImageFault;
 use crate::formatted::MAGIC;
 use crate::medium::Medium;
 use crate::words::{WORD_BYTES, Words, word_at};
-use image_layout::{BLOCK, FORMAT_NUMBER, Geometry, KIND_FROM, MOST_KIND};
+use image_layout::{
+    BLOCK, FORMAT_NUMBER, FRONT_DEPTH, FRONT_FORMAT, FRONT_MAGIC, FRONT_SEGMENTS, Geometry,
+    KIND_FROM, MOST_KIND,
+};
 use image_rules::first_breach;
 use map_model::NoMemory;
 use std::alloc::Global;
@@ -35,14 +38,18 @@ fn geometry_said(front: &[u64]) -> Result<Geometry, ImageFault>
     ensures ok { IfOk result (λ geometry. (bytes : List ℕ) → BeginsWith bytes front.now → HasFront bytes (λ shape. geometry ≡ shape)) }
     ensures fault { IfErr result (λ fault. (bytes : List ℕ) → BeginsWith bytes front.now → HasFault bytes fault) }
 {
-    if front[0] != MAGIC {
+    if front[FRONT_MAGIC] != MAGIC {
         return Err(ImageFault::Magic);
     }
-    let format = front[1];
+    let format = front[FRONT_FORMAT];
     if format % (1 << KIND_FROM) != FORMAT_NUMBER || format >> KIND_FROM > MOST_KIND {
         return Err(ImageFault::Format);
     }
-    match Geometry::new(front[2], front[3], format >> KIND_FROM) {
+    match Geometry::new(
+        front[FRONT_SEGMENTS],
+        front[FRONT_DEPTH],
+        format >> KIND_FROM,
+    ) {
         Ok(geometry) => Ok(geometry),
         Err(_) => Err(ImageFault::Geometry),
     }
@@ -58,10 +65,10 @@ fn geometry_in(bytes: &[u8]) -> Result<Geometry, ImageFault>
         return Err(ImageFault::Length);
     }
     let front = [
-        word_at(bytes, 0),
-        word_at(bytes, 1),
-        word_at(bytes, 2),
-        word_at(bytes, 3),
+        word_at(bytes, FRONT_MAGIC),
+        word_at(bytes, FRONT_FORMAT),
+        word_at(bytes, FRONT_SEGMENTS),
+        word_at(bytes, FRONT_DEPTH),
     ];
     let geometry = match geometry_said(&front) {
         Ok(geometry) => geometry,

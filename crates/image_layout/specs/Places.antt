@@ -25,6 +25,19 @@ block = 32
 abbrev pub front_words : ℕ
 front_words = 4
 
+-- which of them says the magic, which the format and the kind of hash, which the slots for segments, and which the greatest depth
+abbrev pub front_magic : ℕ
+front_magic = 0
+
+abbrev pub front_format : ℕ
+front_format = 1
+
+abbrev pub front_segments : ℕ
+front_segments = 2
+
+abbrev pub front_depth : ℕ
+front_depth = 3
+
 -- how many stash buckets a segment has, behind its homes
 abbrev pub stash_buckets : ℕ
 stash_buckets = 2

@@ -10,6 +10,14 @@ use std::error::Error;
 use std::fmt;
 use std::marker::Model;
 
+/// The word of the magic, the first of those in front.
+pub const FRONT_MAGIC: usize = 0;
+/// The word of the format and of the kind of hash.
+pub const FRONT_FORMAT: usize = 1;
+/// The word of the number of slots for segments.
+pub const FRONT_SEGMENTS: usize = 2;
+/// The word of the greatest depth of the directory.
+pub const FRONT_DEPTH: usize = 3;
 /// The word of the root depth, with which the directory is read.
 pub const ROOT_WORD: u64 = 8;
 /// The word of the image's version and of the clean marker.

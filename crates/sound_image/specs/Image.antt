@@ -2,7 +2,7 @@
 use Rattle.std.specs.Prelude.{◌≡◌, ℕ, ◌+◌, ◌*◌, ◌^◌, ◌<◌, List, length, slice_index}
 use Rattle.std.specs.List.{flat_map}
 use Rattle.byteorder.specs.Endian.{little_bytes}
-use Rattle.image_layout.specs.Places.{Shape, IsShape, format_number, kind_from, words_of}
+use Rattle.image_layout.specs.Places.{Shape, IsShape, format_number, kind_from, front_magic, front_format, front_segments, front_depth, words_of}
 use Rattle.sound_image.specs.Segments.{ImageWords}
 use Rattle.sound_image.specs.Rules.{FollowsRules}
 
@@ -24,10 +24,10 @@ format_word shape = format_number + shape.kind * 2 ^ kind_from
 
 -- the first four words say what the image is and how it is laid out
 pub record SaysShape (shape : Shape) (word : ImageWords) : Type 0 where
-  pub magic_word : word 0 ≡ magic
-  pub format : word 1 ≡ format_word shape
-  pub segments : word 2 ≡ shape.segments
-  pub depth : word 3 ≡ shape.depth
+  pub magic_word : word front_magic ≡ magic
+  pub format : word front_format ≡ format_word shape
+  pub segments : word front_segments ≡ shape.segments
+  pub depth : word front_depth ≡ shape.depth
 
 -- a sound image: all words of a shape in range, each of 64 bits, which say that shape and follow the rules
 pub record IsSoundImage (shape : Shape) (words : List ℕ) : Type 0 where
