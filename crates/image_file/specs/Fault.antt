@@ -1,7 +1,7 @@
 -- When bytes are the file of an image, and which fault they have else.
-use Rattle.std.specs.Prelude.{◌≡◌, ◌≢◌, ℕ, ◌*◌, ◌/◌, ◌%◌, ◌^◌, ◌<◌, ◌≤◌, ◌⊎◌, List, length, drop, ⊤}
+use Rattle.std.specs.Prelude.{◌≡◌, ◌≢◌, ℕ, ◌*◌, ◌<◌, ◌≤◌, ◌⊎◌, List, length, drop, ⊤}
 use Rattle.byteorder.specs.Endian.{little_number}
-use Rattle.image_layout.specs.Places.{Shape, IsShape, most_kind, format_number, kind_from, block, front_magic, front_format, front_segments, front_depth, words_of}
+use Rattle.image_layout.specs.Places.{Shape, IsShape, most_kind, format_number, format_in, kind_in, block, front_magic, front_format, front_segments, front_depth, words_of}
 use Rattle.sound_image.specs.Segments.{ImageWords}
 use Rattle.sound_image.specs.Image.{word_bytes, image_bytes, magic, IsSoundImage}
 use Rattle.image_file.specs.declared.fault.ImageFault.{ImageFault}
@@ -14,7 +14,7 @@ word_in_file bytes i = little_number word_bytes (drop (word_bytes * i) bytes)
 
 -- the shape that words 1 to 3 say
 abbrev pub shape_in : ImageWords → Shape
-shape_in word = record { segments = word front_segments; depth = word front_depth; kind = word front_format / 2 ^ kind_from }
+shape_in word = record { segments = word front_segments; depth = word front_depth; kind = kind_in (word front_format) }
 
 module _ (word : ImageWords) where
   abbrev pub HasMagic : Type 0
@@ -22,8 +22,8 @@ module _ (word : ImageWords) where
 
   -- the number of the format, and a kind of hash above it
   pub record HasFormat : Type 0 where
-    pub number : word front_format % 2 ^ kind_from ≡ format_number
-    pub kind : word front_format / 2 ^ kind_from ≤ most_kind
+    pub number : format_in (word front_format) ≡ format_number
+    pub kind : kind_in (word front_format) ≤ most_kind
 
 -- all that is looked at before the rules is right
 pub record IsFramed (bytes : List ℕ) : Type 0 where

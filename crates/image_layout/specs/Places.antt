@@ -1,5 +1,5 @@
 -- Where the parts of an image stand, by word number. An image is a list of 64-bit words.
-use Rattle.std.specs.Prelude.{ℕ, ◌+◌, ◌-◌, ◌*◌, ◌/◌, ◌^◌, ◌≤◌}
+use Rattle.std.specs.Prelude.{ℕ, ◌+◌, ◌-◌, ◌*◌, ◌/◌, ◌%◌, ◌^◌, ◌≤◌}
 pub use Rattle.hash_word.specs.Hash.{homes, most_depth}
 use Rattle.bucket_meta.specs.Bucket.{record_slots, first_key, first_value, record_words}
 
@@ -16,6 +16,17 @@ format_number = 1
 
 abbrev pub kind_from : ℕ
 kind_from = 32
+
+-- that word, of the number of the format and this kind of hash
+abbrev pub format_word : ℕ → ℕ
+format_word kind = format_number + kind * 2 ^ kind_from
+
+-- what such a word says: the number of the format, and the kind of hash
+abbrev pub format_in : ℕ → ℕ
+format_in w = w % 2 ^ kind_from
+
+abbrev pub kind_in : ℕ → ℕ
+kind_in w = w / 2 ^ kind_from
 
 -- how many words the front of an image has, a header and a bucket
 abbrev pub block : ℕ

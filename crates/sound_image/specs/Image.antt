@@ -1,8 +1,8 @@
 -- The file of an image, and when its words are a sound image.
-use Rattle.std.specs.Prelude.{◌≡◌, ℕ, ◌+◌, ◌*◌, ◌^◌, ◌<◌, List, length, slice_index}
+use Rattle.std.specs.Prelude.{◌≡◌, ℕ, ◌^◌, ◌<◌, List, length, slice_index}
 use Rattle.std.specs.List.{flat_map}
 use Rattle.byteorder.specs.Endian.{little_bytes}
-use Rattle.image_layout.specs.Places.{Shape, IsShape, format_number, kind_from, front_magic, front_format, front_segments, front_depth, words_of}
+use Rattle.image_layout.specs.Places.{Shape, IsShape, format_word, front_magic, front_format, front_segments, front_depth, words_of}
 use Rattle.sound_image.specs.Segments.{ImageWords}
 use Rattle.sound_image.specs.Rules.{FollowsRules}
 
@@ -18,14 +18,10 @@ image_bytes words = flat_map (little_bytes word_bytes) words
 abbrev pub magic : ℕ
 magic = 0x3130484548534144
 
--- the second word: the number of the format, and the kind of hash above it
-abbrev pub format_word : Shape → ℕ
-format_word shape = format_number + shape.kind * 2 ^ kind_from
-
 -- the first four words say what the image is and how it is laid out
 pub record SaysShape (shape : Shape) (word : ImageWords) : Type 0 where
   pub magic_word : word front_magic ≡ magic
-  pub format : word front_format ≡ format_word shape
+  pub format : word front_format ≡ format_word shape.kind
   pub segments : word front_segments ≡ shape.segments
   pub depth : word front_depth ≡ shape.depth
 
