@@ -53,6 +53,10 @@ unlocked held = held + 1
 abbrev pub given_back : ℕ → ℕ
 given_back free = free + 2
 
+-- the lock word that is free with the version of a lock word, be that locked or free
+abbrev pub without_lock : ℕ → ℕ
+without_lock w0 = free_lock (lock_version w0)
+
 -- the last version that a lock may have
 abbrev pub last_lock_version : ℕ
 last_lock_version = 2 ^ 63 - 1

@@ -2,7 +2,7 @@
 //! that loads and stores single words looks at them and changes them here.
 
 ghost use Rattle.std.specs.Prelude.{◌≡◌, ◌≢◌, ◌==◌, ℕ, ◌^◌, ◌<◌, ◌≤◌, ◌↔◌, IfSome, IfNone, IsTrue, slice_index, slice_set, ◌%◌};
-ghost use Rattle.bucket_meta.specs.Bucket.{allocated, member, finger, note_used, note_member, note_index, note_finger, overflow_count, record_slots, note_slots, first_key, count_bits, locked, given_back, lock_bit, slot_fingers_part};
+ghost use Rattle.bucket_meta.specs.Bucket.{allocated, member, finger, note_used, note_member, note_index, note_finger, overflow_count, record_slots, note_slots, first_key, count_bits, locked, unlocked, given_back, without_lock, lock_bit, lock_version, slot_fingers_part};
 ghost use Rattle.bucket_meta.specs.Search.{is_taken, IsThere, lowest_with, lowest_free};
 ghost use Rattle.bucket_meta.specs.Notes.{IsNoteOn};
 ghost use Rattle.bucket_meta.specs.Marks.{inserted_mark, member_mark, removed_mark, finger_place, with_finger};
@@ -85,6 +85,13 @@ pub fn is_locked(w0: u64) -> bool
     w0 % 2 == 1
 }
 
+/// The version of a lock word, in all the bits above the lock.
+pub fn lock_version(w0: u64) -> u64
+    ensures { result ≡ lock_version w0 }
+{
+    w0 / 2
+}
+
 /// The lock word that is locked, of the free one with the same version.
 pub fn locked(free: u64) -> u64
     ensures { result ≡ locked free % 2 ^ 64 }
@@ -92,11 +99,25 @@ pub fn locked(free: u64) -> u64
     free.wrapping_add(1)
 }
 
-/// The lock word with which a lock is given back, of the free one that was locked: free, with the next version.
+/// The lock word with which a locked one is given back: free, with the next version.
+pub fn unlocked(held: u64) -> u64
+    ensures { result ≡ unlocked held % 2 ^ 64 }
+{
+    held.wrapping_add(1)
+}
+
+/// The same, of the free one that was locked.
 pub fn given_back(free: u64) -> u64
     ensures { result ≡ given_back free % 2 ^ 64 }
 {
     free.wrapping_add(2)
+}
+
+/// The lock word that is free with the version of a lock word, be that locked or free.
+pub fn without_lock(w0: u64) -> u64
+    ensures { result ≡ without_lock w0 }
+{
+    2 * lock_version(w0)
 }
 
 // ---- record slots
