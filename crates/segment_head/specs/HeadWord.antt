@@ -1,5 +1,5 @@
 -- The fields of the header word of a segment.
-use Rattle.std.specs.Prelude.{◌≡◌, ◌⊎◌, ℕ, suc, Bool, ◌==◌, ◌||◌, ◌+◌, ◌*◌, ◌/◌, ◌%◌, ◌^◌}
+use Rattle.std.specs.Prelude.{◌≡◌, ◌⊎◌, ℕ, zero, suc, Bool, Option, None, Some, ◌==◌, ◌||◌, ◌+◌, ◌*◌, ◌/◌, ◌%◌, ◌^◌}
 
 -- how many bits each field has, and the lowest bit of each; they follow one another from bit 0 on, and spare bits are no field
 abbrev pub version_bits : ℕ
@@ -72,3 +72,8 @@ HasLiveState h1 = (state_in h1 ≡ normal) ⊎ (state_in h1 ≡ splitting)
 -- THE LINK, the header word behind that one, where it links this slot; where it links none it is 0
 abbrev pub link_to : ℕ → ℕ
 link_to slot = suc slot
+
+-- and the slot that a link names, where it names one
+abbrev pub linked_in : ℕ → Option ℕ
+linked_in zero = None
+linked_in (suc slot) = Some slot

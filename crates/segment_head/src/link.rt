@@ -1,7 +1,7 @@
 //! The link of a segment, the header word behind the one that has its fields: one more than the number of the slot that it names, or 0 for none.
 
 ghost use Rattle.std.specs.Prelude.{◌≡◌, ◌%◌, ◌^◌, IfSome, IfNone};
-ghost use Rattle.segment_head.specs.HeadWord.{link_to};
+ghost use Rattle.segment_head.specs.HeadWord.{link_to, linked_in};
 
 /// The link that names this slot. Of number `u64::MAX`, which no slot has, it would be 0, which names none.
 pub fn link_to(slot: u64) -> u64
@@ -12,6 +12,7 @@ pub fn link_to(slot: u64) -> u64
 
 /// The slot that a link names; none where it is 0.
 pub fn linked_slot(link: u64) -> Option<u64>
+    ensures is { result ≡ linked_in link }
     ensures some { IfSome result (λ slot. link ≡ link_to slot) }
     ensures none { IfNone result (link ≡ 0) }
 {

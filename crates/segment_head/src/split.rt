@@ -1,8 +1,9 @@
 //! What a split makes of the header word of a segment: the headers of its two sides, their depth and the pattern of the 1-side, and the header with
 //! another state.
 
-ghost use Rattle.std.specs.Prelude.{◌≡◌};
-ghost use Rattle.segment_head.specs.SplitHeads.{side_depth, side_depth_field, zero_pattern_field, one_pattern_field, with_state, zero_side_head, one_side_head};
+ghost use Rattle.std.specs.Prelude.{◌≡◌, ◌<◌, ◌≤◌, ◌+◌, ◌^◌};
+ghost use Rattle.segment_head.specs.HeadWord.{pattern_bits};
+ghost use Rattle.segment_head.specs.SplitHeads.{side_depth, side_pattern_in, side_depth_field, zero_pattern_field, one_pattern_field, with_state, zero_side_head, one_side_head};
 
 use crate::word::{depth_of, header_of, pattern_of, version_of};
 use hash_word::HASH_BITS;
@@ -15,6 +16,15 @@ pub fn side_depth(head: u64) -> u8
     ensures { result ≡ side_depth head }
 {
     depth_of(head).min(DEEPEST_SPLIT) + 1
+}
+
+/// The pattern of the 1-side, of whatever depth: that of the segment with a 1 behind it.
+pub fn side_pattern(head: u64) -> u64
+    ensures is { result ≡ side_pattern_in head }
+    ensures most { result < 2 ^ (pattern_bits + 1) }
+    ensures some { 1 ≤ result }
+{
+    2 * u64::from(pattern_of(head)) + 1
 }
 
 /// What their headers have as their depth: its lowest 8 bits.
