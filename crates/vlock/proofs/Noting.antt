@@ -2,6 +2,7 @@
 use Rattle.std.proofs.Common.{◌≡◌, ◌≢◌, inl, inr, ℕ, zero, suc, ◌+◌, ◌-◌, ◌*◌, ◌/◌, ◌%◌, ◌^◌, ◌<◌, ◌≤◌, Bool, true, false, cond, Option, None, List, [], ◌∷◌, length, get_or, set, refl, sym, ap, ◌∙◌, subst, arith, length-set, get_or-set_other, get_or-set_same, eqb, slice_index, slice_set}
 use Rattle.std.proofs.lemmas.Bool.{eq-eqb, ne_eqb, cases_eq, eqb-true, eqb-false}
 use Rattle.std.specs.Prelude.{◌==◌, ◌&&◌}
+use Rattle.bucket_meta.specs.Bucket.{lock_bit}
 use Rattle.op_core.specs.declared.want.Want.{Want}
 use Rattle.op_core.specs.declared.want.Want.TheVariants.{Load, Store, Exchange}
 use Rattle.op_core.specs.declared.want.Ans.{Ans}
@@ -45,8 +46,12 @@ may_call v w same may = subst (λ (z : View). MayCall z) (sym same) may
 pub no_answer : (v w : View) → IsBesideNotes v w → v.answer ≡ None → w.answer ≡ None
 no_answer v w same none = ap (λ (z : View). z.answer) same ∙ none
 
-pub even_of : (n : ℕ) → n % 2 ≢ 1 → n % 2 ≡ 0
-even_of n ne = elim (cases_eq (n % 2) 0) [ inl e ↦ e | inr o ↦ absurd (ne (omega (arith, o))) ]
+-- what the test of a lock word says of its lock bit
+pub odd_of : (n : ℕ) → true ≡ (lock_bit n == 1) → lock_bit n ≡ 1
+odd_of n test = eqb-true (lock_bit n) 1 (sym test)
+
+pub even_of : (n : ℕ) → false ≡ (lock_bit n == 1) → lock_bit n ≡ 0
+even_of n test = let apart = eqb-false (lock_bit n) 1 (sym test) in omega (arith, apart)
 
 -- what a load found was so at a moment
 pub found_at : (site : Ground) (v : View) (at x : ℕ) (kind : ℕ → StepKind) (p q : Watch) → IsBesideNotes v p.view → Loads site at kind p x q → WasFound site v at x

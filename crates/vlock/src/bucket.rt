@@ -17,7 +17,7 @@ ghost use Rattle.vlock.specs.Buckets.{MayCall, Loads, IsBesideNotes, ReadSays, L
 
 use crate::steps::event;
 use crate::table::{Acting, Image, ImageSeat};
-use bucket_meta::words::SPENT_LOCK;
+use bucket_meta::words::{SPENT_LOCK, is_locked, lock_version, locked, unlocked};
 use image_layout::{BLOCK, Geometry};
 use op_core::{Ans, Want};
 use std::marker::Brand;
@@ -156,7 +156,7 @@ pub fn read_bucket(
 {
     let lock = geometry.bucket_at(segment, bucket);
     let before = look(image, geometry, seat, lock);
-    if before % 2 == 1 {
+    if is_locked(before) {
         return ReadReply::Held { seen: before };
     }
     let mut words = [0; BLOCK as usize];
@@ -165,10 +165,10 @@ pub fn read_bucket(
         words[i] = glance(image, geometry, seat, lock, i as u64);
     }
     let after = validate(image, geometry, seat, lock);
-    if after % 2 == 1 {
+    if is_locked(after) {
         ReadReply::Held { seen: after }
     } else if after == before {
-        let version = before / 2;
+        let version = lock_version(before);
         ReadReply::Clean { version, words }
     } else {
         ReadReply::Moved { before, after }
@@ -186,11 +186,13 @@ fn take(image: &Image, geometry: &Geometry, seat: &mut ImageSeat, lock: u64, fre
     ensures lock { LockSays (ground_of image.now.key) lock seat.old.me.0.view result seat.new.me.0.view }
     ensures events { TakeTook lock free seat.old.me.0.took result seat.new.me.0.took }
 {
-    let want = Want::Exchange(lock, free, free + 1);
+    let want = Want::Exchange(lock, free, locked(free));
     match event::<Brand, (u64, u64)>(image, geometry, seat, want, &(lock, free)) {
-        Ans::Won => LockReply::Locked { version: free / 2 },
+        Ans::Won => LockReply::Locked {
+            version: lock_version(free),
+        },
         Ans::Lost(seen) => {
-            if seen % 2 == 1 {
+            if is_locked(seen) {
                 LockReply::Held { seen }
             } else {
                 LockReply::Moved {
@@ -215,7 +217,7 @@ pub fn try_lock(image: &Image, geometry: &Geometry, seat: &mut ImageSeat, lock: 
     ensures events { LockTook lock seat.old.me.0.took result seat.new.me.0.took }
 {
     let free = meet(image, geometry, seat, lock);
-    if free % 2 == 1 {
+    if is_locked(free) {
         LockReply::Held { seen: free }
     } else if free == SPENT_LOCK {
         LockReply::Spent
@@ -233,8 +235,7 @@ pub fn unlock(image: &Image, geometry: &Geometry, seat: &mut ImageSeat, lock: u6
     ensures table { IsSeatOf image.now.table_id image.now.key seat.new }
     ensures view { (x : ℕ) × Has (lock, x) seat.old.me.0.view.held × Unlocks (ground_of image.now.key) lock x seat.old.me.0 seat.new.me.0 }
 {
-    let locked = peek(image, geometry, seat, lock);
-    let next = locked + 1;
-    let want = Want::Store(lock, next);
-    let _ = event::<Brand, (u64, u64)>(image, geometry, seat, want, &(lock, locked));
+    let held = peek(image, geometry, seat, lock);
+    let want = Want::Store(lock, unlocked(held));
+    let _ = event::<Brand, (u64, u64)>(image, geometry, seat, want, &(lock, held));
 }

@@ -6,7 +6,7 @@ use Rattle.world.specs.StepKinds.{of_call}
 use Rattle.world.specs.Conditions.{IsKnownLock}
 use Rattle.vlock.specs.Ruling.{ground_of}
 use Rattle.vlock.specs.Buckets.{MayCall, LockSays, WasAt}
-use Rattle.vlock.proofs.Noting.{even_of, was_at, met_leaves, met_spent, looked_once, took_behind}
+use Rattle.vlock.proofs.Noting.{odd_of, even_of, was_at, met_leaves, met_spent, looked_once, took_behind}
 use Rattle.vlock.proofs.bucket.try_lock.Goals as goal
 
 pub take-requires-clause-lock : goal.take-requires-clause-lock
@@ -18,11 +18,11 @@ pub take-requires-clause-free : goal.take-requires-clause-free
 take-requires-clause-free c =
     let e = met_leaves (ground_of c.args.image.now.key) c.args.lock c.meet-free.result c.args.seat.now.me.0 _ c.meet-free.ensures.view c.if-free.false in
     let was = was_at (ground_of c.args.image.now.key) c.args.lock c.meet-free.result (λ n. of_call (meets_lock c.args.lock)) c.args.seat.now.me.0 _ c.meet-free.ensures.view in
-    (even_of c.meet-free.result c.if-free-eq1.false, c.if-free.false, subst (λ (v : View). WasAt (ground_of c.args.image.now.key) v c.args.lock c.meet-free.result) (sym e) was)
+    (even_of c.meet-free.result c.if-is_locked.ensures, c.if-free.false, subst (λ (v : View). WasAt (ground_of c.args.image.now.key) v c.args.lock c.meet-free.result) (sym e) was)
 
-pub returns-then-free-eq1-clause-lock : goal.returns-then-free-eq1-clause-lock
-returns-then-free-eq1-clause-lock c =
-    let odd = c.if-free-eq1.true in (
+pub returns-then-is_locked-clause-lock : goal.returns-then-is_locked-clause-lock
+returns-then-is_locked-clause-lock c =
+    let odd = odd_of c.meet-free.result c.if-is_locked.ensures in (
       met_leaves (ground_of c.args.image.now.key) c.args.lock c.meet-free.result c.args.seat.now.me.0 _ c.meet-free.ensures.view (λ e. (omega (arith, e, odd))),
       odd,
       was_at (ground_of c.args.image.now.key) c.args.lock c.meet-free.result (λ n. of_call (meets_lock c.args.lock)) c.args.seat.now.me.0 _ c.meet-free.ensures.view,
@@ -40,9 +40,9 @@ returns-else-free-clause-lock c =
     let e = met_leaves (ground_of c.args.image.now.key) c.args.lock c.meet-free.result c.args.seat.now.me.0 _ c.meet-free.ensures.view c.if-free.false in
     subst (λ (v : View). LockSays (ground_of c.args.image.now.key) c.args.lock v c.take.result c.take.new.seat.me.0.view) e c.take.ensures.lock
 
-pub returns-then-free-eq1-clause-events : goal.returns-then-free-eq1-clause-events
-returns-then-free-eq1-clause-events c = (
-  c.if-free-eq1.true,
+pub returns-then-is_locked-clause-events : goal.returns-then-is_locked-clause-events
+returns-then-is_locked-clause-events c = (
+  odd_of c.meet-free.result c.if-is_locked.ensures,
   inl (looked_once (ground_of c.args.image.now.key) c.args.lock c.meet-free.result (λ n. of_call (meets_lock c.args.lock)) c.args.seat.now.me.0 _ c.meet-free.ensures.view),
 )
 
@@ -53,5 +53,5 @@ returns-then-free-clause-events c =
 
 pub returns-else-free-clause-events : goal.returns-else-free-clause-events
 returns-else-free-clause-events c =
-    took_behind c.args.lock c.meet-free.result c.take.result c.args.seat.now.me.0.took c.meet-free.new.seat.me.0.took c.take.new.seat.me.0.took (even_of c.meet-free.result c.if-free-eq1.false) c.if-free.false
+    took_behind c.args.lock c.meet-free.result c.take.result c.args.seat.now.me.0.took c.meet-free.new.seat.me.0.took c.take.new.seat.me.0.took (even_of c.meet-free.result c.if-is_locked.ensures) c.if-free.false
     (looked_once (ground_of c.args.image.now.key) c.args.lock c.meet-free.result (λ n. of_call (meets_lock c.args.lock)) c.args.seat.now.me.0 _ c.meet-free.ensures.view) c.take.ensures.events
