@@ -289,10 +289,10 @@ impl Task {
     fn looked_at(&self, seen: Seen, place: Role, value: u64) -> ReadStep
         ensures { result ≡ next_in self.now (steps.Look seen place) value }
     {
-        if value % 2 == 0 {
-            looked(with_free(seen, place, value), place)
-        } else {
+        if is_locked(value) {
             busy(self.lock(&seen, &place), value)
+        } else {
+            looked(with_free(seen, place, value), place)
         }
     }
 
