@@ -1,7 +1,7 @@
 -- What the beginning of a repair wants in each step, and what an answer makes of it; and how it ends.
-use Rattle.std.specs.Prelude.{ℕ, zero, suc, ◌==◌, Bool, true, false, Option, None, Some, if◌then◌else◌}
+use Rattle.std.specs.Prelude.{ℕ, ◌==◌, Bool, true, false, Option, None, Some, if◌then◌else◌}
 use Rattle.trace.specs.Events.{line_of}
-use Rattle.segment_head.specs.HeadWord.{version_in, state_in, depth_in, pattern_in, free, normal, splitting}
+use Rattle.segment_head.specs.HeadWord.{version_in, state_in, depth_in, pattern_in, free, normal, splitting, linked_in}
 pub use Rattle.segment_head.specs.SplitHeads.{with_state}
 use Rattle.image_layout.specs.Volatile.{allocation_guard}
 use Rattle.way.specs.Ways.{head_word}
@@ -63,10 +63,13 @@ headed_to g =
 abbrev pub headed : RepairOp → ℕ → RepairOp
 headed op head = record { guarded = with_head op.guarded head; step = headed_to (with_head op.guarded head) }
 
--- behind that of the link, which is 0 or the number behind that of a slot
+-- behind that of the link, by the slot that it names
+abbrev pub linked_by : Option ℕ → RepairStep
+linked_by None = Unmark settling.Store
+linked_by (Some slot) = Side slot
+
 abbrev pub linked : ℕ → RepairStep
-linked zero = Unmark settling.Store
-linked (suc slot) = Side slot
+linked link = linked_by (linked_in link)
 
 -- behind that of the header of the slot that is linked
 abbrev pub met_side : RepairOp → ℕ → ℕ → RepairOp

@@ -3,18 +3,9 @@
 ghost use Rattle.std.specs.Prelude.{◌≡◌, ◌==◌, ◌≤◌, ◌<◌, ◌+◌, ◌*◌, ◌^◌};
 ghost use Rattle.segment_head.specs.HeadWord.{pattern_bits, depth_in, pattern_in};
 ghost use Rattle.world.specs.areas.Kinds.{is_new_side, is_ready_side};
-ghost use Rattle.segment_head.specs.SplitHeads.{side_pattern_in};
 
+use segment_head::split::side_pattern;
 use segment_head::word::{FRESH, PATTERN_BITS, depth_of, is_live, pattern_of, state_of};
-
-/// The pattern of the 1-side of a segment with this header: its own with a 1 behind it.
-fn side_pattern(head: u64) -> u64
-    ensures is { result ≡ side_pattern_in head }
-    ensures most { result < 2 ^ (pattern_bits + 1) }
-    ensures some { 1 ≤ result }
-{
-    2 * u64::from(pattern_of(head)) + 1
-}
 
 /// Whether a pattern is another one, followed by so many zeros.
 fn has_zeros(pattern: u32, before: u64, zeros: u8) -> bool

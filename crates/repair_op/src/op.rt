@@ -137,7 +137,7 @@ impl RepairOp {
     }
 }
 
-/// After the load of the link, which is 0 or the number behind that of a slot.
+/// After the load of the link, by the slot that it names.
 fn linked(link: u64) -> RepairStep
     ensures { result ≡ linked link }
 {
