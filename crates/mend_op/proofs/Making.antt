@@ -17,7 +17,7 @@ use Rattle.whole_segment.proofs.Stashing.{set_same, covered_same, rebuilt_same}
 use Rattle.whole_segment.proofs.Words.{same_words}
 use Rattle.mend_op.specs.declared.stage.Stage.TheVariants.{Clear, Mend, Note}
 use Rattle.mend_op.specs.Stages.{made}
-use Rattle.mend_op.specs.Words.{side_depth, side_pattern, own_depth, freed, first_of, third_of, key_of, HasWords, halved_first, mended_first, notes_of, halved, mended, noted}
+use Rattle.mend_op.specs.Words.{side_depth, side_pattern, own_depth, mended_lock, first_of, third_of, key_of, HasWords, halved_first, mended_first, notes_of, halved, mended, noted}
 
 -- ---- spoiled records, by words that are the same
 module _ (first later_first : ℕ → ℕ) (key later_key : ℕ → ℕ → ℕ) (hash : ℕ → ℕ) (words : (b : ℕ) → b < buckets → later_first b ≡ first b)
@@ -111,12 +111,12 @@ module _ (words : List ℕ) (loaded : Loaded) (has : HasWords words loaded) (sha
 
     -- with free locks, and without spoiled records
     module _ (first mid : List ℕ) (is : (b : ℕ) → b < buckets → slice_index first b ≡ cleared_mark (first_in loaded b) (spoiled_set (first_in loaded) (key_in loaded) hash (own_depth head) (pattern_in head) b))
-        (locks : (b : ℕ) → b < buckets → slice_index mid (block * b) ≡ freed (slice_index words (block * b)))
+        (locks : (b : ℕ) → b < buckets → slice_index mid (block * b) ≡ mended_lock (slice_index words (block * b)))
         (no_locks : (i : ℕ) → ((b : ℕ) → b < buckets → i ≢ block * b) → slice_index mid i ≡ slice_index words i)
         (here : (b : ℕ) → b < buckets → slice_index next (block * b + 1) ≡ slice_index first b)
         (others : (i : ℕ) → ((b : ℕ) → b < buckets → i ≢ block * b + 1) → slice_index next i ≡ slice_index mid i) where
       abbrev mended_by : ℕ → (lock one : Bool) → ℕ
-      mended_by i lock one = if lock then freed (slice_index words i) else if one then mended_first words shape head (i / block) else slice_index words i
+      mended_by i lock one = if lock then mended_lock (slice_index words i) else if one then mended_first words shape head (i / block) else slice_index words i
 
       lock_is : (i : ℕ) → i % block ≡ 0 → i ≡ block * (i / block)
       lock_is i is = omega (arith, is)
@@ -130,7 +130,7 @@ module _ (words : List ℕ) (loaded : Loaded) (has : HasWords words loaded) (sha
           elim (cases_eq (i % block) 0) [
             | inl lock ↦
                 others i (other_number i 1 buckets (λ one. omega (arith, lock, one)) (omega arith))
-                ∙ ap (slice_index mid) (lock_is i lock) ∙ locks (i / block) near ∙ ap (λ j. freed (slice_index words j)) (sym (lock_is i lock))
+                ∙ ap (slice_index mid) (lock_is i lock) ∙ locks (i / block) near ∙ ap (λ j. mended_lock (slice_index words j)) (sym (lock_is i lock))
                 ∙ sym (ap (λ t. mended_by i t (i % block == 1)) (eq-eqb (i % block) 0 lock))
             | inr free ↦ elim (cases_eq (i % block) 1) [
               | inl one ↦

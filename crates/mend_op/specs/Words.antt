@@ -1,7 +1,7 @@
 -- The words of the buckets of a segment, by their numbers: word n of bucket b is number 32 * b + n. And what a mending makes of them, in its
 -- three stages: of a split that ends the records of the 1-side leave, then locks are free and spoiled records leave, and then notes are exact.
-use Rattle.std.specs.Prelude.{◌≡◌, ℕ, min, ◌+◌, ◌-◌, ◌*◌, ◌/◌, ◌%◌, ◌<◌, ◌==◌, ◌&&◌, nat_lt, List, slice_index, if◌then◌else◌}
-use Rattle.bucket_meta.specs.Bucket.{record_slots, first_key, lock_bit, record_words}
+use Rattle.std.specs.Prelude.{◌≡◌, ℕ, min, ◌+◌, ◌*◌, ◌/◌, ◌%◌, ◌<◌, ◌==◌, ◌&&◌, nat_lt, List, slice_index, if◌then◌else◌}
+use Rattle.bucket_meta.specs.Bucket.{record_slots, first_key, without_lock, record_words}
 use Rattle.bucket_meta.specs.Marks.{cleared_mark}
 use Rattle.segment_head.specs.HeadWord.{depth_in, pattern_in, header_of, normal}
 use Rattle.hash_word.specs.Hash.{hash_bits}
@@ -32,9 +32,9 @@ finished_head head = zero_side_head normal head
 abbrev pub renewed_head : ℕ → ℕ → ℕ
 renewed_head version head = header_of version normal (depth_in head) (pattern_in head)
 
--- a lock word that is free, with its version
-abbrev pub freed : ℕ → ℕ
-freed w = w - lock_bit w
+-- what a mending makes of a lock word: it is free, with its version
+abbrev pub mended_lock : ℕ → ℕ
+mended_lock w = without_lock w
 
 -- ---- words
 module _ (words : List ℕ) where
@@ -73,7 +73,7 @@ module _ (words : List ℕ) where
     halved i = if i % block == 1 then halved_first (i / block) else slice_index words i
 
     abbrev pub mended : ℕ → ℕ
-    mended i = if i % block == 0 then freed (slice_index words i) else if i % block == 1 then mended_first (i / block) else slice_index words i
+    mended i = if i % block == 0 then mended_lock (slice_index words i) else if i % block == 1 then mended_first (i / block) else slice_index words i
 
     abbrev pub noted : ℕ → ℕ
     noted i =

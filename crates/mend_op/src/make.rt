@@ -2,13 +2,13 @@
 
 ghost use Rattle.std.specs.Prelude.{◌≡◌, ◌≢◌, ◌≤◌, ◌<◌, ◌+◌, ◌*◌, ℕ, length, slice_index};
 ghost use Rattle.image_layout.specs.Places.{buckets, block};
-ghost use Rattle.mend_op.specs.Words.{freed};
+ghost use Rattle.mend_op.specs.Words.{mended_lock};
 ghost use Rattle.mend_op.specs.Stages.{made};
 
 use crate::heads::own_depth;
 use crate::load::{Words, loaded_of};
 use crate::stage::Stage;
-use bucket_meta::words::BUCKET_WORDS;
+use bucket_meta::words::{BUCKET_WORDS, without_lock};
 use image_layout::{BUCKETS, Geometry};
 use segment_head::split::{one_pattern_field, side_depth};
 use segment_head::word::pattern_of;
@@ -28,11 +28,12 @@ fn put(words: &mut Words, number: usize, values: &[u64])
 
 /// Frees the lock words.
 fn free_locks(words: &mut Words)
-    ensures here { (b : ℕ) → b < buckets → slice_index words.new (block * b) ≡ freed (slice_index words.old (block * b)) }
+    ensures here { (b : ℕ) → b < buckets → slice_index words.new (block * b) ≡ mended_lock (slice_index words.old (block * b)) }
     ensures others { (i : ℕ) → ((b : ℕ) → b < buckets → i ≢ block * b) → slice_index words.new i ≡ slice_index words.old i }
 {
     for bucket in 0..usize::from(BUCKETS) {
-        words[BUCKET_WORDS * bucket] -= words[BUCKET_WORDS * bucket] % 2;
+        let lock = BUCKET_WORDS * bucket;
+        words[lock] = without_lock(words[lock]);
     }
 }
 

@@ -7,7 +7,7 @@ use Rattle.whole_segment.specs.Records.{Stands}
 use Rattle.world.specs.Ground.{Ground}
 use Rattle.repair_op.specs.declared.guarded.Guarded.{Guarded}
 use Rattle.mend_op.specs.declared.stage.Stage.TheVariants.{Mend}
-use Rattle.mend_op.specs.Words.{freed, first_of, key_of, mended_first}
+use Rattle.mend_op.specs.Words.{mended_lock, first_of, key_of, mended_first}
 use Rattle.mend_op.specs.Stages.{made}
 use Rattle.mend_op.specs.Stands.{AreLookedFor, AreMended}
 use Rattle.mend_op.proofs.stages.Placing.{made_is, freed_at, mended_at, mended_else}
@@ -37,7 +37,7 @@ module _ (site : Ground) (guarded : Guarded) (base : List ℕ) (small : (i : ℕ
     has_key = sym (left_key b r stands.bucket stands.slot) ∙ stands.has_key;
   }
 
-  freed_even : (w : ℕ) → freed w % 2 ≡ 0
+  freed_even : (w : ℕ) → mended_lock w % 2 ≡ 0
   freed_even w = omega arith
 
   pub is_left_mended : AreMended site guarded left

@@ -1,5 +1,5 @@
 -- A lock is freed, and spoiled records leave a bucket.
-use Rattle.std.proofs.Common.{◌≡◌, ℕ, suc, ◌+◌, ◌-◌, ◌*◌, ◌/◌, ◌%◌, ◌^◌, ◌<◌, ◌≤◌, ◌⊎◌, Bool, true, false, List, slice_index, inl, inr, refl, sym, ap, ◌∙◌, subst, arith}
+use Rattle.std.proofs.Common.{◌≡◌, ℕ, suc, ◌+◌, ◌*◌, ◌/◌, ◌%◌, ◌^◌, ◌<◌, ◌≤◌, ◌⊎◌, Bool, true, false, List, slice_index, inl, inr, refl, sym, ap, ◌∙◌, subst, arith}
 use Rattle.std.proofs.lemmas.Bool.{cases_eq, cases_Bool}
 use Rattle.trace.specs.Events.{Words}
 use Rattle.word_bits.specs.Bits.{bit}
@@ -28,7 +28,7 @@ use Rattle.rounds.specs.declared.rounds.Rounds.{Rounds}
 use Rattle.repair_op.specs.Guarded.{IsOld}
 use Rattle.mend_op.specs.declared.stage.Stage.TheVariants.{Mend}
 use Rattle.mend_op.specs.declared.op.MendOp.{MendOp}
-use Rattle.mend_op.specs.Words.{own_depth, freed, first_of, key_of, mended_first}
+use Rattle.mend_op.specs.Words.{own_depth, mended_lock, first_of, key_of, mended_first}
 use Rattle.mend_op.specs.Stages.{most, place, made_word}
 use Rattle.mend_op.specs.Stands.{place_of, IsRounding}
 use Rattle.mend_op.proofs.stages.Placing.{place_low, place_apart as number_apart, made_is, freed_at, mended_at}
@@ -144,20 +144,20 @@ module _ (site : Ground) (ground : IsGround site) (op : MendOp) (same_shape : op
     bucket_near : b < buckets
     bucket_near = omega (arith, is, near)
 
-    lock_freed : slice_index op.next (place Mend n) ≡ freed (slice_index base (place Mend n))
+    lock_freed : slice_index op.next (place Mend n) ≡ mended_lock (slice_index base (place Mend n))
     lock_freed =
-        value_is n near ∙ ap (made_word Mend site.shape head base) lock_place ∙ freed_at base site.shape head b ∙ ap (λ i. freed (slice_index base i)) (sym lock_place)
+        value_is n near ∙ ap (made_word Mend site.shape head base) lock_place ∙ freed_at base site.shape head b ∙ ap (λ i. mended_lock (slice_index base i)) (sym lock_place)
 
     taken : slice_index base (place Mend n) ≡ suc (slice_index op.next (place Mend n))
     taken = by (slice_index base (place Mend n)) (slice_index op.next (place Mend n)) lock_freed (λ same. c.changes near (here ∙ same))
       where
-        by : (w x : ℕ) → x ≡ w - w % 2 → (w ≡ x → ⊥) → w ≡ suc x
+        by : (w x : ℕ) → x ≡ mended_lock w → (w ≡ x → ⊥) → w ≡ suc x
         by w x is apart = omega (arith, is, apart)
 
     even : slice_index op.next (place Mend n) % 2 ≡ 0
     even = by (slice_index base (place Mend n)) (slice_index op.next (place Mend n)) lock_freed
       where
-        by : (w x : ℕ) → x ≡ w - w % 2 → x % 2 ≡ 0
+        by : (w x : ℕ) → x ≡ mended_lock w → x % 2 ≡ 0
         by w x is = omega (arith, is)
 
     lock_is : place_of site op.guarded (place Mend n) ≡ at b

@@ -12,7 +12,7 @@ use Rattle.whole_segment.proofs.Words.{word_is, words_small}
 use Rattle.whole_segment.proofs.rebuilding.Written.{first_made_small, third_made_small}
 use Rattle.mend_op.specs.declared.stage.Stage.{Stage}
 use Rattle.mend_op.specs.declared.stage.Stage.TheVariants.{Clear, Mend, Note}
-use Rattle.mend_op.specs.Words.{freed, first_of, third_of, key_of, halved_first, mended_first, notes_of, halved, mended, noted}
+use Rattle.mend_op.specs.Words.{mended_lock, first_of, third_of, key_of, halved_first, mended_first, notes_of, halved, mended, noted}
 use Rattle.mend_op.specs.Stages.{most, place, made_word, made}
 
 -- each is a word of the buckets, and they are apart
@@ -35,7 +35,7 @@ module _ (words : List ℕ) (shape : Shape) (head : ℕ) where
   at_number b n low = omega (arith, low)
 
   abbrev mended_by : ℕ → (lock one : Bool) → ℕ
-  mended_by i lock one = if lock then freed (slice_index words i) else if one then mended_first words shape head (i / block) else slice_index words i
+  mended_by i lock one = if lock then mended_lock (slice_index words i) else if one then mended_first words shape head (i / block) else slice_index words i
 
   abbrev noted_by : ℕ → (home one three : Bool) → ℕ
   noted_by i home one three =
@@ -56,7 +56,7 @@ module _ (words : List ℕ) (shape : Shape) (head : ℕ) where
   halved_else i apart = ap (λ t. if t then halved_first words shape head (i / block) else slice_index words i) (ne_eqb (i % block) 1 apart)
 
   -- a free lock, and word 1 without spoiled records
-  pub freed_at : (b : ℕ) → mended words shape head (block * b) ≡ freed (slice_index words (block * b))
+  pub freed_at : (b : ℕ) → mended words shape head (block * b) ≡ mended_lock (slice_index words (block * b))
   freed_at b = let i : ℕ = block * b in ap (λ t. mended_by i t (is_at i 1)) (eq-eqb (i % block) 0 (omega arith))
 
   pub mended_at : (b : ℕ) → mended words shape head (block * b + 1) ≡ mended_first words shape head b
@@ -140,7 +140,7 @@ module _ (words : List ℕ) (shape : Shape) (head : ℕ) where
     made_small_at Clear i low = by_choice (is_at i 1) (halved_first words shape head (i / block)) (slice_index words i) (cleared_small (first_of words (i / block)) _) (small i)
     made_small_at Mend i low =
         let was = small i in
-        by_choice (is_at i 0) (freed (slice_index words i)) (if is_at i 1 then mended_first words shape head (i / block) else slice_index words i) (omega (arith, was))
+        by_choice (is_at i 0) (mended_lock (slice_index words i)) (if is_at i 1 then mended_first words shape head (i / block) else slice_index words i) (omega (arith, was))
         (by_choice (is_at i 1) (mended_first words shape head (i / block)) (slice_index words i) (cleared_small (first_of words (i / block)) _) (small i))
     made_small_at Note i low = elim (cases_lt (i / block) homes) [
       | inr stash ↦ subst (λ (x : ℕ). x < 2 ^ 64) (sym (noted_stash i stash)) (small i)
