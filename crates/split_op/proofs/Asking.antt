@@ -4,6 +4,7 @@ use Rattle.std.specs.Prelude.{nat_lt, ◌==◌, ◌||◌, not, if◌then◌else�
 use Rattle.word_bits.specs.Bits.{bit}
 use Rattle.std.proofs.lemmas.Bool.{eq-eqb, ne_eqb, both_ways}
 use Rattle.trace.specs.Events.{Words}
+use Rattle.bucket_meta.specs.Bucket.{without_lock}
 use Rattle.segment_head.specs.HeadWord.{version_in, state_in, depth_in, pattern_in, free, normal, splitting, fresh, HasLiveState, header_of}
 use Rattle.image_layout.specs.Places.{head_at, segment_words}
 use Rattle.frame_facts.specs.DeadSlots.{IsPlainInSlot}
@@ -124,7 +125,7 @@ module _ (site : Ground) (ground : IsGround site) (here : Site) (call : Call) (c
       by f n p s b e = omega (arith, e)
 
   empty_even : (locks : List ℕ) (p : ℕ) → empty_value locks p % 2 ≡ 0
-  empty_even locks p = choose (λ (z : ℕ). z % 2 ≡ 0) (nat_lt p 32 || nat_lt 0 (p % 32)) 0 (slice_index locks (p / 32 - 1) / 2 * 2) (λ _. refl) (λ _. omega arith)
+  empty_even locks p = choose (λ (z : ℕ). z % 2 ≡ 0) (nat_lt p 32 || nat_lt 0 (p % 32)) 0 (without_lock (slice_index locks (p / 32 - 1))) (λ _. refl) (λ _. omega arith)
 
   module _ (locks : List ℕ) where
     -- what may be loose is no header of the side, and no word of the segment, while words of the slot are stored

@@ -2,6 +2,7 @@
 use Rattle.std.proofs.Common.{◌≡◌, ℕ, ◌+◌, ◌-◌, ◌*◌, ◌/◌, ◌%◌, ◌<◌, ◌≤◌, ◌⊎◌, Bool, List, slice_index, inl, inr, sym, ap, ◌∙◌, subst, arith}
 use Rattle.std.specs.Prelude.{nat_lt, ◌||◌, ◌&&◌, not, ◌==◌, min, if◌then◌else◌}
 use Rattle.std.proofs.lemmas.Bool.{cases_lt, cases_Bool, lt-ltb, le-ltb, eqb-true}
+use Rattle.bucket_meta.specs.Bucket.{without_lock}
 use Rattle.image_layout.specs.Places.{Shape, root_word, head_at, bucket_at, buckets, segment_words, most_segments}
 use Rattle.frame_facts.specs.DeadSlots.{IsInSlot}
 use Rattle.world.proofs.fitting.OneHolder.{one_slot}
@@ -55,21 +56,21 @@ bucket_no_head shape s b m p low e = by (head_at shape s) b m p low e
 
 -- ---- what words are emptied to
 pub other_value : (locks : List ℕ) (p : ℕ) → (p < 32) ⊎ (0 < p % 32) → empty_value locks p ≡ 0
-other_value locks p (inl low) = ap (λ (b : Bool). if b || nat_lt 0 (p % 32) then 0 else slice_index locks (p / 32 - 1) / 2 * 2) (lt-ltb p 32 low)
+other_value locks p (inl low) = ap (λ (b : Bool). if b || nat_lt 0 (p % 32) then 0 else without_lock (slice_index locks (p / 32 - 1))) (lt-ltb p 32 low)
 other_value locks p (inr some) = elim (cases_Bool (nat_lt p 32)) [
-  | inl is ↦ ap (λ (b : Bool). if b || nat_lt 0 (p % 32) then 0 else slice_index locks (p / 32 - 1) / 2 * 2) is
-  | inr is ↦ ap (λ (b : Bool). if b || nat_lt 0 (p % 32) then 0 else slice_index locks (p / 32 - 1) / 2 * 2) is
-      ∙ ap (λ (b : Bool). if b then 0 else slice_index locks (p / 32 - 1) / 2 * 2) (lt-ltb 0 (p % 32) some)
+  | inl is ↦ ap (λ (b : Bool). if b || nat_lt 0 (p % 32) then 0 else without_lock (slice_index locks (p / 32 - 1))) is
+  | inr is ↦ ap (λ (b : Bool). if b || nat_lt 0 (p % 32) then 0 else without_lock (slice_index locks (p / 32 - 1))) is
+      ∙ ap (λ (b : Bool). if b then 0 else without_lock (slice_index locks (p / 32 - 1))) (lt-ltb 0 (p % 32) some)
 ]
 
-pub lock_value : (locks : List ℕ) (b : ℕ) → empty_value locks (32 + 32 * b) ≡ slice_index locks b / 2 * 2
+pub lock_value : (locks : List ℕ) (b : ℕ) → empty_value locks (32 + 32 * b) ≡ without_lock (slice_index locks b)
 lock_value locks b =
     let p : ℕ = 32 + 32 * b in
-    ap (λ (t : Bool). if t || nat_lt 0 (p % 32) then 0 else slice_index locks (p / 32 - 1) / 2 * 2) (le-ltb p 32 (omega arith))
-    ∙ ap (λ (t : Bool). if t then 0 else slice_index locks (p / 32 - 1) / 2 * 2) (le-ltb 0 (p % 32) (omega arith))
-    ∙ ap (λ (n : ℕ). slice_index locks n / 2 * 2) (let same : p / 32 - 1 ≡ b = omega arith in same)
+    ap (λ (t : Bool). if t || nat_lt 0 (p % 32) then 0 else without_lock (slice_index locks (p / 32 - 1))) (le-ltb p 32 (omega arith))
+    ∙ ap (λ (t : Bool). if t then 0 else without_lock (slice_index locks (p / 32 - 1))) (le-ltb 0 (p % 32) (omega arith))
+    ∙ ap (λ (n : ℕ). without_lock (slice_index locks n)) (let same : p / 32 - 1 ≡ b = omega arith in same)
 
-pub even_value : (x : ℕ) → x % 2 ≡ 0 → x / 2 * 2 ≡ x
+pub even_value : (x : ℕ) → x % 2 ≡ 0 → without_lock x ≡ x
 even_value x even = omega (arith, even)
 
 -- ---- which word is emptied behind one

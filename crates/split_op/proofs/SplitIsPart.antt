@@ -11,6 +11,7 @@ use Rattle.op_core.specs.declared.want.Want.TheVariants as want
 use Rattle.op_core.specs.declared.want.Ans.{Ans}
 use Rattle.op_core.specs.declared.want.Ans.TheVariants.{Won, Lost, Passed}
 use Rattle.trace.specs.Events.{Words}
+use Rattle.bucket_meta.specs.Bucket.{without_lock}
 use Rattle.image_layout.specs.Places.{Shape, buckets, first_segment, segment_words}
 use Rattle.image_layout.specs.Volatile.{counter_word, allocation_guard, all_words_of}
 use Rattle.map_model.specs.declared.call.Call.{Call}
@@ -167,14 +168,14 @@ module _ (site : Ground) (here : Site) (call : Call) (op : SplitOp) (is : IsOf s
   second_is : (q r : ℕ × ℕ) → Some q ≡ Some r → q.1 ≡ r.1
   second_is q r f = ap (λ (z : ℕ × ℕ). z.1) (same_Some _ _ f)
 
-  half_fits : (x : ℕ) → x < 2 ^ 64 → x / 2 * 2 < 2 ^ 64
-  half_fits x small = omega (arith, small)
+  free_fits : (x : ℕ) → x < 2 ^ 64 → without_lock x < 2 ^ 64
+  free_fits x small = omega (arith, small)
 
   value_fits : (batch : Batch) (rounds : Rounds) → IsPutting site here call op.copied op.locks batch rounds v → (word value : ℕ) → due op.copied op.locks batch ≡ Some (word, value) → value < 2 ^ 64
   value_fits (Empty k) rounds s word value f =
       let o = due_if (nat_lt k segment_words) (slot_word e.site.geometry op.copied.side k, empty_value op.locks k) (word, value) f in
       subst (λ (z : ℕ). z < 2 ^ 64) (ap (λ (z : ℕ × ℕ). z.1) o.1)
-      (choose (λ (z : ℕ). z < 2 ^ 64) (nat_lt k 32 || nat_lt 0 (k % 32)) 0 (slice_index op.locks (k / 32 - 1) / 2 * 2) (λ _. omega arith) (λ _. half_fits (slice_index op.locks (k / 32 - 1)) (s.splits.slot.row.small (k / 32 - 1))))
+      (choose (λ (z : ℕ). z < 2 ^ 64) (nat_lt k 32 || nat_lt 0 (k % 32)) 0 (without_lock (slice_index op.locks (k / 32 - 1))) (λ _. omega arith) (λ _. free_fits (slice_index op.locks (k / 32 - 1)) (s.splits.slot.row.small (k / 32 - 1))))
   value_fits (Link false) rounds s word value f =
       subst (λ (z : ℕ). z < 2 ^ 64) (second_is (slot_word e.site.geometry e.segment 2, suc op.copied.side % 2 ^ 64) (word, value) f) (omega arith)
   value_fits (Link true) rounds s word value f = absurd (none-some _ f)

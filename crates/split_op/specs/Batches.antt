@@ -1,6 +1,6 @@
 -- WHAT A SPLIT STORES, one store after another: to empty a slot, to link it, the two headers, and the copies.
 use Rattle.std.specs.Prelude.{ℕ, zero, suc, ◌+◌, ◌-◌, ◌*◌, ◌/◌, ◌%◌, ◌^◌, nat_lt, ◌==◌, ◌&&◌, ◌||◌, not, Bool, true, false, Option, None, Some, List, slice_index, if◌then◌else◌}
-use Rattle.bucket_meta.specs.Bucket.{first_key, lock_bit, lock_version, record_words}
+use Rattle.bucket_meta.specs.Bucket.{first_key, lock_bit, without_lock, record_words}
 use Rattle.bucket_meta.specs.Search.{is_taken}
 use Rattle.segment_head.specs.HeadWord.{link_to}
 use Rattle.image_layout.specs.Places.{Shape, root_word, head_at, segment_words, buckets, block, header_number, link_number}
@@ -16,7 +16,7 @@ slot_word shape slot number = if nat_lt slot shape.segments then head_at shape s
 -- ---- a slot is emptied
 -- what a word is emptied to: a lock word to the free value of its version, and another to 0
 abbrev pub empty_value : List ℕ → ℕ → ℕ
-empty_value locks number = if nat_lt number block || nat_lt 0 (number % block) then 0 else lock_version (slice_index locks (number / block - 1)) * 2
+empty_value locks number = if nat_lt number block || nat_lt 0 (number % block) then 0 else without_lock (slice_index locks (number / block - 1))
 
 -- the first word of a bucket that is emptied: its lock word where that is not free
 abbrev pub first_of : List ℕ → ℕ → ℕ

@@ -7,7 +7,7 @@ ghost use Rattle.split_op.specs.Batches.{slot_word, empty_value, first_of, after
 
 use crate::copied::Copied;
 use crate::seek::copied_from;
-use bucket_meta::words;
+use bucket_meta::words::{self, is_locked, without_lock};
 use enclose_op::Enclosed;
 use image_layout::{BLOCK_WORDS, BUCKETS, Geometry, HEADER, LINK, ROOT_WORD, SEGMENT_WORDS};
 use segment_head::link::link_to;
@@ -80,7 +80,7 @@ fn empty_value(locks: &[u64; BUCKETS as usize], number: u16) -> u64
     if number < BLOCK_WORDS || number % BLOCK_WORDS > 0 {
         0
     } else {
-        locks[usize::from(number / BLOCK_WORDS - 1)] / 2 * 2
+        without_lock(locks[usize::from(number / BLOCK_WORDS - 1)])
     }
 }
 
@@ -90,10 +90,10 @@ fn first_of(locks: &[u64; BUCKETS as usize], bucket: u16) -> u16
 {
     if bucket >= u16::from(BUCKETS) {
         SLOT_WORDS
-    } else if locks[usize::from(bucket)] % 2 == 0 {
-        BLOCK_WORDS * bucket + BLOCK_WORDS + 1
-    } else {
+    } else if is_locked(locks[usize::from(bucket)]) {
         BLOCK_WORDS * bucket + BLOCK_WORDS
+    } else {
+        BLOCK_WORDS * bucket + BLOCK_WORDS + 1
     }
 }
 
