@@ -20,6 +20,10 @@ hash_of Mix key = mixed key
 abbrev pub fingerprint_bits : ℕ
 fingerprint_bits = 8
 
+-- the bits of a fingerprint, which are the lowest ones
+abbrev pub finger_mask : ℕ
+finger_mask = 2 ^ fingerprint_bits - 1
+
 -- bits 0 to 7 are the fingerprint
 abbrev pub finger_of : ℕ → ℕ
 finger_of h = h % 2 ^ fingerprint_bits
@@ -59,6 +63,10 @@ first_hash_of depth number = number * 2 ^ (hash_bits - depth)
 -- the greatest depth that a directory may have
 abbrev pub most_depth : ℕ
 most_depth = 16
+
+-- how many bits the version of an image has, in its state word and in each header word
+abbrev pub version_bits : ℕ
+version_bits = 8
 
 -- the place of a hash in a directory of depth g
 abbrev pub index_of : ℕ → ℕ → ℕ

@@ -16,14 +16,17 @@ pub const FINGERPRINT_BITS: u32 = 8;
 /// The greatest depth that a directory may have.
 pub const MOST_DEPTH: u64 = 16;
 
+/// How many bits the version of an image has, in its state word and in each header word.
+pub const VERSION_BITS: u32 = 8;
+
 /// How many home buckets a segment has.
 pub const HOMES: u8 = 64;
 
 /// The bits of a home bucket's number.
 const HOME_BITS: u64 = HOMES as u64 - 1;
 
-/// The bits of a fingerprint.
-const FINGER_MASK: u64 = (1 << FINGERPRINT_BITS) - 1;
+/// The bits of a fingerprint, which are the lowest ones.
+pub const FINGER_MASK: u64 = (1 << FINGERPRINT_BITS) - 1;
 
 /// How a key is hashed.
 #[derive(Clone, Copy, Debug, PartialEq, Eq)]
