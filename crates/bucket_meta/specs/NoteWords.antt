@@ -2,7 +2,7 @@
 use Rattle.std.specs.Prelude.{◌≡◌, ◌≢◌, ℕ, ◌+◌, ◌-◌, ◌*◌, ◌%◌, ◌^◌, ◌<◌, ◌==◌, Bool, not, Option, None, Some, bit_and, bit_or, if◌then◌else◌}
 use Rattle.std.specs.Int.{bit_not, w64}
 use Rattle.word_bits.specs.Bits.{mask}
-use Rattle.hash_word.specs.Hash.{fingerprint_bits}
+use Rattle.hash_word.specs.Hash.{fingerprint_bits, finger_mask}
 use Rattle.bucket_meta.specs.Bucket.{note_used, note_member, note_index, note_finger, overflow_count, record_slots, note_slots, fingers_of_word, note_used_from, note_member_from, note_index_from, count_from, upper_fingers_from, last_finger_from, note_fingers_from, slots_part, slot_fingers_part}
 use Rattle.bucket_meta.specs.Marks.{with_finger}
 use Rattle.bucket_meta.specs.Visits.{is_note}
@@ -18,7 +18,7 @@ note_place w1 w3 side finger index =
 
 -- the fingerprints of places 2 and 3 stand in the metadata word
 abbrev pub finger_bits : ℕ → ℕ
-finger_bits i = if i == 2 then 255 * 2 ^ upper_fingers_from else if i == 3 then 255 * 2 ^ last_finger_from else 0
+finger_bits i = if i == 2 then finger_mask * 2 ^ upper_fingers_from else if i == 3 then finger_mask * 2 ^ last_finger_from else 0
 
 -- the metadata word where note slot i is free: each of its bits there is 0
 abbrev pub freed_mark : ℕ → ℕ → ℕ

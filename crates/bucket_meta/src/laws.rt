@@ -1,6 +1,7 @@
 //! Words and fields determine each other, and the words that are stored of one slot leave the others.
 
 ghost use Rattle.std.specs.Prelude.{◌≡◌, ℕ, ◌^◌, ◌<◌, ◌≤◌, slice_index};
+ghost use Rattle.hash_word.specs.Hash.{fingerprint_bits};
 ghost use Rattle.bucket_meta.specs.MetaWords.{WordsGiveMeta, MetaGivesWords};
 ghost use Rattle.bucket_meta.specs.Marks.{inserted_mark, member_mark, removed_mark, with_finger, TakesSlot, TakesSlotAsMember, FreesSlot, SetsFinger, SameNotes, KeepsUpper};
 ghost use Rattle.bucket_meta.specs.NoteWords.{freed_mark, freed_fingers, FreesPlace};
@@ -62,6 +63,6 @@ pub fn notes_are_freed()
 
 /// A word of fingerprints with a slot's changed has that one there, and those of the other slots as they were.
 pub fn fingers_change_one_slot()
-    ensures low { (w2 w3 slot f : ℕ) → slot < fingers_of_word → f < 256 → SetsFinger w2 w3 (with_finger w2 slot f) w3 slot f }
-    ensures high { (w2 w3 slot f : ℕ) → fingers_of_word ≤ slot → slot < record_slots → f < 256 → SetsFinger w2 w3 w2 (with_finger w3 slot f) slot f }
+    ensures low { (w2 w3 slot f : ℕ) → slot < fingers_of_word → f < 2 ^ fingerprint_bits → SetsFinger w2 w3 (with_finger w2 slot f) w3 slot f }
+    ensures high { (w2 w3 slot f : ℕ) → fingers_of_word ≤ slot → slot < record_slots → f < 2 ^ fingerprint_bits → SetsFinger w2 w3 w2 (with_finger w3 slot f) slot f }
 {}

@@ -9,7 +9,7 @@ ghost use Rattle.bucket_meta.specs.Marks.{inserted_mark, member_mark, removed_ma
 ghost use Rattle.bucket_meta.specs.Visits.{is_note, is_named, must_visit};
 ghost use Rattle.bucket_meta.specs.NoteWords.{note_place, finger_bits, freed_mark, freed_fingers, lowered_count, is_unused, unused_place, with_bit, with_note_finger, noted_mark, noted_fingers, raised_count};
 
-use hash_word::FINGERPRINT_BITS;
+use hash_word::{FINGER_MASK, FINGERPRINT_BITS};
 use word_bits::{bits_of, is_set, mask};
 
 /// How many words a bucket has.
@@ -382,8 +382,8 @@ fn finger_bits(place: u8) -> u64
     ensures { result ≡ finger_bits place }
 {
     match place {
-        2 => 0xFF << UPPER_FINGERS_FROM,
-        3 => 0xFF << LAST_FINGER_FROM,
+        2 => FINGER_MASK << UPPER_FINGERS_FROM,
+        3 => FINGER_MASK << LAST_FINGER_FROM,
         _ => 0,
     }
 }
