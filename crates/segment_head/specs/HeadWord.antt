@@ -1,10 +1,8 @@
 -- The fields of the header word of a segment.
 use Rattle.std.specs.Prelude.{◌≡◌, ◌⊎◌, ℕ, zero, suc, Bool, Option, None, Some, ◌==◌, ◌||◌, ◌+◌, ◌*◌, ◌/◌, ◌%◌, ◌^◌}
+use Rattle.hash_word.specs.Hash.{version_bits}
 
--- how many bits each field has, and the lowest bit of each; they follow one another from bit 0 on, and spare bits are no field
-abbrev pub version_bits : ℕ
-version_bits = 8
-
+-- how many bits each field behind the version has, and the lowest bit of each; they follow one another, the version from bit 0 on, and spare bits are no field
 abbrev pub state_bits : ℕ
 state_bits = 8
 

@@ -3,7 +3,7 @@
 ghost use Rattle.std.specs.Prelude.{◌≡◌};
 ghost use Rattle.segment_head.specs.Versions.{unversioned};
 
-use crate::word::VERSION_BITS;
+use hash_word::VERSION_BITS;
 
 /// How many versions the version byte may say.
 const VERSIONS: u64 = 1 << VERSION_BITS;

@@ -4,10 +4,9 @@
 ghost use Rattle.std.specs.Prelude.{◌≡◌, ◌↔◌, ◌⊎◌, IsTrue};
 ghost use Rattle.segment_head.specs.HeadWord.{version_in, state_in, depth_in, pattern_in, header_of, is_live, HasLiveState};
 
+use hash_word::VERSION_BITS;
 use word_bits::with_bits;
 
-/// How many bits the version has, the lowest ones of the word.
-pub(crate) const VERSION_BITS: u32 = 8;
 /// How many bits the state byte has.
 const STATE_BITS: u32 = 8;
 /// How many bits the depth has.
