@@ -53,13 +53,21 @@ front_depth = 3
 abbrev pub stash_buckets : ℕ
 stash_buckets = 2
 
+-- the number of the second one; that of the first is homes
+abbrev pub second_stash : ℕ
+second_stash = homes + 1
+
 -- how many buckets a segment has
 abbrev pub buckets : ℕ
 buckets = homes + stash_buckets
 
--- in how many record slots a key may stand: those of its home and its probing bucket, and of the stash buckets
+-- in how many buckets a key may stand: its home and its probing bucket, and the stash buckets
+abbrev pub buckets_of_key : ℕ
+buckets_of_key = 2 + stash_buckets
+
+-- in how many record slots: those of these buckets
 abbrev pub slots_of_key : ℕ
-slots_of_key = (2 + stash_buckets) * record_slots
+slots_of_key = buckets_of_key * record_slots
 
 -- how many record slots a segment has, in all its buckets
 abbrev pub segment_slots : ℕ

@@ -1,13 +1,10 @@
 -- The state word of an image: its version and the clean marker.
 use Rattle.std.specs.Prelude.{◌≡◌, ℕ, ◌+◌, ◌-◌, ◌/◌, ◌%◌, ◌^◌, ◌==◌, if◌then◌else◌}
+use Rattle.hash_word.specs.Hash.{version_bits}
 
 -- the version of a new image, and of one whose headers lost theirs
 abbrev pub first_version : ℕ
 first_version = 1
-
--- how many bits the version has, the lowest ones of the word
-abbrev pub version_bits : ℕ
-version_bits = 8
 
 -- bits 0 to 7: the version of the image
 abbrev pub image_version_in : ℕ → ℕ

@@ -1,9 +1,10 @@
 //! Where the parts of an image stand.
 //! An image is a list of 64-bit words: 32 words about the whole, an area of the directory for each depth, and
 //! then the segments, of a header and 66 buckets. [`Geometry`] gives the word number of each part;
-//! `specs/Places.antt` says what that number is. [`state`] has the functions of the state word.
+//! `specs/Places.antt` says what that number is. [`format`] has the functions of the format word, and [`state`] those of the state word.
 #![tactic(auto)]
 
+pub mod format;
 mod laws;
 mod shape;
 pub mod state;
@@ -11,8 +12,8 @@ pub mod state;
 pub use hash_word::{HOMES, MOST_DEPTH};
 pub use laws::{parts_apart, parts_within, shape_in_range};
 pub use shape::{
-    BLOCK, BLOCK_WORDS, BUCKETS, FORMAT_NUMBER, FRONT_DEPTH, FRONT_FORMAT, FRONT_MAGIC,
-    FRONT_SEGMENTS, GeoFault, Geometry, HEADER, KIND_FROM, LAST_OF_BUCKETS, LINK, MOST_KIND,
-    MOST_SEGMENTS, MOST_WORDS, NOTE_WORDS, ROOT_WORD, SEGMENT_SLOTS, SEGMENT_WORDS, SLOTS_OF_KEY,
-    STASH_BUCKETS, STATE_WORD, WORDS_OF_BUCKETS, power_of_two,
+    BLOCK, BLOCK_WORDS, BUCKETS, FRONT_DEPTH, FRONT_FORMAT, FRONT_MAGIC, FRONT_SEGMENTS, GeoFault,
+    Geometry, HEADER, LAST_OF_BUCKETS, LINK, MOST_KIND, MOST_SEGMENTS, MOST_WORDS, NOTE_WORDS,
+    ROOT_WORD, SECOND_STASH, SEGMENT_SLOTS, SEGMENT_WORDS, SLOTS_OF_KEY, STASH_BUCKETS, STATE_WORD,
+    WORDS_OF_BUCKETS, power_of_two,
 };

@@ -26,8 +26,12 @@ pub const STATE_WORD: u64 = 16;
 pub const BLOCK: u64 = BUCKET_WORDS as u64;
 /// How many stash buckets a segment has, behind its homes.
 pub const STASH_BUCKETS: u8 = 2;
-/// In how many record slots a key may stand: those of its home and its probing bucket, and of the stash buckets.
-pub const SLOTS_OF_KEY: u8 = (2 + STASH_BUCKETS) * SLOTS;
+/// The number of the second one; that of the first is [`HOMES`].
+pub const SECOND_STASH: u8 = HOMES + 1;
+/// In how many buckets a key may stand: its home and its probing bucket, and the stash buckets.
+const BUCKETS_OF_KEY: u8 = 2 + STASH_BUCKETS;
+/// In how many record slots a key may stand: those of these buckets.
+pub const SLOTS_OF_KEY: u8 = BUCKETS_OF_KEY * SLOTS;
 /// How many buckets a segment has.
 pub const BUCKETS: u8 = HOMES + STASH_BUCKETS;
 /// Which of the words of a slot for a segment is its header word, counted from the first, which is 0.
@@ -55,10 +59,6 @@ const FIRST_SEGMENT_OF_LARGEST: u64 = (BLOCK + (1u64 << (MOST_DEPTH + 1)) - 1 + 
 pub const MOST_WORDS: u64 = FIRST_SEGMENT_OF_LARGEST + SEGMENT_WORDS * MOST_SEGMENTS;
 /// The greatest kind of hash.
 pub const MOST_KIND: u64 = 1;
-/// The number of the format, below the kind of hash in one word.
-pub const FORMAT_NUMBER: u64 = 1;
-/// From which bit of that word on the kind of hash stands there.
-pub const KIND_FROM: u32 = 32;
 /// How many words behind the commit counter the power word stands.
 const POWER: u64 = 1;
 /// How many words stand between those of the image and the guards of segments.

@@ -3,8 +3,7 @@
 ghost use Rattle.std.specs.Prelude.{◌≡◌, ◌↔◌, IsTrue};
 ghost use Rattle.image_layout.specs.StateWord.{image_version_in, with_marker, IsMarked};
 
-/// How many bits the version has, the lowest ones of the word.
-const VERSION_BITS: u32 = 8;
+use hash_word::VERSION_BITS;
 
 /// The version of a new image, and of one whose headers lost theirs.
 pub const FIRST_VERSION: u8 = 1;
