@@ -3,11 +3,11 @@
 use Rattle.std.specs.Prelude.{◌≡◌, ℕ, zero, suc, ◌+◌, ◌*◌, ◌%◌, ◌<◌, nat_lt, Bool, false, ◌==◌, ◌&&◌, ◌||◌, if◌then◌else◌}
 use Rattle.hash_word.specs.Hash.{probing_of, home_of}
 use Rattle.bucket_meta.specs.Bucket.{allocated, record_slots}
-use Rattle.image_layout.specs.Places.{homes, slots_of_key}
+use Rattle.image_layout.specs.Places.{homes, second_stash, slots_of_key}
 
 -- the bucket of a position, for a key of this home
 abbrev pub bucket_at : ℕ → ℕ → ℕ
-bucket_at home p = if nat_lt p record_slots then home else if nat_lt p (2 * record_slots) then probing_of home else if nat_lt p (3 * record_slots) then homes else homes + 1
+bucket_at home p = if nat_lt p record_slots then home else if nat_lt p (2 * record_slots) then probing_of home else if nat_lt p (3 * record_slots) then homes else second_stash
 
 -- its slot
 abbrev pub slot_at : ℕ → ℕ
@@ -16,7 +16,7 @@ slot_at p = p % record_slots
 -- the position of slot r of bucket b, which is behind all others where no key of this home is looked for
 abbrev pub position_of : ℕ → ℕ → ℕ → ℕ
 position_of home b r =
-    if b == home then r else if b == probing_of home then record_slots + r else if b == homes then 2 * record_slots + r else if b == homes + 1 then 3 * record_slots + r else slots_of_key
+    if b == home then r else if b == probing_of home then record_slots + r else if b == homes then 2 * record_slots + r else if b == second_stash then 3 * record_slots + r else slots_of_key
 
 module _ (key : ℕ → ℕ → ℕ) (hash : ℕ → ℕ) where
   -- where the key in slot r of bucket b is at home

@@ -3,7 +3,7 @@ use Rattle.std.specs.Prelude.{◌≡◌, ℕ, zero, suc, ◌+◌, ◌<◌, ◌�
 use Rattle.hash_word.specs.Hash.{probing_of, next_of, previous_of}
 use Rattle.bucket_meta.specs.Bucket.{allocated, member, record_slots}
 use Rattle.bucket_meta.specs.Slots.{IsFull}
-use Rattle.image_layout.specs.Places.{homes}
+use Rattle.image_layout.specs.Places.{homes, second_stash}
 
 -- each record of a bucket stands there as in its probing bucket, by the bucket's word 1
 abbrev pub HasOnlyMembers : ℕ → Type 0
@@ -18,7 +18,7 @@ pub record IsCrowded (first : ℕ → ℕ) (home : ℕ) : Type 0 where
   pub own : IsFull (first home)
   pub probing : IsFull (first (probing_of home))
   pub stash : IsFull (first homes)
-  pub last : IsFull (first (homes + 1))
+  pub last : IsFull (first second_stash)
 
 -- no record of the probing bucket can move on to the next bucket, and none of the home bucket back to the previous one
 pub record NothingMoves (first : ℕ → ℕ) (home : ℕ) : Type 0 where
@@ -46,7 +46,7 @@ abbrev pub has_no_members : ℕ → Bool
 has_no_members w1 = all_below (λ r. not (allocated r w1 == 1) || (member r w1 == 0)) record_slots
 
 abbrev pub is_crowded : (ℕ → ℕ) → ℕ → Bool
-is_crowded first home = is_full (first home) && (is_full (first (probing_of home)) && (is_full (first homes) && is_full (first (homes + 1))))
+is_crowded first home = is_full (first home) && (is_full (first (probing_of home)) && (is_full (first homes) && is_full (first second_stash)))
 
 abbrev pub nothing_moves : (ℕ → ℕ) → ℕ → Bool
 nothing_moves first home =

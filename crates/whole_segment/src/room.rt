@@ -11,7 +11,7 @@ use balance::{Choice, choose};
 use bucket_meta::Meta;
 use displace::{backward, forward};
 use hash_word::{home, next, previous, probing};
-use image_layout::HOMES;
+use image_layout::{HOMES, SECOND_STASH};
 
 /// Whether two buckets are both full, by their words 1.
 fn are_full(w1: u64, u1: u64) -> bool
@@ -56,7 +56,7 @@ impl Loaded {
         ensures { IsTrue result ↔ IsCrowded (first_in self.now) home }
     {
         are_full(self.mark(home), self.mark(probing(home)))
-            && are_full(self.mark(HOMES), self.mark(HOMES + 1))
+            && are_full(self.mark(HOMES), self.mark(SECOND_STASH))
     }
 
     /// Whether no record of the two buckets of a home can be moved.

@@ -11,7 +11,7 @@ use crate::Loaded;
 use bucket_meta::cleared_mark;
 use bucket_meta::words::SLOTS;
 use hash_word::{covers, home, probing};
-use image_layout::{BUCKETS, Geometry, HOMES, SLOTS_OF_KEY};
+use image_layout::{BUCKETS, Geometry, HOMES, SECOND_STASH, SLOTS_OF_KEY};
 use word_bits::{each_fits, mask};
 
 /// The bucket of a position, for a key of this home.
@@ -28,7 +28,7 @@ fn bucket_at(home: u8, position: u8) -> u8
     } else if position < 3 * SLOTS {
         HOMES
     } else {
-        HOMES + 1
+        SECOND_STASH
     }
 }
 
@@ -45,7 +45,7 @@ fn position_of(home: u8, bucket: u8, slot: u8) -> u8
         SLOTS + slot
     } else if bucket == HOMES {
         2 * SLOTS + slot
-    } else if bucket == HOMES + 1 {
+    } else if bucket == SECOND_STASH {
         3 * SLOTS + slot
     } else {
         SLOTS_OF_KEY
