@@ -12,7 +12,7 @@ use crate::records::hash_in;
 use bucket_meta::words::{
     NOTE_SLOTS, SLOTS, has_no_note, is_note_on, note_finger_of, note_index_of, overflow_count_of,
 };
-use image_layout::{Geometry, HOMES};
+use image_layout::{Geometry, HOMES, SECOND_STASH};
 
 /// An overflow note, or a record in the stash: its fingerprint, and its stash bucket.
 #[derive(Clone, Copy)]
@@ -267,7 +267,7 @@ fn has_nothing_noted(geometry: &Geometry, words: &[u64], s: u64, b: u8) -> bool
     if !is_empty(geometry, words, s, HOMES) {
         return false;
     }
-    is_empty(geometry, words, s, HOMES + 1)
+    is_empty(geometry, words, s, SECOND_STASH)
 }
 
 /// Whether the notes and the count of home bucket `b` are exact for its records in the stash.

@@ -12,7 +12,7 @@ ghost use Rattle.image_rules.specs.Slots.{IsRecordSlot, IsTwin, Needs, IsStandin
 use crate::heads::owns;
 use crate::record_slot::{RecordSlot, bucket_word, is_empty, is_taken, key_in, value_in};
 use bucket_meta::words::{FIRST_KEY, RECORD_WORDS, SLOTS, finger_of, is_member};
-use image_layout::{BUCKETS, Geometry, HOMES};
+use image_layout::{BUCKETS, Geometry, HOMES, SECOND_STASH};
 use way::key_hash;
 
 /// One thing that a rule says of each record.
@@ -177,7 +177,7 @@ impl RecordRule {
         if !self.agree_in(geometry, words, record_slot, HOMES) {
             return false;
         }
-        self.agree_in(geometry, words, record_slot, HOMES + 1)
+        self.agree_in(geometry, words, record_slot, SECOND_STASH)
     }
 
     /// Whether the rule holds of the record in a slot.
