@@ -9,10 +9,11 @@ ghost use Rattle.image_file.specs.Formatted.{IsFormatted};
 
 use crate::medium::Medium;
 use crate::words::Words;
+use image_layout::format::format_word;
 use image_layout::state::{self, FIRST_VERSION};
 use image_layout::{
-    FORMAT_NUMBER, FRONT_DEPTH, FRONT_FORMAT, FRONT_MAGIC, FRONT_SEGMENTS, Geometry, HEADER,
-    KIND_FROM, STATE_WORD, shape_in_range,
+    FRONT_DEPTH, FRONT_FORMAT, FRONT_MAGIC, FRONT_SEGMENTS, Geometry, HEADER, STATE_WORD,
+    shape_in_range,
 };
 use map_model::NoMemory;
 use segment_head::{Head, State};
@@ -47,7 +48,7 @@ fn empty_words(alloc: Global, geometry: &Geometry) -> Result<Words, NoMemory>
 {
     let mut words = vec![in alloc; 0u64; geometry.words() as usize]?;
     words[FRONT_MAGIC] = MAGIC;
-    words[FRONT_FORMAT] = FORMAT_NUMBER + (geometry.kind() << KIND_FROM);
+    words[FRONT_FORMAT] = format_word(geometry.kind());
     words[FRONT_SEGMENTS] = geometry.segments();
     words[FRONT_DEPTH] = geometry.depth();
     words[STATE_WORD as usize] = first_state();

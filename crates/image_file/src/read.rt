@@ -10,9 +10,9 @@ use crate::fault::ImageFault;
 use crate::formatted::MAGIC;
 use crate::medium::Medium;
 use crate::words::{WORD_BYTES, Words, word_at};
+use image_layout::format::{FORMAT_NUMBER, format_of, kind_of};
 use image_layout::{
-    BLOCK, FORMAT_NUMBER, FRONT_DEPTH, FRONT_FORMAT, FRONT_MAGIC, FRONT_SEGMENTS, Geometry,
-    KIND_FROM, MOST_KIND,
+    BLOCK, FRONT_DEPTH, FRONT_FORMAT, FRONT_MAGIC, FRONT_SEGMENTS, Geometry, MOST_KIND,
 };
 use image_rules::first_breach;
 use map_model::NoMemory;
@@ -42,14 +42,11 @@ fn geometry_said(front: &[u64]) -> Result<Geometry, ImageFault>
         return Err(ImageFault::Magic);
     }
     let format = front[FRONT_FORMAT];
-    if format % (1 << KIND_FROM) != FORMAT_NUMBER || format >> KIND_FROM > MOST_KIND {
+    let kind = kind_of(format);
+    if format_of(format) != FORMAT_NUMBER || kind > MOST_KIND {
         return Err(ImageFault::Format);
     }
-    match Geometry::new(
-        front[FRONT_SEGMENTS],
-        front[FRONT_DEPTH],
-        format >> KIND_FROM,
-    ) {
+    match Geometry::new(front[FRONT_SEGMENTS], front[FRONT_DEPTH], kind) {
         Ok(geometry) => Ok(geometry),
         Err(_) => Err(ImageFault::Geometry),
     }
