@@ -12,7 +12,7 @@ use Rattle.bucket_meta.specs.Slots.{IsFull}
 use Rattle.bucket_meta.specs.Visits.{must_visit}
 use Rattle.trace.specs.Events.{Words}
 use Rattle.segment_head.specs.HeadWord.{version_in, state_in, depth_in, is_live, free, splitting}
-use Rattle.image_layout.specs.Places.{Shape, IsShape, root_word, header_word, bucket_at, homes, stash_buckets}
+use Rattle.image_layout.specs.Places.{Shape, IsShape, root_word, header_word, bucket_at, homes, second_stash, stash_buckets}
 use Rattle.image_layout.specs.Volatile.{counter_word, power_word}
 use Rattle.sound_image.specs.Records.{key_hash}
 use Rattle.way.specs.Ways.{entry_word, head_word, bucket_word, is_leading}
@@ -199,7 +199,7 @@ module _ (shape : Shape) (words : Words) (did : Doings) (call : Call) where
     pub previous_loaded : WasMeta shape did.loads segment (previous_of (home_of hash_for)) previous
     pub moves : NothingMoves home probing next previous
     pub first_full : IsFullOfOthers segment homes first
-    pub second_full : IsFullOfOthers segment (homes + 1) second
+    pub second_full : IsFullOfOthers segment second_stash second
 
   -- the attempt loaded the header word of the segment in a slot, with this value
   abbrev pub WasHead : ℕ → ℕ → Type 0

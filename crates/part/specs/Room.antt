@@ -2,7 +2,7 @@
 use Rattle.std.specs.Prelude.{◌≡◌, ℕ, ◌+◌, ◌<◌, true, ◌⊎◌}
 use Rattle.hash_word.specs.Hash.{home_of, probing_of, next_of, previous_of}
 use Rattle.trace.specs.Events.{Words}
-use Rattle.image_layout.specs.Places.{Shape, header_word, bucket_at, homes}
+use Rattle.image_layout.specs.Places.{Shape, header_word, bucket_at, homes, second_stash}
 use Rattle.way.specs.Ways.{is_leading}
 use Rattle.bucket_meta.specs.Bucket.{allocated, member, record_slots}
 use Rattle.bucket_meta.specs.Slots.{IsFull}
@@ -42,4 +42,4 @@ module _ (shape : Shape) (words : Words) (segment : ℕ) where
     pub probing_full : IsFull (meta_now (probing_of (home_of hash)))
     pub moves : NothingMoves (meta_now (home_of hash)) (meta_now (probing_of (home_of hash))) (meta_now (next_of (home_of hash))) (meta_now (previous_of (home_of hash)))
     pub first_full : IsFull (meta_now homes)
-    pub second_full : IsFull (meta_now (homes + 1))
+    pub second_full : IsFull (meta_now second_stash)

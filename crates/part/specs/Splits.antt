@@ -6,7 +6,7 @@ use Rattle.op_core.specs.declared.want.Ans.{Ans}
 use Rattle.trace.specs.Events.{Words}
 use Rattle.hash_word.specs.Hash.{home_of, probing_of, next_of, previous_of}
 use Rattle.bucket_meta.specs.Bucket.{lock_bit}
-use Rattle.image_layout.specs.Places.{Shape, bucket_at, homes, buckets}
+use Rattle.image_layout.specs.Places.{Shape, bucket_at, homes, second_stash, buckets}
 use Rattle.image_layout.specs.Volatile.{segment_guard, allocation_guard}
 use Rattle.map_model.specs.declared.call.Call.{Call}
 use Rattle.map_model.specs.declared.entry.Reply.TheVariants.{Full, Deep, Spent}
@@ -54,7 +54,7 @@ module _ (shape : Shape) (words : Words) (did : Doings) (call : Call) (segment :
     pub next_loaded : FoundMeta (next_of (home_of (hash_for shape words did call))) next_meta
     pub previous_loaded : FoundMeta (previous_of (home_of (hash_for shape words did call))) previous
     pub first_full : FoundFull homes first
-    pub second_full : FoundFull (homes + 1) second
+    pub second_full : FoundFull second_stash second
     pub moves : NothingMoves home probing next_meta previous
 
   -- a lock that it needs: one of the segment, whose guard it took
