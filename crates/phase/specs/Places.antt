@@ -1,7 +1,7 @@
 -- The buckets of a key, and their lock words.
-use Rattle.std.specs.Prelude.{ℕ, ◌+◌, Bool, true, false}
+use Rattle.std.specs.Prelude.{ℕ, Bool, true, false}
 use Rattle.hash_word.specs.Hash.{home_of, probing_of, next_of, previous_of}
-use Rattle.image_layout.specs.Places.{homes}
+use Rattle.image_layout.specs.Places.{homes, second_stash}
 use Rattle.way.specs.Ways.{bucket_word}
 use Rattle.world.specs.declared.site.Site.{Site}
 use Rattle.phase.specs.declared.role.Role.{Role}
@@ -12,7 +12,7 @@ abbrev pub bucket_of : ℕ → Role → ℕ
 bucket_of hash Home = home_of hash
 bucket_of hash Probing = probing_of (home_of hash)
 bucket_of hash First = homes
-bucket_of hash Second = homes + 1
+bucket_of hash Second = second_stash
 bucket_of hash Next = next_of (home_of hash)
 bucket_of hash Previous = previous_of (home_of hash)
 

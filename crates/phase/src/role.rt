@@ -5,7 +5,7 @@ ghost use Rattle.image_layout.specs.Places.{buckets, most_words};
 ghost use Rattle.phase.specs.Places.{bucket_of, lock_word};
 
 use hash_word::{home, next, previous, probing};
-use image_layout::HOMES;
+use image_layout::{HOMES, SECOND_STASH};
 use way::bucket_word;
 use world::Site;
 
@@ -36,7 +36,7 @@ pub fn bucket_of(place: Role, hash: u64) -> u8
         Role::Home => home(hash),
         Role::Probing => probing(home(hash)),
         Role::First => HOMES,
-        Role::Second => HOMES + 1,
+        Role::Second => SECOND_STASH,
         Role::Next => next(home(hash)),
         Role::Previous => previous(home(hash)),
     }
