@@ -37,7 +37,7 @@ use Rattle.read_op.specs.declared.step.Task.{Task}
 use Rattle.read_op.specs.declared.op.ReadOp.{ReadOp}
 use Rattle.read_op.specs.Places.{free_at}
 use Rattle.read_op.specs.Steps.{begun, wanted, taken, lock_of}
-use Rattle.image_layout.specs.Places.{block}
+use Rattle.image_layout.specs.Places.{block, buckets_of_key}
 
 -- ---- sets of buckets
 -- those that are looked at in all
@@ -186,7 +186,7 @@ abbrev pub suits_in : Ground → Task → ReadStep → View → Type 0
 suits_in site task (Way walk) v = IsWalking site walk v.facts × HasBegun walk v
 suits_in site task (Look s p) v = IsReading site task s (index p) (loaded_by p) v × LooksAt site v.notes task s p
 suits_in site task (Fill s p load) v = IsReading site task s (looked_by p) (index p) v × FillsAt site v.notes task s p × IsFilling site v.notes task s p load
-suits_in site task (Count s) v = IsReading site task s 4 4 v × Skips site v.notes task s
+suits_in site task (Count s) v = IsReading site task s buckets_of_key buckets_of_key v × Skips site v.notes task s
 suits_in site task (Check s placed back) v = IsAnswering site task s placed 0 v ⊎ IsAstray task s v
 suits_in site task (Relook s placed p) v = IsAnswering site task s placed (suc (index p)) v × (is_asked s p ≡ true)
 suits_in site task (Ended (ends.Stale segment version)) v = IsKnownLive site segment v.facts

@@ -2,6 +2,7 @@
 use Rattle.std.specs.Prelude.{◌≡◌, ℕ, ◌+◌, ◌^◌, ◌<◌, ⊤, Bool, true, false, Option, None, Some, List, []}
 use Rattle.op_core.specs.declared.want.Want.TheVariants.{Done}
 use Rattle.bucket_meta.specs.Bucket.{lock_bit}
+use Rattle.image_layout.specs.Places.{buckets_of_key}
 use Rattle.image_layout.specs.Volatile.{counter_word}
 use Rattle.map_model.specs.declared.call.Call.{Call}
 use Rattle.map_model.specs.declared.call.Call.TheVariants.{Get}
@@ -80,7 +81,7 @@ module _ (task : Task) (loads : List (ℕ × ℕ)) where
 
   -- and all lock words, and the place
   pub record RemembersPlaced (s : Seen) (placed : ℕ) : Type 0 where
-    pub seen : RemembersSeen s 4
+    pub seen : RemembersSeen s buckets_of_key
     pub place : Has (counter_word task.site.geometry, placed) loads
 
   -- it looks at no bucket but those that are asked for
@@ -88,7 +89,7 @@ module _ (task : Task) (loads : List (ℕ × ℕ)) where
   RemembersIn (Way walk) = RemembersWalk task.site task.hash loads walk
   RemembersIn (Look s p) = RemembersSeen s (index p) × (is_asked s p ≡ true)
   RemembersIn (Fill s p load) = RemembersFill s p load
-  RemembersIn (Count s) = RemembersSeen s 4
+  RemembersIn (Count s) = RemembersSeen s buckets_of_key
   RemembersIn (Check s placed back) = RemembersPlaced s placed
   RemembersIn (Relook s placed p) = RemembersPlaced s placed × (is_asked s p ≡ true)
   RemembersIn (Ended end) = ⊤
