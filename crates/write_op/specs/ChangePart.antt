@@ -1,5 +1,6 @@
 -- A change as a part of a call: where an insert finds no slot it keeps its locks, and another part goes on.
 use Rattle.std.specs.Prelude.{◌≡◌, ℕ, ◌^◌, ◌<◌, ⊤, true, false, [], None}
+use Rattle.image_layout.specs.Places.{buckets_of_key}
 use Rattle.map_model.specs.declared.call.Call.{Call}
 use Rattle.map_model.specs.declared.change.Change.{Change}
 use Rattle.map_model.specs.Changes.{call_of}
@@ -81,7 +82,7 @@ module _ (task : Task) (seen : Seen) (did : Doings) where
   RemembersIn (Lock place take) = WasThere × ChangedOwn × RemembersTake (lock_of task seen place) did.loads take × AsksFor place
   RemembersIn (Check back) = WasThere × ChangedOwn
   RemembersIn (Fill place load) = WasThere × ChangedOwn × LoadedUpto (index place) × IsLoading (lock_of task seen place) did.loads load × HasReason task seen place
-  RemembersIn Count = WasThere × ChangedOwn × LoadedUpto 4
+  RemembersIn Count = WasThere × ChangedOwn × LoadedUpto buckets_of_key
   RemembersIn CountSpent = WasThere × LoadedSpent
   RemembersIn (Ended NoSlot) = WasThere × ChangedOwn × LoadedHeld × LoadedFull (kept_in task seen) did.loads Home × LoadedFull (kept_in task seen) did.loads Probing
   RemembersIn more = ⊤

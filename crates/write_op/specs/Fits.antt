@@ -3,7 +3,7 @@ use Rattle.std.specs.Prelude.{◌≡◌, ℕ, ◌+◌, ◌%◌, ◌^◌, ◌<◌
 use Rattle.bucket_meta.specs.Bucket.{overflow_count}
 use Rattle.hash_word.specs.Hash.{home_of, finger_of}
 use Rattle.trace.specs.Events.{Words, with_word}
-use Rattle.image_layout.specs.Places.{root_word, block}
+use Rattle.image_layout.specs.Places.{root_word, block, buckets_of_key}
 use Rattle.sound_image.specs.Records.{key_hash, notes_of, word_in}
 use Rattle.map_model.specs.declared.call.Call.{Call}
 use Rattle.map_model.specs.declared.change.Effect.{Effect}
@@ -192,7 +192,7 @@ module _ (site : Ground) (task : Task) (seen : Seen) where
     pub there : IsThere site seen.path.segment v.facts
     pub pinned : IsPinned site task.hash seen.path v.pinned
     pub locks : HoldsLocks task.site task.hash seen.path.segment seen.held v
-    pub upto : HoldsUpto seen 4
+    pub upto : HoldsUpto seen buckets_of_key
     pub visits : IsVisiting task seen
     pub still : v.moving ≡ []
 
@@ -281,7 +281,7 @@ module _ (site : Ground) (task : Task) (seen : Seen) where
   SuitsStep (Lock place take) v = HasLoaded (index place) (loaded_by place) v × IsQuiet v × VisitsAt place × IsTaking take × PinnedAt place v
   SuitsStep (Check back) v = HasLoaded 2 0 v × IsQuiet v
   SuitsStep (Fill place load) v = HasLoaded (looked_by place) (index place) v × IsQuiet v × VisitsAt place × IsLoading (lock_of task seen place) v.known load × IsPinned site task.hash seen.path v.pinned
-  SuitsStep Count v = HasLoaded 4 4 v × IsQuiet v × IsVisiting task seen × IsPinned site task.hash seen.path v.pinned
+  SuitsStep Count v = HasLoaded buckets_of_key buckets_of_key v × IsQuiet v × IsVisiting task seen × IsPinned site task.hash seen.path v.pinned
   SuitsStep (step.Make make) v = IsChanging make v
   SuitsStep Draw v = IsDrawing v
   SuitsStep (Unnote part place) v = IsUnnoting part v
