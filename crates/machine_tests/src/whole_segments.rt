@@ -2,7 +2,7 @@
 use crate::memory::Memory;
 use crate::rows::{Deeds, numbers};
 use bucket_meta::{cleared_mark, copied_mark};
-use image_layout::{BUCKETS, Geometry, HOMES};
+use image_layout::{BUCKETS, Geometry, HOMES, SECOND_STASH};
 use op_core::{Ans, Want};
 use std::alloc::Global;
 use std::test::Fail;
@@ -32,12 +32,12 @@ fn full_home(halves: bool) -> Loaded {
         loaded.set_key(0, slot, key_of(2 * slot, halves));
         loaded.set_key(1, slot, key_of(2 * slot + 1, halves));
         loaded.set_key(HOMES, slot, key_of(28 + slot, halves));
-        loaded.set_key(HOMES + 1, slot, key_of(42 + slot, halves));
+        loaded.set_key(SECOND_STASH, slot, key_of(42 + slot, halves));
     }
     loaded.set_first(0, 0x3FFF);
     loaded.set_first(1, 0x0FFF_FFFF);
     loaded.set_first(HOMES, 0x3FFF);
-    loaded.set_first(HOMES + 1, 0x3FFF);
+    loaded.set_first(SECOND_STASH, 0x3FFF);
     loaded
 }
 
@@ -85,7 +85,7 @@ impl Segments {
             }
             "mended" => {
                 let first = loaded.mended(geometry, depth, pattern).first;
-                [first[1], first[2], first[HOMES as usize + 1]]
+                [first[1], first[2], first[SECOND_STASH as usize]]
             }
             "room" => [u64::from(loaded.has_no_room(told[0])), 0, 0],
             "copied" => [copied_mark(told[0], slots), 0, 0],
