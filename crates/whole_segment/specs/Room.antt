@@ -1,5 +1,5 @@
 -- Where a segment has no room for a hash: its two buckets and the stash are full, and no record of the two can be moved.
-use Rattle.std.specs.Prelude.{◌≡◌, ℕ, zero, suc, ◌+◌, ◌<◌, ◌⊎◌, Bool, true, not, ◌==◌, ◌&&◌, ◌||◌}
+use Rattle.std.specs.Prelude.{◌≡◌, ℕ, zero, suc, ◌<◌, ◌⊎◌, Bool, true, not, ◌==◌, ◌&&◌, ◌||◌}
 use Rattle.hash_word.specs.Hash.{probing_of, next_of, previous_of}
 use Rattle.bucket_meta.specs.Bucket.{allocated, member, record_slots}
 use Rattle.bucket_meta.specs.Slots.{IsFull}
