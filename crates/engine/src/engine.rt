@@ -131,6 +131,14 @@ fn outer_want<M: Machine>(op: &M) -> Want
     op.want()
 }
 
+/// Whether a machine of a split or of a repair wants nothing more.
+#[inline(never)]
+fn outer_wants_nothing<M: Machine>(op: &M) -> bool
+    ensures { IsTrue result ↔ (M.wanted op.now ≡ want.Done) }
+{
+    op.want() == Want::Done
+}
+
 /// A machine of a split or of a repair takes the answer to that event.
 #[inline(never)]
 fn outer_take<M: Machine>(op: &mut M, ans: Ans)
@@ -211,8 +219,22 @@ impl Engine {
         }
     }
 
+    // What most events are of, a get, is asked first and by itself: what the other machines need is then got ready in calls of their own.
+
     /// The event that it wants next.
+    #[inline]
     pub fn next(&self) -> Want
+        ensures { result ≡ wanted self.now }
+    {
+        match &self.op {
+            Op::Read(op) => op.want(),
+            _ => self.next_of_any(),
+        }
+    }
+
+    /// The event that it wants next, whatever its machine is.
+    #[inline(never)]
+    fn next_of_any(&self) -> Want
         ensures { result ≡ wanted self.now }
     {
         match &self.op {
@@ -372,7 +394,19 @@ impl Engine {
     }
 
     /// Takes the answer to that event, and goes on to the next part of the call where one has ended.
+    #[inline]
     pub fn take(&mut self, ans: Ans)
+        ensures { self.new ≡ taken self.old ans }
+    {
+        match &mut self.op {
+            Op::Read(op) => op.take(ans),
+            _ => self.take_in_any(ans),
+        }
+    }
+
+    /// Takes it, whatever its machine is.
+    #[inline(never)]
+    fn take_in_any(&mut self, ans: Ans)
         ensures { self.new ≡ taken self.old ans }
     {
         if self.answer(ans) {
@@ -381,6 +415,7 @@ impl Engine {
     }
 
     /// Whether it wants nothing more.
+    #[inline]
     pub fn wants_nothing(&self) -> bool
         ensures { IsTrue result ↔ (wanted self.now ≡ want.Done) }
     {
@@ -390,13 +425,13 @@ impl Engine {
             Op::Move(op) => op.wants_nothing(),
             Op::Stash(op) => op.wants_nothing(),
             Op::Release(op) => op.wants_nothing(),
-            Op::Enclose(op) => outer_want(op) == Want::Done,
-            Op::Split(op) => outer_want(op) == Want::Done,
-            Op::Publish(op) => outer_want(op) == Want::Done,
-            Op::Rest(op) => outer_want(op) == Want::Done,
-            Op::Repair(op) => outer_want(op) == Want::Done,
-            Op::Redirect(op) => outer_want(op) == Want::Done,
-            Op::Mend(op) => outer_want(op) == Want::Done,
+            Op::Enclose(op) => outer_wants_nothing(op),
+            Op::Split(op) => outer_wants_nothing(op),
+            Op::Publish(op) => outer_wants_nothing(op),
+            Op::Rest(op) => outer_wants_nothing(op),
+            Op::Repair(op) => outer_wants_nothing(op),
+            Op::Redirect(op) => outer_wants_nothing(op),
+            Op::Mend(op) => outer_wants_nothing(op),
         }
     }
 
