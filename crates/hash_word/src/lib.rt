@@ -1,7 +1,8 @@
 //! Hashes of keys, and what their bits say.
 //!
 //! A hash is 64 bits. Its lowest byte is the fingerprint of a record, the next six bits name the home bucket,
-//! and its top bits choose the segment.
+//! and its top bits choose the segment. Numbers of which words of several crates above are made stand here too: the greatest
+//! depth of a directory, and the bits of a fingerprint and of a version.
 #![tactic(auto)]
 
 ghost use Rattle.std.specs.Prelude.{◌≡◌, ◌<◌, ◌≤◌, ◌^◌, ◌↔◌, IsTrue};
