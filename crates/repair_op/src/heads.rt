@@ -4,7 +4,7 @@ ghost use Rattle.std.specs.Prelude.{◌≡◌, ◌==◌, ◌≤◌, ◌<◌, ◌
 ghost use Rattle.segment_head.specs.HeadWord.{pattern_bits, depth_in, pattern_in};
 ghost use Rattle.world.specs.areas.Kinds.{is_new_side, is_ready_side};
 
-use segment_head::split::side_pattern;
+use segment_head::split::side_pattern_of;
 use segment_head::word::{FRESH, PATTERN_BITS, depth_of, is_live, pattern_of, state_of};
 
 /// Whether a pattern is another one, followed by so many zeros.
@@ -22,7 +22,7 @@ pub(crate) fn is_new_side(head: u64, side: u64) -> bool
 {
     state_of(side) == FRESH
         && u16::from(depth_of(side)) == u16::from(depth_of(head)) + 1
-        && u64::from(pattern_of(side)) == side_pattern(head)
+        && u64::from(pattern_of(side)) == side_pattern_of(head)
 }
 
 /// Whether it is that of a ready side.
@@ -33,7 +33,7 @@ pub(crate) fn is_ready_side(head: u64, side: u64) -> bool
         && depth_of(head) < depth_of(side)
         && has_zeros(
             pattern_of(side),
-            side_pattern(head),
+            side_pattern_of(head),
             depth_of(side) - depth_of(head) - 1,
         )
 }

@@ -19,7 +19,7 @@ pub fn side_depth(head: u64) -> u8
 }
 
 /// The pattern of the 1-side, of whatever depth: that of the segment with a 1 behind it.
-pub fn side_pattern(head: u64) -> u64
+pub fn side_pattern_of(head: u64) -> u64
     ensures is { result ≡ side_pattern_in head }
     ensures most { result < 2 ^ (pattern_bits + 1) }
     ensures some { 1 ≤ result }
