@@ -219,7 +219,7 @@ impl Engine {
         }
     }
 
-    // What most events are of, a get, is asked first and by itself: what the other machines need is then got ready in calls of their own.
+    // The next ask a get, or answer it, before any other machine and by itself: what the others need is then got ready in calls of their own.
 
     /// The event that it wants next.
     #[inline]
@@ -232,7 +232,7 @@ impl Engine {
         }
     }
 
-    /// The event that it wants next, whatever its machine is.
+    /// The event that any machine wants next.
     #[inline(never)]
     fn next_of_any(&self) -> Want
         ensures { result ≡ wanted self.now }
@@ -404,7 +404,7 @@ impl Engine {
         }
     }
 
-    /// Takes it, whatever its machine is.
+    /// Takes the answer to that event, whatever its machine is.
     #[inline(never)]
     fn take_in_any(&mut self, ans: Ans)
         ensures { self.new ≡ taken self.old ans }
