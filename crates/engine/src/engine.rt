@@ -219,7 +219,8 @@ impl Engine {
         }
     }
 
-    // The next ask a get, or answer it, before any other machine and by itself: what the others need is then got ready in calls of their own.
+    // A get is asked and answered before any other machine and by itself (`next`, `take`, `wants_nothing`): what the others need is then got ready in
+    // calls of their own.
 
     /// The event that it wants next.
     #[inline]
@@ -417,6 +418,17 @@ impl Engine {
     /// Whether it wants nothing more.
     #[inline]
     pub fn wants_nothing(&self) -> bool
+        ensures { IsTrue result ↔ (wanted self.now ≡ want.Done) }
+    {
+        match &self.op {
+            Op::Read(op) => op.wants_nothing(),
+            _ => self.any_wants_nothing(),
+        }
+    }
+
+    /// Whether any machine wants nothing more.
+    #[inline(never)]
+    fn any_wants_nothing(&self) -> bool
         ensures { IsTrue result ↔ (wanted self.now ≡ want.Done) }
     {
         match &self.op {
