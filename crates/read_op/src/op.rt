@@ -405,6 +405,7 @@ impl Machine for ReadOp {
 
     ghost taken = { taken };
 
+    #[inline(always)]
     fn want(&self) -> Want {
         let task = &self.task;
         match &self.step {
