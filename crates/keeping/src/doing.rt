@@ -8,8 +8,25 @@ ghost use Rattle.keeping.specs.Asked.{MayBeAsked, found_by};
 use op_core::{Ans, Want};
 use pm_trace::Device;
 
-/// Does the event that a caller wants, and answers it.
+/// Does the event that a caller wants, and answers it. A load is done before any other and by itself, since most events are loads, and what the
+/// others need is then got ready in a call of their own.
+#[inline]
 pub fn do_event(device: &mut Device, caller: u8, want: Want) -> Ans
+    requires { MayBeAsked caller want device.old }
+    ensures answer { result ≡ answer_to want (found_by want device.old) }
+    ensures follows { Follows device.old (event_of device.old.shape want (found_by want device.old) caller) device.new }
+    ensures shape { device.new.shape ≡ device.old.shape }
+    ensures callers { device.new.callers ≡ device.old.callers }
+{
+    match want {
+        Want::Load(word) => Ans::Value(device.load(word)),
+        _ => do_any_event(device, caller, want),
+    }
+}
+
+/// Does any event that a caller wants, and answers it.
+#[inline(never)]
+fn do_any_event(device: &mut Device, caller: u8, want: Want) -> Ans
     requires { MayBeAsked caller want device.old }
     ensures answer { result ≡ answer_to want (found_by want device.old) }
     ensures follows { Follows device.old (event_of device.old.shape want (found_by want device.old) caller) device.new }
