@@ -2,6 +2,7 @@
 use Rattle.std.proofs.Common.{◌≡◌, ◌≢◌, ◌⊎◌, inl, inr, Bool, true, false, ℕ, zero, suc, ◌<◌, ◌≤◌, List, [], ◌∷◌, ◌++◌, set, refl, sym, ap, ◌∙◌, subst, arith, append_assoc}
 use Rattle.std.specs.Prelude.{◌||◌}
 use Rattle.std.proofs.lemmas.Bool.{false≢true}
+use Rattle.std.proofs.lemmas.List.{set-set, set_comm}
 use mathlib.Core.Logic.{dite}
 use mathlib.Core.Option.{some, some-injective, some-ne-none}
 use native.Mathlib.Decide.{ℕ_discrete}
@@ -165,18 +166,6 @@ module _ (site : Ground) (words : Words) where
       ungroup A (all_of t) (all_views (set (set ps i (record p { past = p.past ++ all_of q })) j spent_watch))
       (gives (A ++ all_of t) ps i j p q (λ e. ne (ap suc e)) a b (group A (all_of t) (all_views ps) h))
 
-set_twice : {A : Type 0} (xs : List A) (i : ℕ) (a b : A) → set (set xs i a) i b ≡ set xs i b
-set_twice [] i a b = refl
-set_twice (x ∷ xs) zero a b = refl
-set_twice (x ∷ xs) (suc i) a b = ap (λ (ys : List _). x ∷ ys) (set_twice xs i a b)
-
-set_two : {A : Type 0} (xs : List A) (i j : ℕ) (a b : A) → i ≢ j → set (set xs i a) j b ≡ set (set xs j b) i a
-set_two [] i j a b ne = refl
-set_two (x ∷ xs) zero zero a b ne = absurd (ne refl)
-set_two (x ∷ xs) zero (suc j) a b ne = refl
-set_two (x ∷ xs) (suc i) zero a b ne = refl
-set_two (x ∷ xs) (suc i) (suc j) a b ne = ap (λ (ys : List _). x ∷ ys) (set_two xs i j a b (λ e. ne (ap suc e)))
-
 either_on : (a b : Bool) → (a || b) ≡ true → (a ≡ true) ⊎ (b ≡ true)
 either_on true b e = inl refl
 either_on false b e = inr e
@@ -201,10 +190,10 @@ owes_take site id p other q counts s h at ne there =
     let start : HoldsOfSome site (word s.words) (all_views two) = (subst (λ (us : List View). Holds site (word s.words) us) second joint, place two id, p1.view, at_place two id p1 at_p2) in
     let moved_views = gives site (word s.words) [] two id other p1 q1 (λ e. ne (sym e)) at_p2 at_q2 start in
     let same : set (set two id (both p q)) other spent_watch ≡ set (set s.views id (both p q)) other spent_watch =
-    set_two two id other (both p q) spent_watch (λ e. ne (sym e))
-    ∙ (ap (λ (us : List Watch). set us id (both p q)) (set_twice ps other q1 spent_watch)
-    ∙ (set_two ps other id spent_watch (both p q) ne
-    ∙ ap (λ (us : List Watch). set us other spent_watch) (set_twice s.views id p1 (both p q)))) in
+    set_comm two id other (both p q) spent_watch (λ e. ne (sym e))
+    ∙ (ap (λ (us : List Watch). set us id (both p q)) (set-set ps other q1 spent_watch)
+    ∙ (set_comm ps other id spent_watch (both p q) ne
+    ∙ ap (λ (us : List Watch). set us other spent_watch) (set-set s.views id p1 (both p q)))) in
     record {
       words = h.words;
       holds = subst (λ (us : List Watch). Holds site (word s.words) (all_views us)) same moved_views.0;
