@@ -7,7 +7,7 @@ use Rattle.pm_trace.specs.TraceOf.{IsTraceOf}
 use Rattle.core_run.specs.declared.deed.Deed.{Deed as ToldDeed}
 use Rattle.core_run.specs.declared.goal.Goal.{Goal}
 use Rattle.core_run.specs.State.{State, Deed}
-use Rattle.core_run.specs.Run.{drive, closed}
+use Rattle.core_run.specs.Run.{drive, closed, ends_call, ends_in_again}
 use Rattle.core_run.specs.Running.{Setup, IsSetup, IsRunning, start_of}
 use Rattle.play.specs.declared.run_state.RunState.{RunState}
 use Rattle.play.specs.Callers.{callers_of, HaveRoom}
@@ -35,7 +35,8 @@ StandsSomewhere run_state = (t : Setup) × (s : State) × Stands t s run_state
 -- an event was done, and left this run state
 pub record IsAfter (t : Setup) (told : ToldDeed) (d : Deed) (run_state : RunState) : Type 0 where
   pub want : told.want ≡ d.want
-  pub end : told.end ≡ d.end
+  pub replied : told.replied ≡ ends_call d.end
+  pub again : told.again ≡ ends_in_again d.end
   pub tried : told.tried ≡ d.tried
   pub waits : told.waits ≡ d.waits
   pub left : IsOf t run_state d.state

@@ -1,11 +1,9 @@
 //! A caller that runs its calls.
 
-ghost use Rattle.std.specs.Prelude.{◌≡◌, ◌&&◌, List, length, slice_get, Some, None, true};
+ghost use Rattle.std.specs.Prelude.{◌≡◌, ◌↔◌, ◌&&◌, IsTrue, List, length, slice_get, Some, None, true};
 ghost use Rattle.op_core.specs.declared.want.Want.TheVariants as want;
 ghost use Rattle.map_model.specs.declared.entry.Entry.{Entry as MadeEntry};
-ghost use Rattle.image_layout.specs.Places.{Shape};
-ghost use Rattle.core_run.specs.Engines.{entry_of, engine_for, drawn_by, ended, answered, Engine as SaidEngine, wanted, taken, end_of, reply_of_end, begun, anew, op_part};
-ghost use Rattle.core_run.specs.State.{end_by};
+ghost use Rattle.core_run.specs.Engines.{entry_of, engine_for, drawn_by, ended, Engine as SaidEngine, wanted, taken, end_of, reply_of_end, begun, anew, op_part};
 ghost use Rattle.core_run.specs.Run.{stop_of};
 ghost use Rattle.play.specs.Callers.{caller_of, running_by, taken_to, awoken, told_with, counted_with};
 
@@ -38,28 +36,13 @@ pub struct RunningCall {
     pub(crate) want: Want,
 }
 
-/// What became of an event of a caller.
-#[derive(Clone, Copy)]
-pub(crate) struct Answered {
-    /// How its attempt ended, if it did.
-    pub(crate) end: Option<End>,
-    /// The entry of its call, if that ended.
-    pub(crate) entry: Option<Entry>,
-    /// Whether it waits for the guard of the directory.
-    pub(crate) waits: bool,
-}
-
-/// An engine takes the answer to its event, where it stands. How its attempt ended, if it did.
-fn take(engine: &mut Engine, ans: Ans) -> Option<End>
+/// An engine takes the answer to its event, where it stands. Whether that ended its attempt.
+fn take(engine: &mut Engine, ans: Ans) -> bool
     ensures engine { engine.new ≡ taken engine.old ans }
-    ensures end { (shape : Shape) → result ≡ end_by shape (taken engine.old ans) (wanted (taken engine.old ans)) }
+    ensures ended { IsTrue result ↔ (wanted (taken engine.old ans) ≡ want.Done) }
 {
     engine.take(ans);
-    if engine.wants_nothing() {
-        Some(engine.end())
-    } else {
-        None
-    }
+    engine.wants_nothing()
 }
 
 impl Caller {
@@ -83,7 +66,7 @@ impl Caller {
         }
     }
 
-    // The next three are calls of their own, since they are made once in a call or less, and what they need would else be got ready at each event.
+    // The next two are calls of their own, since they are made once in a call or less, and what they need would else be got ready at each event.
 
     /// Its first engine is made, for a call.
     #[inline(never)]
@@ -148,8 +131,7 @@ impl Caller {
     }
 
     /// An attempt of its call has ended. The entry of the call, if that has ended too.
-    #[inline(never)]
-    fn end_attempt(&mut self, call: Call, end: End) -> Option<Entry>
+    pub(crate) fn end_attempt(&mut self, call: Call, end: End) -> Option<Entry>
         requires current { slice_get self.old.calls.items self.old.ended ≡ Some call }
         requires ran { (e : SaidEngine) × self.old.engine ≡ Some e }
         ensures caller { (told : List MadeEntry) → length told ≡ self.old.ended
@@ -184,14 +166,11 @@ impl Caller {
         }
     }
 
-    /// Its engine takes the answer to its event. How its attempt ended, if it did.
-    fn answer_engine(&mut self, ans: Ans) -> Option<End>
+    /// Its engine takes the answer to its event. Whether that ended its attempt.
+    fn answer_engine(&mut self, ans: Ans) -> bool
         requires { (e : SaidEngine) × self.old.engine ≡ Some e }
         ensures taken { (e : SaidEngine) → self.old.engine ≡ Some e → self.new ≡ taken_to (taken e ans) self.old }
-        ensures end { (e : SaidEngine) → self.old.engine ≡ Some e
-            → result ≡ end_by self.old.site.geometry (taken e ans) (wanted (taken e ans)) }
-        ensures count { self.new.ended ≡ self.old.ended }
-        ensures calls { self.new.calls ≡ self.old.calls }
+        ensures ended { (e : SaidEngine) → self.old.engine ≡ Some e → (IsTrue result ↔ (wanted (taken e ans) ≡ want.Done)) }
     {
         self.begun = true;
         match &mut self.engine {
@@ -201,7 +180,7 @@ impl Caller {
     }
 
     /// Whether its engine waits for the guard of the directory, if its event tried in vain for that.
-    fn waits_after(&self, tried: bool) -> bool
+    pub(crate) fn waits_after(&self, tried: bool) -> bool
         ensures { (e : SaidEngine) → self.now.engine ≡ Some e → result ≡ (tried && op_part.is_waiting e.op) }
     {
         if !tried {
@@ -213,26 +192,27 @@ impl Caller {
         }
     }
 
-    /// Takes the answer to the event of its engine, which may have tried in vain for the guard of the directory.
-    pub(crate) fn take_answer(&mut self, call: Call, ans: Ans, tried: bool) -> Answered
+    /// Takes the answer to the event of its engine. Whether that ended its attempt.
+    pub(crate) fn take_answer(&mut self, call: Call, ans: Ans) -> bool
         requires current { slice_get self.old.calls.items self.old.ended ≡ Some call }
         requires runs { (e : SaidEngine) × self.old.engine ≡ Some e }
-        ensures caller { (e : SaidEngine) → self.old.engine ≡ Some e → (told : List MadeEntry) → length told ≡ self.old.ended
-            → caller_of self.new (told_with result.entry told) ≡ answered (caller_of self.old told) call e ans }
-        ensures count { self.new.ended ≡ counted_with result.entry self.old.ended }
-        ensures calls { self.new.calls ≡ self.old.calls }
-        ensures end { (e : SaidEngine) → self.old.engine ≡ Some e
-            → result.end ≡ end_by self.old.site.geometry (taken e ans) (wanted (taken e ans)) }
-        ensures waits { (e : SaidEngine) → self.old.engine ≡ Some e → result.waits ≡ (tried && op_part.is_waiting (taken e ans).op) }
+        ensures taken { (e : SaidEngine) → self.old.engine ≡ Some e → self.new ≡ record self.old { engine = Some (taken e ans); begun = true; drew = self.new.drew } }
+        ensures drew { (told : List MadeEntry) → length told ≡ self.old.ended → self.new.drew ≡ drawn_by (caller_of self.old told) call ans }
+        ensures ended { (e : SaidEngine) → self.old.engine ≡ Some e → (IsTrue result ↔ (wanted (taken e ans) ≡ want.Done)) }
     {
         self.keep_drawn(call, ans);
-        let end = self.answer_engine(ans);
-        let waits = self.waits_after(tried);
-        let entry = match end {
-            Some(end) => self.end_attempt(call, end),
+        self.answer_engine(ans)
+    }
+
+    /// How the attempt of its engine ended.
+    pub(crate) fn end(&self) -> Option<End>
+        requires { (e : SaidEngine) → self.now.engine ≡ Some e → wanted e ≡ want.Done }
+        ensures { (e : SaidEngine) → self.now.engine ≡ Some e → result ≡ Some (end_of e) }
+    {
+        match &self.engine {
+            Some(engine) => Some(engine.end()),
             None => None,
-        };
-        Answered { end, entry, waits }
+        }
     }
 
     /// Where it stopped, if it has a call left.

@@ -9,7 +9,7 @@ use op_core::Want;
 use script_text::Counted;
 
 /// Whether an attempt ended with the reply to its call.
-fn ends_call(end: Option<End>) -> bool
+pub(crate) fn ends_call(end: Option<End>) -> bool
     ensures { result ≡ ends_call end }
 {
     match end {
@@ -20,7 +20,7 @@ fn ends_call(end: Option<End>) -> bool
 
 /// Whether an event is of a kind.
 fn is_of_kind(kind: Counted, deed: Deed) -> bool
-    ensures { (said : SaidDeed) → deed.want ≡ said.want → deed.end ≡ said.end → result ≡ is_of_kind kind said }
+    ensures { (said : SaidDeed) → deed.want ≡ said.want → deed.replied ≡ ends_call said.end → result ≡ is_of_kind kind said }
 {
     match kind {
         Counted::Store => matches!(deed.want, Want::Store(..)),
@@ -28,7 +28,7 @@ fn is_of_kind(kind: Counted, deed: Deed) -> bool
         Counted::Flush => matches!(deed.want, Want::Flush(_)),
         Counted::Fence => matches!(deed.want, Want::Fence),
         Counted::Draw => matches!(deed.want, Want::Draw),
-        Counted::End => ends_call(deed.end),
+        Counted::End => deed.replied,
     }
 }
 
@@ -44,18 +44,18 @@ fn is_store_to(word: u64, want: Want) -> bool
 
 /// Whether an event is counted.
 pub(crate) fn counts(goal: Goal, deed: Deed) -> bool
-    ensures { (said : SaidDeed) → deed.want ≡ said.want → deed.end ≡ said.end → result ≡ counts goal said }
+    ensures { (said : SaidDeed) → deed.want ≡ said.want → deed.replied ≡ ends_call said.end → result ≡ counts goal said }
 {
     match goal {
         Goal::AnyEvent => true,
         Goal::Kind(kind) => is_of_kind(kind, deed),
         Goal::StoreTo(word) => is_store_to(word, deed.want),
-        Goal::Turn => ends_call(deed.end),
+        Goal::Turn => deed.replied,
     }
 }
 
-/// Whether an attempt ended with this event and is to be made again.
-fn ends_in_again(end: Option<End>) -> bool
+/// Whether an attempt ended and is to be made again.
+pub(crate) fn ends_in_again(end: Option<End>) -> bool
     ensures { result ≡ ends_in_again end }
 {
     match end {
@@ -76,7 +76,7 @@ fn pauses(goal: Goal, deed: Deed) -> bool
 
 /// Whether the caller stops after an event.
 pub(crate) fn stops(goal: Goal, deed: Deed) -> bool
-    ensures { (said : SaidDeed) → deed.end ≡ said.end → deed.tried ≡ said.tried → deed.waits ≡ said.waits → result ≡ stops goal said }
+    ensures { (said : SaidDeed) → deed.again ≡ ends_in_again said.end → deed.tried ≡ said.tried → deed.waits ≡ said.waits → result ≡ stops goal said }
 {
-    ends_in_again(deed.end) || pauses(goal, deed)
+    deed.again || pauses(goal, deed)
 }

@@ -1,27 +1,37 @@
 //! One event of a run state.
 
-ghost use Rattle.std.specs.Prelude.{◌≡◌, ◌≢◌, ℕ, ◌+◌, ◌-◌, ◌<◌, List, [], Some, All, length, slice_get, map};
+ghost use Rattle.std.specs.Prelude.{◌≡◌, ◌+◌, ◌<◌, Some, slice_get, map};
 ghost use Rattle.map_model.specs.Roomed.{Roomed};
+ghost use Rattle.map_model.specs.declared.call.Call.{Call as SaidCall};
 ghost use Rattle.map_model.specs.Weave.{most_callers};
 ghost use Rattle.core_run.specs.declared.keeper.Keeper.TheVariants.{Restarting, Open, Closing};
 ghost use Rattle.restart_op.specs.Restart.{wanted as restart_wanted};
 ghost use Rattle.restart_op.specs.Close.{wanted as close_wanted};
-ghost use Rattle.core_run.specs.Engines.{tries_in_vain};
-ghost use Rattle.core_run.specs.Running.{Setup};
-ghost use Rattle.core_run.specs.State.{State, awake, restart_deed, close_deed, keeper_deed, engine_deed, open_deed, deed};
+ghost use Rattle.core_run.specs.Engines.{tries_in_vain, Engine as SaidEngine};
 ghost use Rattle.play.specs.Callers.{awoken};
+ghost use Rattle.play.specs.declared.caller.Caller.{Caller as SaidCaller};
 ghost use Rattle.keeping.specs.Asked.{MayBeAsked};
-ghost use Rattle.play.specs.RunStates.{IsOf, Stands, StandsSomewhere, IsAfter, HasDone};
-ghost use Rattle.play.specs.Deeds.{MayGo, FollowsRestart, FollowsClose, FollowsCall, FollowsDeed, running_in, restarting_keeper, restarting_callers, closing_keeper};
+ghost use Rattle.play.specs.RunStates.{StandsSomewhere};
+ghost use Rattle.play.specs.Deeds.{MayGo, HasCome, HasEnded, FollowsRestart, FollowsClose, FollowsCall, FollowsDeed, running_in, restarting_keeper, restarting_callers, closing_keeper, lists_with};
 
 use crate::caller::{Caller, RunningCall};
+use crate::counting::{ends_call, ends_in_again};
 use crate::run_state::RunState;
 use core_run::{Deed, Keeper};
 use keeping::do_event;
-use map_model::Call;
+use map_model::{Call, Entry};
 use op_core::{Ans, Machine, Want};
 use pm_trace::Device;
 use restart_op::{CloseOp, RestartOp};
+
+/// What ended with an attempt.
+#[derive(Clone, Copy)]
+struct Ending {
+    /// Its call.
+    replied: bool,
+    /// That attempt alone, which is to be made again.
+    again: bool,
+}
 
 /// Lets the callers begin, on an image of this version.
 fn wake(callers: &mut [Caller], version: u8)
@@ -80,7 +90,8 @@ impl RunState {
         self.continue_restart(next);
         Deed {
             want,
-            end: None,
+            replied: false,
+            again: false,
             tried: false,
             waits: false,
         }
@@ -97,7 +108,8 @@ impl RunState {
         self.keeper = closing(next);
         Deed {
             want,
-            end: None,
+            replied: false,
+            again: false,
             tried: false,
             waits: false,
         }
@@ -116,6 +128,45 @@ impl RunState {
         }
     }
 
+    /// An entry of the caller at an index goes into its list, where there is one.
+    fn list_entry(&mut self, index: usize, entry: Option<Entry>)
+        requires few { index < most_callers }
+        requires room { (kept : Roomed) × (slice_get self.old.lists index ≡ Some kept) × (0 < kept.spare) }
+        ensures { self.new ≡ record self.old { lists = lists_with self.old.lists index entry } }
+    {
+        if let Some(entry) = entry {
+            self.lists.push(index as u8 + 1, entry);
+        }
+    }
+
+    // The next is a call of its own, since the room that it needs for an end and an entry would else be got ready at each event.
+
+    /// The attempt of the caller at an index has ended: the caller goes on to the next, and the entry of its call, if that has ended too, is
+    /// listed.
+    #[inline(never)]
+    fn end_attempt(&mut self, index: usize) -> Ending
+        requires few { index < most_callers }
+        requires come { (call : SaidCall) × (r : SaidCaller) × (e : SaidEngine) × HasCome index call r e self.old }
+        ensures { (call : SaidCall) (r : SaidCaller) (e : SaidEngine) → HasCome index call r e self.old → HasEnded index call r e self.old result self.new }
+    {
+        let caller = &mut self.callers[index];
+        let end = caller.end();
+        match caller.current() {
+            Some(call) => match end {
+                Some(its_end) => {
+                    let entry = caller.end_attempt(call, its_end);
+                    self.list_entry(index, entry);
+                    Ending {
+                        replied: ends_call(end),
+                        again: ends_in_again(end),
+                    }
+                }
+                None => unreachable!(),
+            },
+            None => unreachable!(),
+        }
+    }
+
     /// Does an event of the engine of the caller at an index, in its call.
     fn do_call_deed(&mut self, index: usize, call: Call, want: Want) -> Deed
         requires runs { MayGo index call want self.old }
@@ -125,15 +176,25 @@ impl RunState {
     {
         let ans = do_event(&mut self.device, index as u8 + 1, want);
         let tried = tries_in_vain(&self.device, want, ans);
-        let answered = self.callers[index].take_answer(call, ans, tried);
-        if let Some(entry) = answered.entry {
-            self.lists.push(index as u8 + 1, entry);
+        let caller = &mut self.callers[index];
+        let has_ended = caller.take_answer(call, ans);
+        let waits = caller.waits_after(tried);
+        if !has_ended {
+            return Deed {
+                want,
+                replied: false,
+                again: false,
+                tried,
+                waits,
+            };
         }
+        let ending = self.end_attempt(index);
         Deed {
             want,
-            end: answered.end,
+            replied: ending.replied,
+            again: ending.again,
             tried,
-            waits: answered.waits,
+            waits,
         }
     }
 

@@ -4,7 +4,7 @@ use Rattle.std.specs.Prelude.{if◌then◌else◌}
 use Rattle.core_run.specs.declared.deed.Deed.{Deed as ToldDeed}
 use Rattle.core_run.specs.declared.goal.Goal.{Goal}
 use Rattle.core_run.specs.State.{State, Deed, deed}
-use Rattle.core_run.specs.Run.{counts, stops, by_deed, drive}
+use Rattle.core_run.specs.Run.{counts, stops, by_deed, drive, ends_call, ends_in_again}
 use Rattle.core_run.specs.Running.{Setup, IsRunning}
 use Rattle.play.specs.declared.run_state.RunState.{RunState}
 use Rattle.play.specs.RunStates.{Stands, IsAfter, HasDone, HasTurned}
@@ -28,7 +28,7 @@ turn_none t s run_state number goal (suc left) some has = none_by t s run_state 
 
 -- what is said of an event that was done is said of that of the definitions
 abbrev IsSaidToStop : Goal → ToldDeed → Bool → Type 0
-IsSaidToStop goal told b = (said : Deed) → told.end ≡ said.end → told.tried ≡ said.tried → told.waits ≡ said.waits → b ≡ stops goal said
+IsSaidToStop goal told b = (said : Deed) → told.again ≡ ends_in_again said.end → told.tried ≡ said.tried → told.waits ≡ said.waits → b ≡ stops goal said
 
 -- an event was done: the drive ends where the caller stops, and else goes on
 after_stands : (t : Setup) (s : State) (old new : RunState) (d : Deed) (told : ToldDeed) → Stands t s old → IsAfter t told d new → IsRunning t d.state
@@ -47,7 +47,7 @@ stops_by t s old new number goal left (Some d) told st is has stopped =
       after_stands t s old new d told st has.0 has.1,
       λ most.
           ap (λ (o : Option Deed). by_deed goal o s (rest most)) (sym is)
-          ∙ chosen (stops goal d) true d.state (rest most d) (sym (stopped d has.0.end has.0.tried has.0.waits)),
+          ∙ chosen (stops goal d) true d.state (rest most d) (sym (stopped d has.0.again has.0.tried has.0.waits)),
     )
 
 pub turn_stops : (t : Setup) (s : State) (old new : RunState) (number : ℕ) (goal : Goal) (left : ℕ) (told : ToldDeed) → 0 < left → Stands t s old
@@ -58,7 +58,7 @@ turn_stops t s old new number goal (suc left) told some st has stopped = stops_b
 goes_by : (t : Setup) (s : State) (old new : RunState) (number : ℕ) (goal : Goal) (left more : ℕ) (counted : Bool) (o : Option Deed) (told : ToldDeed)
     → Stands t s old
     → o ≡ deed t.shape number s → HasDone t s (Some told) o new → IsSaidToStop goal told false
-    → ((said : Deed) → told.want ≡ said.want → told.end ≡ said.end → counted ≡ counts goal said) → more ≡ (if counted then left else suc left)
+    → ((said : Deed) → told.want ≡ said.want → told.replied ≡ ends_call said.end → counted ≡ counts goal said) → more ≡ (if counted then left else suc left)
     → HasTurned t s number goal (suc left) (Some more) new
 goes_by t s old new number goal left more counted None told st is has goes_on count e = absurd has
 goes_by t s old new number goal left more counted (Some d) told st is has goes_on count e =
@@ -67,8 +67,8 @@ goes_by t s old new number goal left more counted (Some d) told st is has goes_o
       after_stands t s old new d told st has.0 has.1,
       λ most.
           ap (λ (o : Option Deed). by_deed goal o s (rest most)) (sym is)
-          ∙ chosen (stops goal d) false d.state (rest most d) (sym (goes_on d has.0.end has.0.tried has.0.waits))
-          ∙ ap (λ (n : ℕ). drive t.shape most number goal n d.state) (sym (e ∙ chosen counted (counts goal d) left (suc left) (count d has.0.want has.0.end))),
+          ∙ chosen (stops goal d) false d.state (rest most d) (sym (goes_on d has.0.again has.0.tried has.0.waits))
+          ∙ ap (λ (n : ℕ). drive t.shape most number goal n d.state) (sym (e ∙ chosen counted (counts goal d) left (suc left) (count d has.0.want has.0.replied))),
     )
 
 one_less : (b : Bool) (left : ℕ) → (if b then suc left - 1 else suc left) ≡ (if b then left else suc left)
@@ -77,7 +77,7 @@ one_less false left = refl
 
 pub turn_goes : (t : Setup) (s : State) (old new : RunState) (number : ℕ) (goal : Goal) (left more : ℕ) (counted : Bool) (told : ToldDeed) → 0 < left → Stands t s old
     → HasDone t s (Some told) (deed t.shape number s) new → IsSaidToStop goal told false
-    → ((said : Deed) → told.want ≡ said.want → told.end ≡ said.end → counted ≡ counts goal said) → more ≡ (if counted then left - 1 else left)
+    → ((said : Deed) → told.want ≡ said.want → told.replied ≡ ends_call said.end → counted ≡ counts goal said) → more ≡ (if counted then left - 1 else left)
     → HasTurned t s number goal left (Some more) new
 turn_goes t s old new number goal zero more counted told some st has goes_on count e = absurd (omega arith)
 turn_goes t s old new number goal (suc left) more counted told some st has goes_on count e =

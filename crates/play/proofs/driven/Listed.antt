@@ -1,7 +1,7 @@
 -- The callers of a run state one by one.
 use Rattle.std.proofs.Common.{◌≡◌, ℕ, zero, suc, ◌+◌, ◌<◌, Option, None, Some, List, [], ◌∷◌, ◌++◌, length, map, length-append, refl, ap, sym, ◌∙◌, subst, arith}
-use Rattle.std.specs.Prelude.{slice_get, slice_set}
-use Rattle.std.proofs.lemmas.Option.{slice_get_within}
+use Rattle.std.specs.Prelude.{get_or, slice_get, slice_set}
+use Rattle.std.proofs.lemmas.Option.{slice_get_within, get_or_from_slice_get}
 use Rattle.map_model.specs.declared.call.Call.{Call}
 use Rattle.map_model.specs.declared.entry.Entry.{Entry}
 use Rattle.map_model.specs.Roomed.{Roomed, lists_of, one_more}
@@ -28,6 +28,10 @@ listed_at (q ∷ callers) (k ∷ lists) zero r room is =
 listed_at (q ∷ callers) (k ∷ lists) (suc index) r room is =
     let there = listed_at callers lists index r room.1 is in
     record { kept = there.kept; its_list = there.its_list; its_caller = there.its_caller; room = there.room }
+
+-- what is read at an index is what is there
+pub at_index : (callers : List PlayCaller) (index : ℕ) (r read : PlayCaller) → slice_get callers index ≡ Some r → read ≡ get_or callers index read → r ≡ read
+at_index callers index r read is reads = sym (reads ∙ get_or_from_slice_get callers index r read is)
 
 -- where there is none, the core has none
 pub none_listed : (callers : List PlayCaller) (lists : List Roomed) (index : ℕ) → slice_get callers index ≡ None → slice_get (callers_of callers lists) index ≡ None

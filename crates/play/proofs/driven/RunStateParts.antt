@@ -1,6 +1,8 @@
 -- What an event makes of a run state, in each of its parts.
-use Rattle.std.proofs.Common.{◌≡◌, ℕ, suc, Bool, false, Option, None, Some, List, ◌∷◌, map, length, refl, ap, sym, ◌∙◌, subst}
+use Rattle.std.proofs.Common.{◌≡◌, ℕ, suc, Bool, false, Option, None, Some, List, ◌∷◌, map, length, refl, ap, sym, ◌∙◌, subst, arith}
 use Rattle.std.specs.Prelude.{◌&&◌, slice_get, slice_set}
+use Rattle.std.proofs.lemmas.List.{length-set, get_or-set_same}
+use Rattle.std.proofs.lemmas.Option.{slice_get_within, slice_get_read}
 use Rattle.op_core.specs.declared.want.Want.{Want}
 use Rattle.op_core.specs.declared.want.Want.TheVariants as want
 use Rattle.op_core.specs.declared.want.Ans.{Ans}
@@ -12,21 +14,24 @@ use Rattle.restart_op.specs.declared.restart.RestartOp.{RestartOp}
 use Rattle.restart_op.specs.Restart.{wanted as restart_wanted, taken as restart_taken}
 use Rattle.restart_op.specs.declared.close.CloseOp.{CloseOp}
 use Rattle.restart_op.specs.Close.{wanted as close_wanted, taken as close_taken}
-use Rattle.core_run.specs.Engines.{End, Engine, wanted, taken, op_part, tries_in_vain, waits_after, Caller, Core, answered}
+use Rattle.core_run.specs.Engines.{End, Engine, wanted, taken, end_of, op_part, tries_in_vain, waits_after, Caller, Core, drawn_by, answered}
 use Rattle.pm_trace.specs.Memory.{Memory}
 use Rattle.pm_trace.specs.TraceOf.{IsTraceOf, Follows}
 use Rattle.core_run.specs.declared.keeper.Keeper.{Keeper}
 use Rattle.core_run.specs.declared.keeper.Keeper.TheVariants.{Open}
 use Rattle.core_run.specs.State.{State, awake, started_by, by_keeper, restarting, closing, end_by, restart_deed, close_deed, engine_deed}
+use Rattle.core_run.specs.Run.{ends_call, ends_in_again}
 use Rattle.core_run.specs.Running.{Setup, start_of}
 use Rattle.play.specs.declared.run_state.RunState.{RunState}
 use Rattle.play.specs.declared.caller.Caller.{Caller as PlayCaller}
-use Rattle.play.specs.Callers.{caller_of, callers_of, told_with, counted_with}
+use Rattle.play.specs.Callers.{caller_of, callers_of, told_with, counted_with, HaveRoom}
 use Rattle.keeping.specs.Asked.{found_by}
 use Rattle.play.specs.RunStates.{IsOf, IsAfter}
-use Rattle.play.specs.Deeds.{NoneTold, restarting_keeper, restarting_callers, closing_keeper, lists_with}
+use Rattle.play.specs.declared.deeds.Ending.{Ending}
+use Rattle.play.specs.Deeds.{NoneTold, HasCome, HasEnded, restarting_keeper, restarting_callers, closing_keeper, lists_with}
+use Rattle.play.proofs.driven.Answering.{HasTaken, answered_on, answered_ended, goes_on}
 use Rattle.play.proofs.driven.Devices.{Holds, found_is, holds_after}
-use Rattle.play.proofs.driven.Listed.{listed_at, listed_set, room_set, has_room_more, awake_callers, awake_room}
+use Rattle.play.proofs.driven.Listed.{listed_at, listed_set, room_set, room_left, has_room_more, awake_callers, awake_room}
 
 -- an event was done on the memory, and answered
 pub record WasDone (old : Memory) (caller : ℕ) (w : Want) (ans : Ans) (new : Memory) : Type 0 where
@@ -72,7 +77,7 @@ keeper_left t old new s w ans k is done keeper callers lists =
 
 pub close_left : (t : Setup) (old new : RunState) (s : State) (op next : CloseOp) (w : Want) (ans : Ans) → IsOf t old s → WasDone old.device 0 w ans new.device
     → w ≡ close_wanted op → next ≡ close_taken op ans → new.keeper ≡ closing_keeper next (close_wanted next)
-    → new.callers.items ≡ old.callers.items → new.lists ≡ old.lists → IsAfter t (record { want = w; end = None; tried = false; waits = false }) (close_deed t.shape op s.core) new
+    → new.callers.items ≡ old.callers.items → new.lists ≡ old.lists → IsAfter t (record { want = w; replied = false; again = false; tried = false; waits = false }) (close_deed t.shape op s.core) new
 close_left t old new s op next w ans is done wants took keeper callers lists =
     let answers : ans ≡ answer_to (close_wanted op) (s.core.words (word_of t.shape (close_wanted op))) =
     answer_is t old s 0 w ans new.device is done ∙ ap (λ (v : Want). answer_to v (s.core.words (word_of t.shape v))) wants in
@@ -81,7 +86,8 @@ close_left t old new s op next w ans is done wants took keeper callers lists =
     let keeps = keeper ∙ closing_is t.shape next (close_wanted next) ∙ ap (λ (o : CloseOp). closing t.shape o (close_wanted o)) said in
     record {
       want = wants;
-      end = refl;
+      replied = refl;
+      again = refl;
       tried = refl;
       waits = refl;
       left = subst
@@ -135,7 +141,7 @@ pub restart_left : (t : Setup) (old new : RunState) (memory : Memory) (s : State
     → WasDone old.device 0 w ans memory → w ≡ restart_wanted op → next ≡ restart_taken op ans → new.device ≡ memory
     → new.keeper ≡ restarting_keeper next (restart_wanted next)
     → new.callers.items ≡ restarting_callers next (restart_wanted next) old.callers.items → new.lists ≡ old.lists
-    → IsAfter t (record { want = w; end = None; tried = false; waits = false }) (restart_deed t.shape op s.core) new
+    → IsAfter t (record { want = w; replied = false; again = false; tried = false; waits = false }) (restart_deed t.shape op s.core) new
 restart_left t old new memory s op next w ans is none done wants took device keeper callers lists =
     let answers : ans ≡ answer_to (restart_wanted op) (s.core.words (word_of t.shape (restart_wanted op))) =
     answer_is t old s 0 w ans memory is done ∙ ap (λ (v : Want). answer_to v (s.core.words (word_of t.shape v))) wants in
@@ -148,7 +154,8 @@ restart_left t old new memory s op next w ans is none done wants took device kee
     restarting_left t middle new s.keeper (by_keeper t.shape w s.core) next (restart_wanted next) there none device keeper callers lists in
     record {
       want = wants;
-      end = refl;
+      replied = refl;
+      again = refl;
       tried = refl;
       waits = refl;
       left = subst (λ (o : RestartOp). IsOf t new (restarting t.shape o (restart_wanted o) (by_keeper t.shape (restart_wanted op) s.core))) said
@@ -157,12 +164,65 @@ restart_left t old new memory s op next w ans is none done wants took device kee
 
 -- ---- a call
 -- what a caller made of an answer
-pub record HasAnswered (r : PlayCaller) (call : Call) (e : Engine) (ans : Ans) (tried : Bool) (new : PlayCaller) (end : Option End) (entry : Option Entry) (waits : Bool) : Type 0 where
+pub record HasAnswered (r : PlayCaller) (call : Call) (e : Engine) (ans : Ans) (tried : Bool) (new : PlayCaller) (replied again : Bool) (entry : Option Entry) (waits : Bool) : Type 0 where
   pub caller : (told : List Entry) → length told ≡ r.ended → caller_of new (told_with entry told) ≡ answered (caller_of r told) call e ans
   pub count : new.ended ≡ counted_with entry r.ended
   pub calls : new.calls ≡ r.calls
-  pub end_is : end ≡ end_by r.site.geometry (taken e ans) (wanted (taken e ans))
+  pub replied_is : replied ≡ ends_call (end_by r.site.geometry (taken e ans) (wanted (taken e ans)))
+  pub again_is : again ≡ ends_in_again (end_by r.site.geometry (taken e ans) (wanted (taken e ans)))
   pub waits_is : waits ≡ (tried && op_part.is_waiting (taken e ans).op)
+
+-- its attempt goes on
+pub has_gone_on : (r next : PlayCaller) (call : Call) (e : Engine) (ans : Ans) (tried waits : Bool) → HasTaken r (taken e ans) next
+    → ((told : List Entry) → length told ≡ r.ended → next.drew ≡ drawn_by (caller_of r told) call ans) → (wanted (taken e ans) ≡ want.Done → ⊥)
+    → waits ≡ (tried && op_part.is_waiting (taken e ans).op) → HasAnswered r call e ans tried next false false None waits
+has_gone_on r next call e ans tried waits is drew on waiting = record {
+  caller = λ told many. answered_on r next call e ans told is (drew told many) on;
+  count = ap (λ (q : PlayCaller). q.ended) is;
+  calls = ap (λ (q : PlayCaller). q.calls) is;
+  replied_is = ap (λ (o : Option End). ends_call o) (goes_on r.site.geometry (taken e ans) (wanted (taken e ans)) on);
+  again_is = ap (λ (o : Option End). ends_in_again o) (goes_on r.site.geometry (taken e ans) (wanted (taken e ans)) on);
+  waits_is = waiting;
+}
+
+-- its attempt has ended
+pub has_come : (r next : PlayCaller) (call : Call) (e : Engine) (ans : Ans) (tried waits : Bool) (index : ℕ) (ending : Ending) (middle new : RunState)
+    → HasTaken r (taken e ans) next
+    → wanted (taken e ans) ≡ want.Done → (ended : HasEnded index call next (taken e ans) middle ending new)
+    → waits ≡ (tried && op_part.is_waiting (taken e ans).op) → HasAnswered r call e ans tried ended.after ending.replied ending.again ended.entry waits
+has_come r next call e ans tried waits index ending middle new is done ended waiting =
+    let same : next.ended ≡ r.ended = ap (λ (q : PlayCaller). q.ended) is in
+    let ends : Some (end_of (taken e ans)) ≡ end_by r.site.geometry (taken e ans) (wanted (taken e ans)) =
+    ap (λ (w : Want). end_by r.site.geometry (taken e ans) w) (sym done) in
+    record {
+      caller = λ told many.
+          answered_ended r next call e ans told (caller_of ended.after (told_with ended.entry told)) is done (ended.caller told (many ∙ sym same));
+      count = ended.count ∙ ap (λ (n : ℕ). counted_with ended.entry n) same;
+      calls = ended.calls ∙ ap (λ (q : PlayCaller). q.calls) is;
+      replied_is = ended.replied ∙ ap (λ (o : Option End). ends_call o) ends;
+      again_is = ended.again ∙ ap (λ (o : Option End). ends_in_again o) ends;
+      waits_is = waiting;
+    }
+
+-- the caller at the index stands at that end, and its list has room
+pub comes : (old middle : RunState) (index : ℕ) (call : Call) (r next : PlayCaller) (e : Engine) → HaveRoom old.callers.items old.lists
+    → slice_get old.callers.items index ≡ Some r → slice_get r.calls.items r.ended ≡ Some call → HasTaken r e next → wanted e ≡ want.Done
+    → middle.callers.items ≡ slice_set old.callers.items index next → middle.lists ≡ old.lists → HasCome index call next e middle
+comes old middle index call r next e room its current is done callers lists =
+    let listed = listed_at old.callers.items old.lists index r room its in
+    let within = slice_get_within old.callers.items index r its in
+    let long : length (slice_set old.callers.items index next) ≡ length old.callers.items = length-set old.callers.items index next in
+    record {
+      kept = listed.kept;
+      is_there = ap (λ cs. slice_get cs index) callers
+          ∙ slice_get_read (slice_set old.callers.items index next) (length (slice_set old.callers.items index next)) index next refl (omega arith)
+          (sym (get_or-set_same old.callers.items index next next within));
+      is_current = ap (λ (q : PlayCaller). slice_get q.calls.items q.ended) is ∙ current;
+      its_engine = ap (λ (q : PlayCaller). q.engine) is;
+      is_done = done;
+      its_list = ap (λ ls. slice_get ls index) lists ∙ listed.its_list;
+      spare = room_left r listed.kept call listed.room current;
+    }
 
 end_by_same : (a b : Shape) (e : Engine) (w : Want) → end_by a e w ≡ end_by b e w
 end_by_same a b e (want.Load i) = refl
@@ -175,12 +235,12 @@ end_by_same a b e want.Power = refl
 end_by_same a b e want.Done = refl
 
 pub call_left : (t : Setup) (old new : RunState) (s : State) (index number : ℕ) (call : Call) (e : Engine) (caller : Caller) (r after : PlayCaller) (w : Want)
-    (ans : Ans) (tried : Bool) (end : Option End) (entry : Option Entry) (waits : Bool) → IsOf t old s → s.keeper ≡ Open → slice_get s.core.callers index ≡ Some caller
+    (ans : Ans) (tried replied again : Bool) (entry : Option Entry) (waits : Bool) → IsOf t old s → s.keeper ≡ Open → slice_get s.core.callers index ≡ Some caller
     → slice_get old.callers.items index ≡ Some r → slice_get r.calls.items r.ended ≡ Some call
-    → number ≡ suc index → WasDone old.device number w ans new.device → w ≡ wanted e → HasAnswered r call e ans tried after end entry waits
+    → number ≡ suc index → WasDone old.device number w ans new.device → w ≡ wanted e → HasAnswered r call e ans tried after replied again entry waits
     → new.keeper ≡ old.keeper → new.callers.items ≡ slice_set old.callers.items index after → new.lists ≡ lists_with old.lists index entry
-    → tried ≡ tries_in_vain old.device.shape w ans → IsAfter t (record { want = w; end = end; tried = tried; waits = waits }) (engine_deed t.shape index s.core caller call e) new
-call_left t old new s index number call e caller r after w ans tried end entry waits is opened there its current numbered was_done wants has keeper callers lists vain =
+    → tried ≡ tries_in_vain old.device.shape w ans → IsAfter t (record { want = w; replied = replied; again = again; tried = tried; waits = waits }) (engine_deed t.shape index s.core caller call e) new
+call_left t old new s index number call e caller r after w ans tried replied again entry waits is opened there its current numbered was_done wants has keeper callers lists vain =
     let done : WasDone old.device (suc index) w ans new.device = subst (λ (n : ℕ). WasDone old.device n w ans new.device) numbered was_done in
     let listed = listed_at old.callers.items old.lists index r is.room its in
     let same : caller_of r listed.kept.entries ≡ caller =
@@ -195,6 +255,11 @@ call_left t old new s index number call e caller r after w ans tried end entry w
     (answer_to (wanted e) (s.core.words (word_of t.shape (wanted e)))) =
     has.caller listed.kept.entries (sym listed.room.counted) ∙ ap (λ (c : Caller). answered c call e ans) same
     ∙ ap (λ (a : Ans). answered caller call e a) answers in
+    let ends : end_by r.site.geometry (taken e ans) (wanted (taken e ans))
+    ≡ end_by t.shape (taken e (answer_to (wanted e) (s.core.words (word_of t.shape (wanted e)))))
+    (wanted (taken e (answer_to (wanted e) (s.core.words (word_of t.shape (wanted e)))))) =
+    end_by_same r.site.geometry t.shape (taken e ans) (wanted (taken e ans))
+    ∙ ap (λ (a : Ans). end_by t.shape (taken e a) (wanted (taken e a))) answers in
     let h = holds_after t old.device new.device s.core.words s.core.trace (suc index) w (holds_of t old s is) done.shape done.callers done.follows in
     let at_want : Holds t new.device (words_after t.shape (wanted e) (suc index) s.core.words)
     (event_of t.shape (wanted e) (s.core.words (word_of t.shape (wanted e))) (suc index) ∷ s.core.trace) =
@@ -202,8 +267,8 @@ call_left t old new s index number call e caller r after w ans tried end entry w
     (event_of t.shape v (s.core.words (word_of t.shape v)) (suc index) ∷ s.core.trace)) wants h in
     record {
       want = wants;
-      end = has.end_is ∙ end_by_same r.site.geometry t.shape (taken e ans) (wanted (taken e ans))
-          ∙ ap (λ (a : Ans). end_by t.shape (taken e a) (wanted (taken e a))) answers;
+      replied = has.replied_is ∙ ap (λ (o : Option End). ends_call o) ends;
+      again = has.again_is ∙ ap (λ (o : Option End). ends_in_again o) ends;
       tried = in_vain;
       waits = has.waits_is ∙ ap (λ (b : Bool). b && op_part.is_waiting (taken e ans).op) in_vain
           ∙ ap (λ (a : Ans). waits_after t.shape (wanted e) (answer_to (wanted e) (s.core.words (word_of t.shape (wanted e)))) (taken e a)) answers;
