@@ -45,9 +45,9 @@ end_attempt-ending-requires-clause-come c =
       c.take_answer-has_ended.new.self,
       e,
       comes c.args.self.now _ c.args.index c.args.call r c.take_answer-has_ended.new.self e runs.room (runs.is_there ∙ ap Some same)
-      (subst (λ (q : PlayCaller). slice_get q.calls.items q.ended ≡ Some c.args.call) same runs.is_current)
-      (c.take_answer-has_ended.ensures.taken runs.engine its_engine) ((c.take_answer-has_ended.ensures.ended runs.engine its_engine).0 c.if-not-has_ended.false)
-      refl refl,
+          (subst (λ (q : PlayCaller). slice_get q.calls.items q.ended ≡ Some c.args.call) same runs.is_current)
+          (c.take_answer-has_ended.ensures.taken runs.engine its_engine) ((c.take_answer-has_ended.ensures.ended runs.engine its_engine).0 c.if-not-has_ended.false)
+          refl refl,
     )
 
 pub returns : goal.returns
