@@ -54,14 +54,17 @@ pub(crate) const LAST_FINGER_FROM: u32 = UPPER_FINGERS_FROM + FINGERPRINT_BITS;
 /// How many fingerprints a word has room for.
 pub const FINGERS_OF_WORD: u8 = 8;
 
+/// How many fingerprints of record slots stand in the last word before the records: those that the word before it has no room for.
+pub const REST_FINGERS: u8 = SLOTS - FINGERS_OF_WORD;
+
 /// From which bit of word 3 on the fingerprints of note slots 0 and 1 stand, above those of record slots.
-pub const NOTE_FINGERS_FROM: u32 = FINGERPRINT_BITS * (SLOTS - FINGERS_OF_WORD) as u32;
+pub const NOTE_FINGERS_FROM: u32 = FINGERPRINT_BITS * REST_FINGERS as u32;
 
 /// How many note slots have their fingerprints in word 3: the lower ones, and the others have theirs in word 1.
 const LOWER_NOTES: u8 = 2;
 
 /// Which byte of word 3 is the fingerprint of note slot 0.
-const FIRST_NOTE_BYTE: u8 = SLOTS - FINGERS_OF_WORD;
+const FIRST_NOTE_BYTE: u8 = REST_FINGERS;
 
 /// Which byte of word 3 is that of note slot 1.
 const SECOND_NOTE_BYTE: u8 = FIRST_NOTE_BYTE + 1;

@@ -1,7 +1,7 @@
 -- THE WORDS OF A SIDE, by what is kept of its segment: all are as they are kept, but for the metadata, which is that of the records of the 1-side
 -- alone.
 use Rattle.std.specs.Prelude.{◌≡◌, ◌≢◌, ℕ, zero, suc, ◌+◌, ◌-◌, ◌*◌, ◌/◌, ◌%◌, ◌<◌, ◌≤◌, ◌==◌, nat_lt, length, slice_index, List, if◌then◌else◌}
-use Rattle.bucket_meta.specs.Bucket.{allocated, record_slots, fingers_of_word, slot_fingers_part}
+use Rattle.bucket_meta.specs.Bucket.{allocated, record_slots, fingers_of_word, rest_fingers, slot_fingers_part}
 use Rattle.bucket_meta.specs.Marks.{copied_mark, with_finger}
 use Rattle.image_layout.specs.Places.{homes, buckets, block, words_of_buckets}
 use Rattle.sound_image.specs.Records.{key_hash}
@@ -28,7 +28,7 @@ abbrev pub low_fingers : (mark word : ℕ) → ℕ
 low_fingers mark word = without_free mark word 0 fingers_of_word
 
 abbrev pub high_fingers : (mark word : ℕ) → ℕ
-high_fingers mark word = without_free mark word fingers_of_word (record_slots - fingers_of_word)
+high_fingers mark word = without_free mark word fingers_of_word rest_fingers
 
 -- ---- a side
 module _ (e : Enclosed) where
