@@ -87,11 +87,11 @@ module _ (site : Ground) (e : Enclosed) where
 
   -- only the words that were cleared may be loose: word 1 of buckets before one
   abbrev pub IsLooseBefore : ℕ → View → Type 0
-  IsLooseBefore b v = (p : ℕ × ℕ) → IsLoose v p → (c : ℕ) × (c < b) × (p.0 ≡ bucket_at site.shape e.segment c + 1)
+  IsLooseBefore b v = (p : ℕ × ℕ) → IsLoose v p → (c : ℕ) × (c < b) × (p.0 ≡ bucket_at site.shape e.segment c + mark_word)
 
   -- a line is that of word 1 of a bucket
   abbrev pub IsClearedLine : ℕ → Type 0
-  IsClearedLine line = (c : ℕ) × (c < buckets) × (line ≡ line_of (bucket_at site.shape e.segment c + 1))
+  IsClearedLine line = (c : ℕ) × (c < buckets) × (line ≡ line_of (bucket_at site.shape e.segment c + mark_word))
 
 module _ (site : Ground) (op : RestOp) where
   -- buckets before this one are cleared, in rounds
