@@ -11,6 +11,22 @@ record_slots = 14
 abbrev pub note_slots : ℕ
 note_slots = 4
 
+-- the words of a bucket before its records, by their numbers in it: its lock word
+abbrev pub lock_word : ℕ
+lock_word = 0
+
+-- its metadata word: which slots have a record, and what is said of the stash
+abbrev pub mark_word : ℕ
+mark_word = 1
+
+-- the word of the fingerprints of its first slots
+abbrev pub fingers_word : ℕ
+fingers_word = 2
+
+-- and the word of the rest of them, with the fingerprints of two notes
+abbrev pub rest_word : ℕ
+rest_word = 3
+
 -- the word in which the key of its first record slot stands: before it stand the lock word and the three metadata words
 abbrev pub first_key : ℕ
 first_key = 4
@@ -85,6 +101,10 @@ marks_bits = 2 * record_slots
 abbrev pub fingers_of_word : ℕ
 fingers_of_word = 8
 
+-- how many fingerprints of record slots stand in w3, the last word before the records: those that w2 has no room for
+abbrev pub rest_fingers : ℕ
+rest_fingers = record_slots - fingers_of_word
+
 -- the fingerprint of slot s: 0 to 7 stand in w2, 8 to 13 in w3
 abbrev pub finger : ℕ → ℕ → ℕ → ℕ
 finger s w2 w3 = if nat_lt s fingers_of_word then bits (fingerprint_bits * s) fingerprint_bits w2 else bits (fingerprint_bits * (s - fingers_of_word)) fingerprint_bits w3
@@ -115,7 +135,7 @@ upper_fingers_from = count_from + count_bits
 
 -- from which bit of w3 on those of note slots 0 and 1 stand, above those of record slots
 abbrev pub note_fingers_from : ℕ
-note_fingers_from = fingerprint_bits * (record_slots - fingers_of_word)
+note_fingers_from = fingerprint_bits * rest_fingers
 
 -- how many note slots have their fingerprints in w3: the lower ones, and the others have theirs in w1
 abbrev pub lower_notes : ℕ

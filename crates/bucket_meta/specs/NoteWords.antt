@@ -3,7 +3,7 @@ use Rattle.std.specs.Prelude.{◌≡◌, ◌≢◌, ℕ, ◌+◌, ◌-◌, ◌*�
 use Rattle.std.specs.Int.{bit_not, w64}
 use Rattle.word_bits.specs.Bits.{mask}
 use Rattle.hash_word.specs.Hash.{fingerprint_bits, finger_mask}
-use Rattle.bucket_meta.specs.Bucket.{note_used, note_member, note_index, note_finger, overflow_count, record_slots, note_slots, fingers_of_word, note_used_from, note_member_from, note_index_from, count_from, upper_fingers_from, last_finger_from, note_fingers_from, slots_part, slot_fingers_part}
+use Rattle.bucket_meta.specs.Bucket.{note_used, note_member, note_index, note_finger, overflow_count, note_slots, rest_fingers, note_used_from, note_member_from, note_index_from, count_from, upper_fingers_from, last_finger_from, note_fingers_from, slots_part, slot_fingers_part}
 use Rattle.bucket_meta.specs.Marks.{with_finger}
 use Rattle.bucket_meta.specs.Visits.{is_note}
 
@@ -29,8 +29,8 @@ freed_mark w1 i =
 -- the fingerprints of places 0 and 1 are the last two bytes of word 3
 abbrev pub freed_fingers : ℕ → ℕ → ℕ
 freed_fingers w3 i =
-    if i == 0 then with_finger w3 (record_slots - fingers_of_word) 0
-    else if i == 1 then with_finger w3 (record_slots - fingers_of_word + 1) 0
+    if i == 0 then with_finger w3 rest_fingers 0
+    else if i == 1 then with_finger w3 (rest_fingers + 1) 0
     else w3
 
 -- the metadata word with one record less that stands in the stash without a note
@@ -81,8 +81,8 @@ noted_mark w1 i side finger index =
 -- word 3 with the fingerprint of note slot i, where that stands there
 abbrev pub noted_fingers : ℕ → ℕ → ℕ → ℕ
 noted_fingers w3 i finger =
-    if i == 0 then with_finger w3 (record_slots - fingers_of_word) finger
-    else if i == 1 then with_finger w3 (record_slots - fingers_of_word + 1) finger
+    if i == 0 then with_finger w3 rest_fingers finger
+    else if i == 1 then with_finger w3 (rest_fingers + 1) finger
     else w3
 
 -- the metadata word with one record more that stands in the stash without a note

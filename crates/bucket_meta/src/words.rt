@@ -1,7 +1,7 @@
 //! The words of a bucket, bit by bit. They may have any bits that no field has, which `Meta` does not keep: so a machine
 //! that loads and stores single words looks at them and changes them here.
 
-ghost use Rattle.std.specs.Prelude.{◌≡◌, ◌≢◌, ◌==◌, ℕ, ◌^◌, ◌<◌, ◌≤◌, ◌↔◌, IfSome, IfNone, IsTrue, slice_index, slice_set, ◌%◌};
+ghost use Rattle.std.specs.Prelude.{◌≡◌, ◌==◌, ℕ, ◌^◌, ◌<◌, ◌↔◌, IfSome, IfNone, IsTrue, slice_set, ◌%◌};
 ghost use Rattle.bucket_meta.specs.Bucket.{allocated, member, finger, note_used, note_member, note_index, note_finger, overflow_count, record_slots, note_slots, first_key, count_bits, locked, unlocked, given_back, without_lock, lock_bit, lock_version, slot_fingers_part};
 ghost use Rattle.bucket_meta.specs.Search.{is_taken, IsThere, lowest_with, lowest_free};
 ghost use Rattle.bucket_meta.specs.Notes.{IsNoteOn};
@@ -54,20 +54,38 @@ pub(crate) const LAST_FINGER_FROM: u32 = UPPER_FINGERS_FROM + FINGERPRINT_BITS;
 /// How many fingerprints a word has room for.
 pub const FINGERS_OF_WORD: u8 = 8;
 
+/// How many fingerprints of record slots stand in the last word before the records: those that the word before it has no room for.
+pub const REST_FINGERS: u8 = SLOTS - FINGERS_OF_WORD;
+
 /// From which bit of word 3 on the fingerprints of note slots 0 and 1 stand, above those of record slots.
-pub const NOTE_FINGERS_FROM: u32 = FINGERPRINT_BITS * (SLOTS - FINGERS_OF_WORD) as u32;
+pub const NOTE_FINGERS_FROM: u32 = FINGERPRINT_BITS * REST_FINGERS as u32;
 
 /// How many note slots have their fingerprints in word 3: the lower ones, and the others have theirs in word 1.
 const LOWER_NOTES: u8 = 2;
 
 /// Which byte of word 3 is the fingerprint of note slot 0.
-const FIRST_NOTE_BYTE: u8 = SLOTS - FINGERS_OF_WORD;
+const FIRST_NOTE_BYTE: u8 = REST_FINGERS;
 
 /// Which byte of word 3 is that of note slot 1.
 const SECOND_NOTE_BYTE: u8 = FIRST_NOTE_BYTE + 1;
 
+/// The last version that a lock may have.
+const LAST_LOCK_VERSION: u64 = u64::MAX / 2;
+
 /// The lock word that is free with the last version, so that nobody takes the lock any more.
-pub const SPENT_LOCK: u64 = u64::MAX - 1;
+pub const SPENT_LOCK: u64 = 2 * LAST_LOCK_VERSION;
+
+/// The words of a bucket before its records, by their numbers in it: its lock word.
+pub const LOCK_WORD: usize = 0;
+
+/// Its metadata word: which slots have a record, and what is said of the stash.
+pub const MARK_WORD: usize = 1;
+
+/// The word of the fingerprints of its first slots.
+pub const FINGERS_WORD: usize = 2;
+
+/// The word of the rest of them, with the fingerprints of two notes.
+pub const REST_WORD: usize = 3;
 
 /// The word of a bucket in which the key of its first record slot stands: before it stand the lock word and the three metadata words.
 pub const FIRST_KEY: usize = 4;
@@ -169,7 +187,9 @@ pub fn lowest_with(words: &[u64; BUCKET_WORDS], key: u64) -> Option<u8>
     ensures nowhere { IfNone result ((slot : ℕ) → slot < record_slots → IsThere words.now key slot → ⊥) }
 {
     for slot in 0..SLOTS {
-        if is_taken(words[1], slot) && words[FIRST_KEY + RECORD_WORDS * usize::from(slot)] == key {
+        if is_taken(words[MARK_WORD], slot)
+            && words[FIRST_KEY + RECORD_WORDS * usize::from(slot)] == key
+        {
             return Some(slot);
         }
     }
@@ -220,7 +240,11 @@ pub fn finger_place(slot: u8) -> usize
     ensures is { result ≡ finger_place slot }
     ensures within { result < first_key }
 {
-    if slot < FINGERS_OF_WORD { 2 } else { 3 }
+    if slot < FINGERS_OF_WORD {
+        FINGERS_WORD
+    } else {
+        REST_WORD
+    }
 }
 
 /// A word of fingerprints with that of a slot changed.

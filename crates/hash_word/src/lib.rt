@@ -24,7 +24,7 @@ pub const VERSION_BITS: u32 = 8;
 pub const HOMES: u8 = 64;
 
 /// The bits of a home bucket's number.
-const HOME_BITS: u64 = HOMES as u64 - 1;
+const HOME_MASK: u64 = HOMES as u64 - 1;
 
 /// The bits of a fingerprint, which are the lowest ones.
 pub const FINGER_MASK: u64 = (1 << FINGERPRINT_BITS) - 1;
@@ -57,7 +57,7 @@ pub fn home(h: u64) -> u8
     ensures of { result ≡ home_of h }
     ensures range { result < homes }
 {
-    (h >> FINGERPRINT_BITS & HOME_BITS) as u8
+    (h >> FINGERPRINT_BITS & HOME_MASK) as u8
 }
 
 /// The number of the probing bucket of a home bucket: the next one, and the first after the last.

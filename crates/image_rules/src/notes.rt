@@ -1,8 +1,8 @@
 //! Overflow notes of home buckets, and whether they are exact.
 
-ghost use Rattle.std.specs.Prelude.{◌≡◌, ℕ, ◌*◌, ◌<◌, ◌≤◌, ◌↔◌, IsTrue, length, slice_index};
+ghost use Rattle.std.specs.Prelude.{◌≡◌, ◌*◌, ◌<◌, ◌≤◌, ◌↔◌, IsTrue, length, slice_index};
 ghost use Rattle.image_layout.specs.Places.{words_of, homes, stash_buckets, buckets, block};
-ghost use Rattle.bucket_meta.specs.Bucket.{note_used, note_member, note_index, note_finger, record_slots, note_slots};
+ghost use Rattle.bucket_meta.specs.Bucket.{note_index, note_finger, record_slots, note_slots};
 ghost use Rattle.sound_image.specs.Records.{word_in, notes_of, stashed_of, HasExactNotes};
 ghost use Rattle.image_rules.specs.Noted.{matches, how_many, piece_on, noted, IsStashed, piece_in, stashed_below, IsNamed, AreNamed};
 ghost use Rattle.image_rules.specs.Slots.{IsRecordSlot};
@@ -10,7 +10,8 @@ ghost use Rattle.image_rules.specs.Slots.{IsRecordSlot};
 use crate::record_slot::{RecordSlot, bucket_word, is_empty, is_taken};
 use crate::records::hash_in;
 use bucket_meta::words::{
-    NOTE_SLOTS, SLOTS, has_no_note, is_note_on, note_finger_of, note_index_of, overflow_count_of,
+    MARK_WORD, NOTE_SLOTS, REST_WORD, SLOTS, has_no_note, is_note_on, note_finger_of,
+    note_index_of, overflow_count_of,
 };
 use image_layout::{Geometry, HOMES, SECOND_STASH};
 
@@ -24,14 +25,14 @@ pub(crate) struct OverflowNote {
 }
 
 /// Word `i` of a bucket.
-fn meta_in(geometry: &Geometry, words: &[u64], s: u64, b: u8, i: u8) -> u64
+fn meta_in(geometry: &Geometry, words: &[u64], s: u64, b: u8, i: usize) -> u64
     requires whole { length words.now ≡ words_of geometry.now }
     requires segment { s < geometry.now.segments }
     requires bucket { b < buckets }
     requires word { i < block }
     ensures { result ≡ word_in geometry.now (slice_index words.now) s b i }
 {
-    words[bucket_word(geometry, s, b) + usize::from(i)]
+    words[bucket_word(geometry, s, b) + i]
 }
 
 /// The note on a note slot of a bucket.
@@ -168,14 +169,14 @@ fn count_notes(
 {
     let beside = hash_word::probing(b);
     let own = count_on(
-        meta_in(geometry, words, s, b, 1),
-        meta_in(geometry, words, s, b, 3),
+        meta_in(geometry, words, s, b, MARK_WORD),
+        meta_in(geometry, words, s, b, REST_WORD),
         0,
         sought,
     );
     let others = count_on(
-        meta_in(geometry, words, s, beside, 1),
-        meta_in(geometry, words, s, beside, 3),
+        meta_in(geometry, words, s, beside, MARK_WORD),
+        meta_in(geometry, words, s, beside, REST_WORD),
         1,
         sought,
     );
@@ -216,11 +217,11 @@ fn is_named(
     requires note_slot { note_slot < note_slots }
     ensures { IsTrue result ↔ IsNamed geometry.now (slice_index words.now) s b c side note_slot }
 {
-    let w1 = meta_in(geometry, words, s, c, 1);
+    let w1 = meta_in(geometry, words, s, c, MARK_WORD);
     if !is_note_on(w1, note_slot, side) {
         return true;
     }
-    let note = note_on(w1, meta_in(geometry, words, s, c, 3), note_slot);
+    let note = note_on(w1, meta_in(geometry, words, s, c, REST_WORD), note_slot);
     let noted = count_notes(geometry, words, s, b, Some(note));
     let stashed = count_stashed(geometry, words, s, b, Some(note));
     if noted > stashed {
@@ -254,14 +255,14 @@ fn has_nothing_noted(geometry: &Geometry, words: &[u64], s: u64, b: u8) -> bool
     requires bucket { b < homes }
     ensures { IsTrue result → HasExactNotes geometry.now (slice_index words.now) s b }
 {
-    let own = meta_in(geometry, words, s, b, 1);
+    let own = meta_in(geometry, words, s, b, MARK_WORD);
     if overflow_count_of(own) > 0 {
         return false;
     }
     if !has_no_note(own) {
         return false;
     }
-    if !has_no_note(meta_in(geometry, words, s, hash_word::probing(b), 1)) {
+    if !has_no_note(meta_in(geometry, words, s, hash_word::probing(b), MARK_WORD)) {
         return false;
     }
     if !is_empty(geometry, words, s, HOMES) {
@@ -280,7 +281,7 @@ pub(crate) fn has_exact_notes(geometry: &Geometry, words: &[u64], s: u64, b: u8)
     if has_nothing_noted(geometry, words, s, b) {
         return true;
     }
-    let unnoted = overflow_count_of(meta_in(geometry, words, s, b, 1));
+    let unnoted = overflow_count_of(meta_in(geometry, words, s, b, MARK_WORD));
     let noted = count_notes(geometry, words, s, b, None);
     if unnoted + noted != count_stashed(geometry, words, s, b, None) {
         return false;

@@ -7,11 +7,13 @@ ghost use Rattle.sound_image.specs.Segments.{frame_of, Owns};
 ghost use Rattle.sound_image.specs.Records.{slot_hash};
 ghost use Rattle.sound_image.specs.Rules.{StandsRight};
 ghost use Rattle.image_rules.specs.Divided.{IsDivided};
-ghost use Rattle.image_rules.specs.Slots.{IsRecordSlot, IsTwin, Needs, IsStandingIn, Agrees, AgreeBelow, AgreeIn, AgreeBefore, beside, Follows, FollowBelow, IsFirstBroken, BucketsFollow, IsFirstKey, SegmentsFollow, IsFirstOfAll};
+ghost use Rattle.image_rules.specs.Slots.{IsRecordSlot, IsTwin, Needs, IsStandingIn, Agrees, AgreeBelow, AgreeIn, AgreeBefore, Follows, FollowBelow, IsFirstBroken, BucketsFollow, IsFirstKey, SegmentsFollow, IsFirstOfAll};
 
 use crate::heads::owns;
 use crate::record_slot::{RecordSlot, bucket_word, is_empty, is_taken, key_in, value_in};
-use bucket_meta::words::{FIRST_KEY, RECORD_WORDS, SLOTS, finger_of, is_member};
+use bucket_meta::words::{
+    FINGERS_WORD, FIRST_KEY, MARK_WORD, RECORD_WORDS, REST_WORD, SLOTS, finger_of, is_member,
+};
 use image_layout::{BUCKETS, Geometry, HOMES, SECOND_STASH};
 use way::key_hash;
 
@@ -44,11 +46,16 @@ fn stands_right(geometry: &Geometry, words: &[u64], record_slot: RecordSlot) -> 
 {
     let at = bucket_word(geometry, record_slot.segment, record_slot.bucket);
     let hash = hash_in(geometry, words, record_slot);
-    if finger_of(words[at + 2], words[at + 3], record_slot.slot) != hash_word::finger(hash) {
+    if finger_of(
+        words[at + FINGERS_WORD],
+        words[at + REST_WORD],
+        record_slot.slot,
+    ) != hash_word::finger(hash)
+    {
         return false;
     }
     let home = hash_word::home(hash);
-    let own = if is_member(words[at + 1], record_slot.slot) {
+    let own = if is_member(words[at + MARK_WORD], record_slot.slot) {
         hash_word::probing(home)
     } else {
         home

@@ -1,6 +1,7 @@
 //! Changes of key 5 on the words of a new image with one segment, and on such words that another caller changes. Each is told by its call.
 use crate::memory::Memory;
 use crate::rows::Follows;
+use bucket_meta::words::MARK_WORD;
 use map_model::{Change, Effect};
 use op_core::{Machine, Want};
 use phase::Held;
@@ -31,7 +32,10 @@ impl Follows for WriteOp {
             return (end, None);
         }
         let kept = self.kept();
-        let (home, probing) = (kept.buckets.home[1], kept.buckets.probing[1]);
+        let (home, probing) = (
+            kept.buckets.home[MARK_WORD],
+            kept.buckets.probing[MARK_WORD],
+        );
         (
             end,
             Some((kept.held, [kept.segment, kept.head, home, probing])),

@@ -1,7 +1,7 @@
 //! Records that come to the stash of a new image with one segment, on words that another caller may change. Each is told by its key.
 use crate::memory::Memory;
 use crate::rows::Follows;
-use bucket_meta::words::must_visit;
+use bucket_meta::words::{MARK_WORD, REST_WORD, must_visit};
 use hash_word::finger;
 use map_model::{Change, Effect};
 use op_core::{Machine, Want};
@@ -28,11 +28,25 @@ fn kept_in(memory: &mut Memory, key: u64) -> Kept {
         ..Held::none()
     };
     let (h, p) = (buckets.home, buckets.probing);
-    if must_visit(h[1], h[3], p[1], p[3], finger(key), 0) {
+    if must_visit(
+        h[MARK_WORD],
+        h[REST_WORD],
+        p[MARK_WORD],
+        p[REST_WORD],
+        finger(key),
+        0,
+    ) {
         buckets.put(Role::First, memory.bucket(2144));
         held.first = locked(memory, 2144);
     }
-    if must_visit(h[1], h[3], p[1], p[3], finger(key), 1) {
+    if must_visit(
+        h[MARK_WORD],
+        h[REST_WORD],
+        p[MARK_WORD],
+        p[REST_WORD],
+        finger(key),
+        1,
+    ) {
         buckets.put(Role::Second, memory.bucket(2176));
         held.second = locked(memory, 2176);
     }
@@ -57,7 +71,7 @@ impl Follows for StashOp {
             return (end, None);
         }
         let kept = self.kept();
-        (end, Some((kept.held, kept.buckets.second[1])))
+        (end, Some((kept.held, kept.buckets.second[MARK_WORD])))
     }
 }
 

@@ -1,7 +1,7 @@
 //! The header word of a segment, field by field, for those who hold the word itself, and put together of its fields. It may
 //! have bits that no field has, and a state byte that is none of the four.
 
-ghost use Rattle.std.specs.Prelude.{◌≡◌, ◌↔◌, ◌⊎◌, IsTrue};
+ghost use Rattle.std.specs.Prelude.{◌≡◌, ◌↔◌, IsTrue};
 ghost use Rattle.segment_head.specs.HeadWord.{version_in, state_in, depth_in, pattern_in, header_of, is_live, HasLiveState};
 
 use hash_word::VERSION_BITS;

@@ -1,6 +1,6 @@
 //! What a split stores, one store after another.
 
-ghost use Rattle.std.specs.Prelude.{◌≡◌, ◌<◌, ◌≤◌, ◌+◌, ◌^◌, length};
+ghost use Rattle.std.specs.Prelude.{◌≡◌, ◌<◌};
 ghost use Rattle.image_layout.specs.Places.{segment_words};
 ghost use Rattle.split_op.specs.Copied.{split_head, side_head};
 ghost use Rattle.split_op.specs.Batches.{slot_word, empty_value, first_of, after_empty, due, after};

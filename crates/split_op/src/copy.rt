@@ -4,7 +4,8 @@ ghost use Rattle.std.specs.Prelude.{◌≡◌};
 ghost use Rattle.split_op.specs.Sides.{HasMarks, low_fingers, high_fingers, IsThinned, side_words};
 
 use bucket_meta::words::{
-    BUCKET_WORDS, FINGERS_OF_WORD, SLOTS, is_taken, slot_fingers_part, with_finger,
+    BUCKET_WORDS, FINGERS_OF_WORD, FINGERS_WORD, MARK_WORD, REST_WORD, SLOTS, is_taken,
+    slot_fingers_part, with_finger,
 };
 use enclose_op::Enclosed;
 use image_layout::{BUCKETS, HOMES, WORDS_OF_BUCKETS};
@@ -23,11 +24,13 @@ fn with_marks(
     for bucket in 0..BUCKETS {
         let at = usize::from(bucket);
         if bucket < HOMES {
-            words[BUCKET_WORDS * at + 1] = notes.first[at];
-            words[BUCKET_WORDS * at + 3] = notes.third[at];
+            words[BUCKET_WORDS * at + MARK_WORD] = notes.first[at];
+            words[BUCKET_WORDS * at + REST_WORD] = notes.third[at];
         } else {
-            words[BUCKET_WORDS * at + 1] = half.first[at];
-            words[BUCKET_WORDS * at + 3] = slot_fingers_part(kept[BUCKET_WORDS * at + 3]);
+            words[BUCKET_WORDS * at + MARK_WORD] = half.first[at];
+            words[BUCKET_WORDS * at + REST_WORD] = slot_fingers_part(
+                kept[BUCKET_WORDS * at + REST_WORD],
+            );
         }
     }
     words
@@ -66,8 +69,8 @@ fn thinned(words: &[u64; WORDS_OF_BUCKETS as usize]) -> [u64; WORDS_OF_BUCKETS a
     let mut thin = *words;
     for bucket in 0..BUCKETS {
         let at = BUCKET_WORDS * usize::from(bucket);
-        thin[at + 2] = low_fingers(words[at + 1], words[at + 2]);
-        thin[at + 3] = high_fingers(words[at + 1], words[at + 3]);
+        thin[at + FINGERS_WORD] = low_fingers(words[at + MARK_WORD], words[at + FINGERS_WORD]);
+        thin[at + REST_WORD] = high_fingers(words[at + MARK_WORD], words[at + REST_WORD]);
     }
     thin
 }

@@ -1,6 +1,6 @@
 //! Whether a segment has room for a hash.
 
-ghost use Rattle.std.specs.Prelude.{◌≡◌, ◌<◌, ◌⊎◌, ◌↔◌, IsTrue, IsNone};
+ghost use Rattle.std.specs.Prelude.{◌≡◌, ◌<◌, ◌⊎◌, ◌↔◌, IsTrue};
 ghost use Rattle.bucket_meta.specs.Slots.{IsFull};
 ghost use Rattle.whole_segment.specs.Room.{HasOnlyMembers, HasNoMembers};
 ghost use Rattle.hash_word.specs.Hash.{home_of};

@@ -2,7 +2,7 @@
 //! of a record, and how the note of one is taken away that leaves the stash.
 
 ghost use Rattle.std.specs.Prelude.{◌≡◌, ℕ, ◌<◌, IfSome, slice_index};
-ghost use Rattle.bucket_meta.specs.Bucket.{record_slots};
+ghost use Rattle.bucket_meta.specs.Bucket.{record_slots, mark_word, fingers_word, rest_word};
 ghost use Rattle.bucket_meta.specs.MetaWords.{IsMetaOf};
 ghost use Rattle.write_op.specs.Search.{spot_or, slot_in, found, room_in, visits, taken_mark, published_word, published_mark, record_in, record_at, stash_index, leaves_note, freed_or, unnoted_by, unnoted, has_finger};
 
@@ -10,8 +10,9 @@ use crate::step::{Seen, Spot, Task};
 use balance::{Choice, choose};
 use bucket_meta::Meta;
 use bucket_meta::words::{
-    self, BUCKET_WORDS, finger_place, freed_fingers, freed_mark, inserted_mark, lowered_count,
-    lowest_free, lowest_with, member_mark, must_visit, note_place, removed_mark, with_finger,
+    self, BUCKET_WORDS, FINGERS_WORD, MARK_WORD, REST_WORD, finger_place, freed_fingers,
+    freed_mark, inserted_mark, lowered_count, lowest_free, lowest_with, member_mark, must_visit,
+    note_place, removed_mark, with_finger,
 };
 use hash_word::finger;
 use map_model::Effect;
@@ -65,9 +66,9 @@ pub fn found(seen: &Seen, key: u64) -> Option<Spot>
 
 /// The metadata of a bucket, by its words.
 fn meta_of(words: &[u64; BUCKET_WORDS]) -> Meta
-    ensures { IsMetaOf result (slice_index words.now 1) (slice_index words.now 2) (slice_index words.now 3) }
+    ensures { IsMetaOf result (slice_index words.now mark_word) (slice_index words.now fingers_word) (slice_index words.now rest_word) }
 {
-    Meta::read([words[1], words[2], words[3]])
+    Meta::read([words[MARK_WORD], words[FINGERS_WORD], words[REST_WORD]])
 }
 
 /// The slot that a new record takes: the lowest free one of the less full of home and probing bucket, of home where both are as
@@ -77,8 +78,8 @@ pub fn room_in(buckets: &Buckets) -> Option<Spot>
     ensures within { IfSome result (λ spot. spot.slot < record_slots) }
 {
     match choose(&meta_of(&buckets.home), &meta_of(&buckets.probing)) {
-        Choice::Home => spot_or(Role::Home, lowest_free(buckets.home[1]), None),
-        Choice::Probe => spot_or(Role::Probing, lowest_free(buckets.probing[1]), None),
+        Choice::Home => spot_or(Role::Home, lowest_free(buckets.home[MARK_WORD]), None),
+        Choice::Probe => spot_or(Role::Probing, lowest_free(buckets.probing[MARK_WORD]), None),
         Choice::Neither => None,
     }
 }
@@ -89,10 +90,10 @@ pub fn visits(hash: u64, buckets: &Buckets, index: u8) -> bool
 {
     let (home, probing) = (&buckets.home, &buckets.probing);
     must_visit(
-        home[1],
-        home[3],
-        probing[1],
-        probing[3],
+        home[MARK_WORD],
+        home[REST_WORD],
+        probing[MARK_WORD],
+        probing[REST_WORD],
         finger(hash),
         index,
     )
@@ -119,7 +120,7 @@ fn published_word(effect: Effect, slot: u8) -> u8
 {
     match effect {
         Effect::Update(_) => FIRST_VALUE + RECORD_WORDS * slot,
-        Effect::Insert(_) | Effect::Remove => 1,
+        Effect::Insert(_) | Effect::Remove => MARK_WORD as u8,
     }
 }
 
@@ -146,7 +147,7 @@ fn record_in(task: &Task, place: Role, words: &[u64; BUCKET_WORDS], slot: u8) ->
         value: brought(effect),
         fingers: with_finger(words[finger_place(slot)], slot, finger(task.hash)),
         published: published_word(effect, slot),
-        mark: published_mark(effect, place, words[1], slot),
+        mark: published_mark(effect, place, words[MARK_WORD], slot),
     }
 }
 
@@ -199,8 +200,8 @@ fn freed_or(place: Role, words: &[u64; BUCKET_WORDS], at: Option<u8>, rest: Note
     match at {
         Some(at) => NoteWords {
             place,
-            mark: freed_mark(words[1], at),
-            fingers: freed_fingers(words[3], at),
+            mark: freed_mark(words[MARK_WORD], at),
+            fingers: freed_fingers(words[REST_WORD], at),
         },
         None => rest,
     }
@@ -218,11 +219,11 @@ fn unnoted_by(
 {
     let counted = NoteWords {
         place: Role::Home,
-        mark: lowered_count(home[1]),
-        fingers: home[3],
+        mark: lowered_count(home[MARK_WORD]),
+        fingers: home[REST_WORD],
     };
-    let in_probing = note_place(probing[1], probing[3], 1, finger, index);
-    let in_home = note_place(home[1], home[3], 0, finger, index);
+    let in_probing = note_place(probing[MARK_WORD], probing[REST_WORD], 1, finger, index);
+    let in_home = note_place(home[MARK_WORD], home[REST_WORD], 0, finger, index);
     let rest = freed_or(Role::Probing, probing, in_probing, counted);
     freed_or(Role::Home, home, in_home, rest)
 }
@@ -245,5 +246,5 @@ pub fn has_finger(seen: &Seen, note: &NoteWords) -> bool
     ensures { result ≡ has_finger seen.now note.now }
 {
     let words = seen.buckets.of(note.place);
-    words[3] != note.fingers
+    words[REST_WORD] != note.fingers
 }
