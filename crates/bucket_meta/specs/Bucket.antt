@@ -12,20 +12,20 @@ abbrev pub note_slots : ℕ
 note_slots = 4
 
 -- the words of a bucket before its records, by their numbers in it: its lock word
-abbrev pub lock_word : ℕ
-lock_word = 0
+abbrev pub lock_place : ℕ
+lock_place = 0
 
 -- its metadata word: which slots have a record, and what is said of the stash
-abbrev pub mark_word : ℕ
-mark_word = 1
+abbrev pub mark_place : ℕ
+mark_place = 1
 
 -- the word of the fingerprints of its first slots
-abbrev pub fingers_word : ℕ
-fingers_word = 2
+abbrev pub fingers_place : ℕ
+fingers_place = 2
 
 -- and the word of the rest of them, with the fingerprints of two notes
-abbrev pub rest_word : ℕ
-rest_word = 3
+abbrev pub rest_place : ℕ
+rest_place = 3
 
 -- the word in which the key of its first record slot stands: before it stand the lock word and the three metadata words
 abbrev pub first_key : ℕ

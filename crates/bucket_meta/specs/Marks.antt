@@ -3,7 +3,7 @@
 use Rattle.std.specs.Prelude.{◌≡◌, ◌≢◌, ℕ, ◌+◌, ◌*◌, ◌/◌, ◌%◌, ◌^◌, ◌<◌, nat_lt, slice_set, if◌then◌else◌, bit_or, bit_and}
 use Rattle.std.specs.Int.{bit_not, w64, to_le_bytes, from_le_bytes}
 use Rattle.word_bits.specs.Bits.{mask}
-use Rattle.bucket_meta.specs.Bucket.{allocated, member, finger, note_used, overflow_count, record_slots, note_slots, marks_bits, fingers_of_word, fingers_word, rest_word}
+use Rattle.bucket_meta.specs.Bucket.{allocated, member, finger, note_used, overflow_count, record_slots, note_slots, marks_bits, fingers_of_word, fingers_place, rest_place}
 
 -- the metadata word where the slot has a record that is at home: its allocation bit set, its membership bit not
 abbrev pub inserted_mark : ℕ → ℕ → ℕ
@@ -31,7 +31,7 @@ cleared_mark w1 slots = bit_and w1 (bit_not w64 (slot_bits slots))
 
 -- fingerprints 0 to 7 stand in word 2, the others in word 3
 abbrev pub finger_place : ℕ → ℕ
-finger_place slot = if nat_lt slot fingers_of_word then fingers_word else rest_word
+finger_place slot = if nat_lt slot fingers_of_word then fingers_place else rest_place
 
 -- a word of fingerprints, a byte each, with the slot's changed
 abbrev pub with_finger : ℕ → ℕ → ℕ → ℕ

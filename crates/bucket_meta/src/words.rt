@@ -76,16 +76,16 @@ const LAST_LOCK_VERSION: u64 = u64::MAX / 2;
 pub const SPENT_LOCK: u64 = 2 * LAST_LOCK_VERSION;
 
 /// The words of a bucket before its records, by their numbers in it: its lock word.
-pub const LOCK_WORD: usize = 0;
+pub const LOCK_PLACE: usize = 0;
 
 /// Its metadata word: which slots have a record, and what is said of the stash.
-pub const MARK_WORD: usize = 1;
+pub const MARK_PLACE: usize = 1;
 
 /// The word of the fingerprints of its first slots.
-pub const FINGERS_WORD: usize = 2;
+pub const FINGERS_PLACE: usize = 2;
 
 /// The word of the rest of them, with the fingerprints of two notes.
-pub const REST_WORD: usize = 3;
+pub const REST_PLACE: usize = 3;
 
 /// The word of a bucket in which the key of its first record slot stands: before it stand the lock word and the three metadata words.
 pub const FIRST_KEY: usize = 4;
@@ -187,7 +187,7 @@ pub fn lowest_with(words: &[u64; BUCKET_WORDS], key: u64) -> Option<u8>
     ensures nowhere { IfNone result ((slot : ℕ) → slot < record_slots → IsThere words.now key slot → ⊥) }
 {
     for slot in 0..SLOTS {
-        if is_taken(words[MARK_WORD], slot)
+        if is_taken(words[MARK_PLACE], slot)
             && words[FIRST_KEY + RECORD_WORDS * usize::from(slot)] == key
         {
             return Some(slot);
@@ -241,9 +241,9 @@ pub fn finger_place(slot: u8) -> usize
     ensures within { result < first_key }
 {
     if slot < FINGERS_OF_WORD {
-        FINGERS_WORD
+        FINGERS_PLACE
     } else {
-        REST_WORD
+        REST_PLACE
     }
 }
 

@@ -1,7 +1,7 @@
 -- A table by its records: each stands where it is looked for, and a key that stands twice has one value.
 use Rattle.std.specs.Prelude.{◌≡◌, ℕ, ◌+◌, ◌≤◌, Some, ◌⊎◌}
 use Rattle.hash_word.specs.Hash.{home_of, finger_of, probing_of}
-use Rattle.bucket_meta.specs.Bucket.{mark_word, member}
+use Rattle.bucket_meta.specs.Bucket.{mark_place, member}
 use Rattle.trace.specs.Events.{Words}
 use Rattle.image_layout.specs.Places.{Shape, bucket_at, homes}
 use Rattle.segment_table.specs.Records.{key_hash}
@@ -18,7 +18,7 @@ StandsAt shape b k bit =
 module _ (shape : Shape) (word : Words) where
   -- slot r of bucket b of segment s is one where a record of key k may stand, and has its fingerprint
   pub record IsRight (s b r k : ℕ) : Type 0 where
-    pub bucket : StandsAt shape b k (member r (word (bucket_at shape s b + mark_word)))
+    pub bucket : StandsAt shape b k (member r (word (bucket_at shape s b + mark_place)))
     pub fingerprint : finger_in word (bucket_at shape s b) r ≡ finger_of (key_hash shape k)
 
   -- A TABLE: in the segment that owns its key's hash each record stands right, and two records of one key have one value.

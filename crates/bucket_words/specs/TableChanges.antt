@@ -1,7 +1,7 @@
 -- What a store does to a table: nothing, or one key has another value; and what a store to one record slot is to keep.
 use Rattle.std.specs.Prelude.{◌≡◌, ◌≢◌, ℕ, ◌+◌, ◌<◌, Option, Some, ◌⊎◌}
 use Rattle.hash_word.specs.Hash.{finger_of}
-use Rattle.bucket_meta.specs.Bucket.{mark_word, allocated, member, record_slots}
+use Rattle.bucket_meta.specs.Bucket.{mark_place, allocated, member, record_slots}
 use Rattle.trace.specs.Events.{Words}
 use Rattle.image_layout.specs.Places.{Shape, bucket_at, buckets}
 use Rattle.segment_table.specs.Records.{key_hash}
@@ -32,7 +32,7 @@ pub record IsReadyAt (shape : Shape) (word : Words) (s b r k : ℕ) : Type 0 whe
   pub segment : s < shape.segments
   pub bucket : b < buckets
   pub slot : r < record_slots
-  pub is_free : allocated r (word (bucket_at shape s b + mark_word)) ≡ 0
+  pub is_free : allocated r (word (bucket_at shape s b + mark_place)) ≡ 0
   pub has_key : key_in word (bucket_at shape s b) r ≡ k
   pub has_finger : finger_in word (bucket_at shape s b) r ≡ finger_of (key_hash shape k)
 
@@ -55,7 +55,7 @@ pub record IsLeft (shape : Shape) (word other : Words) (s b r : ℕ) : Type 0 wh
 -- metadata word x of bucket b of segment s says of slot r what the word there says, or frees it, where its segment does not own its record
 abbrev pub KeepsOrLeaves : Shape → Words → ℕ → ℕ → ℕ → ℕ → Type 0
 KeepsOrLeaves shape word s b x r =
-    ((allocated r x ≡ allocated r (word (bucket_at shape s b + mark_word))) × (member r x ≡ member r (word (bucket_at shape s b + mark_word))))
+    ((allocated r x ≡ allocated r (word (bucket_at shape s b + mark_place))) × (member r x ≡ member r (word (bucket_at shape s b + mark_place))))
     ⊎ ((allocated r x ≡ 0) × (IsTaken word (bucket_at shape s b) r → owner_of shape word (key_hash shape (key_in word (bucket_at shape s b) r)) ≡ Some s → ⊥))
 
 -- A SLOT IS VACATED: it is free after, and where its segment owned the record that took it before, the key of that has another there after
@@ -68,6 +68,6 @@ pub record IsVacated (shape : Shape) (word other : Words) (s b r : ℕ) : Type 0
 -- too, which x leaves, or its segment does not own that
 abbrev pub KeepsOrVacates : Shape → Words → ℕ → ℕ → ℕ → ℕ → Type 0
 KeepsOrVacates shape word s b x r =
-    ((allocated r x ≡ allocated r (word (bucket_at shape s b + mark_word))) × (member r x ≡ member r (word (bucket_at shape s b + mark_word))))
+    ((allocated r x ≡ allocated r (word (bucket_at shape s b + mark_place))) × (member r x ≡ member r (word (bucket_at shape s b + mark_place))))
     ⊎ ((allocated r x ≡ 0) × (IsTaken word (bucket_at shape s b) r → owner_of shape word (key_hash shape (key_in word (bucket_at shape s b) r)) ≡ Some s
     → (c : ℕ) × (t : ℕ) × Hit shape word s c t (key_in word (bucket_at shape s b) r) × (c ≡ b → allocated t x ≡ 1)))

@@ -3,7 +3,7 @@
 ghost use Rattle.std.specs.Prelude.{◌≡◌, ℕ, ◌+◌, ◌<◌, ◌≤◌, List, ◌∷◌};
 ghost use Rattle.trace.specs.Events.{Words, with_word};
 ghost use Rattle.hash_word.specs.Hash.{home_of, finger_of, probing_of};
-ghost use Rattle.bucket_meta.specs.Bucket.{mark_word, overflow_count, record_slots, first_key};
+ghost use Rattle.bucket_meta.specs.Bucket.{mark_place, overflow_count, record_slots, first_key};
 ghost use Rattle.bucket_meta.specs.Marks.{KeepsUpper};
 ghost use Rattle.bucket_meta.specs.Notes.{OverflowNote, AreExact};
 ghost use Rattle.image_layout.specs.Places.{Shape, bucket_at, homes, stash_buckets, buckets};
@@ -21,9 +21,9 @@ pub fn notes_stay()
         → ((n : ℕ) → 1 ≤ n → n < first_key → other (bucket_at shape s b + n) ≡ word (bucket_at shape s b + n))
         → ((n : ℕ) → 1 ≤ n → n < first_key → other (bucket_at shape s (probing_of b) + n) ≡ word (bucket_at shape s (probing_of b) + n))
         → notes_of shape other s b ≡ notes_of shape word s b }
-    ensures metadata { (shape : Shape) (word : Words) (s b x : ℕ) → b < buckets → KeepsUpper (word (bucket_at shape s b + mark_word)) x
-        → (q d : ℕ) → d < homes → (notes_of shape (with_word word (bucket_at shape s b + mark_word) x) q d ≡ notes_of shape word q d)
-        × (overflow_count (word_in shape (with_word word (bucket_at shape s b + mark_word) x) q d mark_word) ≡ overflow_count (word_in shape word q d mark_word)) }
+    ensures metadata { (shape : Shape) (word : Words) (s b x : ℕ) → b < buckets → KeepsUpper (word (bucket_at shape s b + mark_place)) x
+        → (q d : ℕ) → d < homes → (notes_of shape (with_word word (bucket_at shape s b + mark_place) x) q d ≡ notes_of shape word q d)
+        × (overflow_count (word_in shape (with_word word (bucket_at shape s b + mark_place) x) q d mark_place) ≡ overflow_count (word_in shape word q d mark_place)) }
     ensures exact { (shape : Shape) (word other : Words) (s b : ℕ) → SameHomeNotes shape word other s b → HasExactNotes shape word s b → HasExactNotes shape other s b }
 {}
 

@@ -3,7 +3,7 @@
 
 ghost use Rattle.std.specs.Prelude.{◌≡◌, ◌≢◌, ◌↔◌, ◌⊎◌, ℕ, ◌+◌, ◌^◌, ◌<◌, ◌≤◌, None, Some, Option};
 ghost use Rattle.trace.specs.Events.{Words, with_word};
-ghost use Rattle.bucket_meta.specs.Bucket.{mark_word, fingers_word, rest_word, allocated, member, finger, record_slots};
+ghost use Rattle.bucket_meta.specs.Bucket.{mark_place, fingers_place, rest_place, allocated, member, finger, record_slots};
 ghost use Rattle.bucket_meta.specs.Marks.{SameButSlot};
 ghost use Rattle.hash_word.specs.Hash.{home_of, probing_of};
 ghost use Rattle.image_layout.specs.Places.{Shape, IsShape, bucket_at, key_at, value_at, words_of, block, homes, stash_buckets, buckets};
@@ -80,7 +80,7 @@ pub fn foreign_records_leave()
         → ((s b r : ℕ) → s < shape.segments → b < buckets → r < record_slots → SameSlot word other (bucket_at shape s b) r ⊎ IsLeft shape word other s b r)
         → KeepsTable shape word other }
     ensures metadata { (shape : Shape) (word : Words) (s b x : ℕ) → IsTable shape word → s < shape.segments → b < buckets
-        → ((r : ℕ) → r < record_slots → KeepsOrLeaves shape word s b x r) → KeepsTable shape word (with_word word (bucket_at shape s b + mark_word) x) }
+        → ((r : ℕ) → r < record_slots → KeepsOrLeaves shape word s b x r) → KeepsTable shape word (with_word word (bucket_at shape s b + mark_place) x) }
 {}
 
 /// So it is where slots are freed whose keys stand in another slot too, before and after, or whose records their segment does not own.
@@ -89,7 +89,7 @@ pub fn spoiled_records_leave()
         → ((s b r : ℕ) → s < shape.segments → b < buckets → r < record_slots → SameSlot word other (bucket_at shape s b) r ⊎ IsVacated shape word other s b r)
         → KeepsTable shape word other }
     ensures metadata { (shape : Shape) (word : Words) (s b x : ℕ) → IsTable shape word → s < shape.segments → b < buckets
-        → ((r : ℕ) → r < record_slots → KeepsOrVacates shape word s b x r) → KeepsTable shape word (with_word word (bucket_at shape s b + mark_word) x) }
+        → ((r : ℕ) → r < record_slots → KeepsOrVacates shape word s b x r) → KeepsTable shape word (with_word word (bucket_at shape s b + mark_place) x) }
 {}
 
 /// What the store of one word does to a record, in any slot of any bucket of any segment. A metadata word that takes the slot
@@ -100,40 +100,40 @@ pub fn spoiled_records_leave()
 pub fn changes_of_a_record()
     ensures insert { (shape : Shape) (word : Words) (s b r k x : ℕ) → IsTable shape word → IsReadyAt shape word s b r k
         → owner_of shape word (key_hash shape k) ≡ Some s → HasNone shape word s k
-        → SameButSlot r (word (bucket_at shape s b + mark_word)) x → allocated r x ≡ 1 → StandsAt shape b k (member r x)
-        → ChangesKey shape word (with_word word (bucket_at shape s b + mark_word) x) k (Some (value_in word (bucket_at shape s b) r)) }
+        → SameButSlot r (word (bucket_at shape s b + mark_place)) x → allocated r x ≡ 1 → StandsAt shape b k (member r x)
+        → ChangesKey shape word (with_word word (bucket_at shape s b + mark_place) x) k (Some (value_in word (bucket_at shape s b) r)) }
     ensures copy { (shape : Shape) (word : Words) (s b r c t k x : ℕ) → IsTable shape word → IsReadyAt shape word s b r k
         → Hit shape word s c t k → value_in word (bucket_at shape s b) r ≡ value_in word (bucket_at shape s c) t
-        → SameButSlot r (word (bucket_at shape s b + mark_word)) x → allocated r x ≡ 1 → StandsAt shape b k (member r x)
-        → KeepsTable shape word (with_word word (bucket_at shape s b + mark_word) x) }
+        → SameButSlot r (word (bucket_at shape s b + mark_place)) x → allocated r x ≡ 1 → StandsAt shape b k (member r x)
+        → KeepsTable shape word (with_word word (bucket_at shape s b + mark_place) x) }
     ensures clear { (shape : Shape) (word : Words) (s b r c t k x : ℕ) → IsTable shape word → Hit shape word s b r k
         → Hit shape word s c t k → (c ≡ b → t ≡ r → ⊥)
-        → SameButSlot r (word (bucket_at shape s b + mark_word)) x → allocated r x ≡ 0
-        → KeepsTable shape word (with_word word (bucket_at shape s b + mark_word) x) }
+        → SameButSlot r (word (bucket_at shape s b + mark_place)) x → allocated r x ≡ 0
+        → KeepsTable shape word (with_word word (bucket_at shape s b + mark_place) x) }
     ensures update { (shape : Shape) (word : Words) (s b r k x : ℕ) → IsTable shape word → Hit shape word s b r k
         → owner_of shape word (key_hash shape k) ≡ Some s → HasOnly shape word s b r k
         → ChangesKey shape word (with_word word (value_at shape s b r) x) k (Some x) }
     ensures remove { (shape : Shape) (word : Words) (s b r k x : ℕ) → IsTable shape word → Hit shape word s b r k
         → owner_of shape word (key_hash shape k) ≡ Some s → HasOnly shape word s b r k
-        → SameButSlot r (word (bucket_at shape s b + mark_word)) x → allocated r x ≡ 0
-        → ChangesKey shape word (with_word word (bucket_at shape s b + mark_word) x) k None }
+        → SameButSlot r (word (bucket_at shape s b + mark_place)) x → allocated r x ≡ 0
+        → ChangesKey shape word (with_word word (bucket_at shape s b + mark_place) x) k None }
 {}
 
 /// The stores that change no record: to the key or the value of a free slot; to word 2 or 3 of a bucket with the fingerprints of
 /// the taken slots as they were; and of a word with the core that it had.
 pub fn stores_beside_records()
     ensures key { (shape : Shape) (word : Words) (s b r x : ℕ) → IsTable shape word → s < shape.segments → b < buckets → r < record_slots
-        → allocated r (word (bucket_at shape s b + mark_word)) ≡ 0 → KeepsTable shape word (with_word word (key_at shape s b r) x) }
+        → allocated r (word (bucket_at shape s b + mark_place)) ≡ 0 → KeepsTable shape word (with_word word (key_at shape s b r) x) }
     ensures value { (shape : Shape) (word : Words) (s b r x : ℕ) → IsTable shape word → s < shape.segments → b < buckets → r < record_slots
-        → allocated r (word (bucket_at shape s b + mark_word)) ≡ 0 → KeepsTable shape word (with_word word (value_at shape s b r) x) }
+        → allocated r (word (bucket_at shape s b + mark_place)) ≡ 0 → KeepsTable shape word (with_word word (value_at shape s b r) x) }
     ensures low_fingers { (shape : Shape) (word : Words) (s b x : ℕ) → IsTable shape word → s < shape.segments → b < buckets
         → ((t : ℕ) → t < record_slots → IsTaken word (bucket_at shape s b) t
-        → finger t x (word (bucket_at shape s b + rest_word)) ≡ finger t (word (bucket_at shape s b + fingers_word)) (word (bucket_at shape s b + rest_word)))
-        → KeepsTable shape word (with_word word (bucket_at shape s b + fingers_word) x) }
+        → finger t x (word (bucket_at shape s b + rest_place)) ≡ finger t (word (bucket_at shape s b + fingers_place)) (word (bucket_at shape s b + rest_place)))
+        → KeepsTable shape word (with_word word (bucket_at shape s b + fingers_place) x) }
     ensures high_fingers { (shape : Shape) (word : Words) (s b x : ℕ) → IsTable shape word → s < shape.segments → b < buckets
         → ((t : ℕ) → t < record_slots → IsTaken word (bucket_at shape s b) t
-        → finger t (word (bucket_at shape s b + fingers_word)) x ≡ finger t (word (bucket_at shape s b + fingers_word)) (word (bucket_at shape s b + rest_word)))
-        → KeepsTable shape word (with_word word (bucket_at shape s b + rest_word) x) }
+        → finger t (word (bucket_at shape s b + fingers_place)) x ≡ finger t (word (bucket_at shape s b + fingers_place)) (word (bucket_at shape s b + rest_place)))
+        → KeepsTable shape word (with_word word (bucket_at shape s b + rest_place) x) }
     ensures same_core { (shape : Shape) (word : Words) (i x : ℕ) → IsTable shape word → core_of shape i x ≡ core_of shape i (word i)
         → KeepsTable shape word (with_word word i x) }
 {}

@@ -2,7 +2,7 @@
 -- next.
 use Rattle.std.specs.Prelude.{◌≡◌, ℕ, ◌+◌, ◌-◌, ◌^◌, ◌<◌, ◌≤◌, ◌==◌, ◌⊎◌, true, [], ◌∷◌, length, slice_index, if◌then◌else◌}
 use Rattle.trace.specs.Events.{Words}
-use Rattle.bucket_meta.specs.Bucket.{record_slots, mark_word, rest_word, key_place, locked}
+use Rattle.bucket_meta.specs.Bucket.{record_slots, mark_place, rest_place, key_place, locked}
 use Rattle.hash_word.specs.Hash.{Covers, home_of}
 use Rattle.segment_head.specs.HeadWord.{version_in, depth_in, pattern_in}
 use Rattle.segment_head.specs.SplitHeads.{side_depth_in, side_pattern_in, one_pattern_field}
@@ -43,10 +43,10 @@ kept_words e i = if i == head_word e.site.geometry e.segment then e.head else sl
 
 -- word 1 of each bucket, word 3, and the key in each record slot
 abbrev pub kept_first : Enclosed → ℕ → ℕ
-kept_first e b = kept_word e b mark_word
+kept_first e b = kept_word e b mark_place
 
 abbrev pub kept_third : Enclosed → ℕ → ℕ
-kept_third e b = kept_word e b rest_word
+kept_third e b = kept_word e b rest_place
 
 abbrev pub kept_key : Enclosed → ℕ → ℕ → ℕ
 kept_key e b r = kept_word e b (key_place r)

@@ -6,7 +6,7 @@ ghost use Rattle.segment_head.specs.SplitHeads.{side_depth, one_pattern_field};
 ghost use Rattle.image_layout.specs.Places.{buckets};
 ghost use Rattle.whole_segment.specs.Records.{first_in, third_in, key_in};
 
-use bucket_meta::words::{BUCKET_WORDS, FIRST_KEY, MARK_WORD, RECORD_WORDS, REST_WORD, SLOTS};
+use bucket_meta::words::{BUCKET_WORDS, FIRST_KEY, MARK_PLACE, RECORD_WORDS, REST_PLACE, SLOTS};
 use image_layout::{BUCKETS, WORDS_OF_BUCKETS};
 use map_model::Change;
 use segment_head::split;
@@ -58,8 +58,8 @@ impl Enclosed {
         let mut loaded = Loaded::blank();
         for bucket in 0..BUCKETS {
             let at = BUCKET_WORDS * usize::from(bucket);
-            loaded.set_first(bucket, self.buckets[at + MARK_WORD]);
-            loaded.set_third(bucket, self.buckets[at + REST_WORD]);
+            loaded.set_first(bucket, self.buckets[at + MARK_PLACE]);
+            loaded.set_third(bucket, self.buckets[at + REST_PLACE]);
             self.put_keys(&mut loaded, bucket);
         }
         loaded

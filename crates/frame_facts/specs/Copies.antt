@@ -1,7 +1,7 @@
 -- When a side has the records of the 1-side of its segment: as keys and values, and slot by slot as a split copies them.
 use Rattle.std.specs.Prelude.{◌≡◌, ◌≢◌, ◌↔◌, ℕ, ◌+◌, ◌<◌}
 use Rattle.trace.specs.Events.{Words}
-use Rattle.image_layout.specs.Bucket.{mark_word, member, record_slots}
+use Rattle.image_layout.specs.Bucket.{mark_place, member, record_slots}
 use Rattle.image_layout.specs.Places.{Shape, block, buckets, bucket_at}
 use Rattle.bucket_words.specs.Segments.{frame_of, InOneSide}
 use Rattle.bucket_words.specs.Records.{key_hash}
@@ -26,7 +26,7 @@ module _ (shape : Shape) where
     pub record HasRecordOf (at from r : ℕ) : Type 0 where
       pub key : key_in word at r ≡ key_in word from r
       pub value : value_in word at r ≡ value_in word from r
-      pub membership : member r (word (at + mark_word)) ≡ member r (word (from + mark_word))
+      pub membership : member r (word (at + mark_place)) ≡ member r (word (from + mark_place))
       pub fingerprint : finger_in word at r ≡ finger_in word from r
 
     -- record slot r of bucket b of segment s is taken by a record of the 1-side of s

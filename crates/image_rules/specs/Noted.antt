@@ -2,7 +2,7 @@
 use Rattle.std.specs.Prelude.{◌≡◌, ℕ, ◌+◌, ◌<◌, ◌≤◌, ◌==◌, ◌&&◌, Bool, true, Option, None, Some, List, [], ◌∷◌, length, filter, if◌then◌else◌}
 use Rattle.std.specs.List.{flat_map}
 use Rattle.hash_word.specs.Hash.{home_of, finger_of}
-use Rattle.bucket_meta.specs.Bucket.{allocated, mark_word, rest_word, note_used, note_member, note_index, note_finger}
+use Rattle.bucket_meta.specs.Bucket.{allocated, mark_place, rest_place, note_used, note_member, note_index, note_finger}
 use Rattle.bucket_meta.specs.Notes.{OverflowNote, numbers_below, how_often, IsNoteOn}
 use Rattle.image_layout.specs.Places.{Shape, homes}
 use Rattle.sound_image.specs.Segments.{ImageWords}
@@ -29,13 +29,13 @@ noted w1 w3 side limit = flat_map (λ i. piece_on w1 w3 side i) (numbers_below l
 module _ (shape : Shape) (word : ImageWords) where
   -- the record slot has a record of home b
   pub record IsStashed (b : ℕ) (record_slot : RecordSlot) : Type 0 where
-    pub taken : allocated record_slot.slot (word_in shape word record_slot.segment record_slot.bucket mark_word) ≡ 1
+    pub taken : allocated record_slot.slot (word_in shape word record_slot.segment record_slot.bucket mark_place) ≡ 1
     pub home : home_of (slot_hash shape word record_slot.segment record_slot.bucket record_slot.slot) ≡ b
 
   -- the record in a slot of stash bucket k, if there is one of home b
   abbrev pub piece_in : ℕ → ℕ → ℕ → ℕ → List OverflowNote
   piece_in s b k r =
-      if (allocated r (word_in shape word s (homes + k) mark_word) == 1) && (home_of (slot_hash shape word s (homes + k) r) == b)
+      if (allocated r (word_in shape word s (homes + k) mark_place) == 1) && (home_of (slot_hash shape word s (homes + k) r) == b)
       then (finger_of (slot_hash shape word s (homes + k) r), k) ∷ []
       else []
 
@@ -47,9 +47,9 @@ module _ (shape : Shape) (word : ImageWords) where
   -- record does in the stash
   abbrev pub IsNamed : ℕ → ℕ → ℕ → ℕ → ℕ → Type 0
   IsNamed s b c side i =
-      IsNoteOn (word_in shape word s c mark_word) side i
-      → how_often (note_finger i (word_in shape word s c mark_word) (word_in shape word s c rest_word), note_index i (word_in shape word s c mark_word)) (notes_of shape word s b)
-      ≤ how_often (note_finger i (word_in shape word s c mark_word) (word_in shape word s c rest_word), note_index i (word_in shape word s c mark_word)) (stashed_of shape word s b)
+      IsNoteOn (word_in shape word s c mark_place) side i
+      → how_often (note_finger i (word_in shape word s c mark_place) (word_in shape word s c rest_place), note_index i (word_in shape word s c mark_place)) (notes_of shape word s b)
+      ≤ how_often (note_finger i (word_in shape word s c mark_place) (word_in shape word s c rest_place), note_index i (word_in shape word s c mark_place)) (stashed_of shape word s b)
 
   -- so is each on a note slot below a limit
   abbrev pub AreNamed : ℕ → ℕ → ℕ → ℕ → ℕ → Type 0

@@ -1,6 +1,6 @@
 -- What the rules say of the record slots, slot by slot, bucket by bucket and segment by segment.
 use Rattle.std.specs.Prelude.{◌≡◌, ℕ, ◌+◌, ◌<◌, ◌≤◌}
-use Rattle.bucket_meta.specs.Bucket.{lock_word, mark_word, lock_bit, allocated, record_slots}
+use Rattle.bucket_meta.specs.Bucket.{lock_place, mark_place, lock_bit, allocated, record_slots}
 use Rattle.image_layout.specs.Places.{Shape, bucket_at, key_at, homes, buckets, block}
 use Rattle.sound_image.specs.Segments.{ImageWords, frame_of, Owns}
 use Rattle.sound_image.specs.Records.{word_in, slot_key, slot_value, slot_hash, HasRecord, HasOwnRecord, HasExactNotes}
@@ -19,7 +19,7 @@ pub record IsRecordSlot (shape : Shape) (record_slot : RecordSlot) : Type 0 wher
 module _ (shape : Shape) (word : ImageWords) where
   -- slot r of bucket b of segment s has a record
   abbrev pub IsTaken : ℕ → ℕ → ℕ → Type 0
-  IsTaken s b r = allocated r (word_in shape word s b mark_word) ≡ 1
+  IsTaken s b r = allocated r (word_in shape word s b mark_place) ≡ 1
 
   -- the hashes have owners, and the records stand where they are looked for
   pub record IsStanding : Type 0 where
@@ -117,8 +117,8 @@ module _ (shape : Shape) (word : ImageWords) where
   -- what it has at the words of bucket b: it is unlocked, its notes are exact, and each record is the segment's own and
   -- the only one of its key
   pub record IsRepairedAt (s b w : ℕ) : Type 0 where
-    pub lock : w ≡ bucket_at shape s b → lock_bit (word_in shape word s b lock_word) ≡ 0
-    pub notes : b < homes → w ≡ bucket_at shape s b + mark_word → HasExactNotes shape word s b
+    pub lock : w ≡ bucket_at shape s b → lock_bit (word_in shape word s b lock_place) ≡ 0
+    pub notes : b < homes → w ≡ bucket_at shape s b + mark_place → HasExactNotes shape word s b
     pub once : (r : ℕ) → r < record_slots → IsTaken s b r → w ≡ key_at shape s b r → Follows Once s b r
 
   -- a word of bucket b is the least at which it is not so

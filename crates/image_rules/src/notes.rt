@@ -10,7 +10,7 @@ ghost use Rattle.image_rules.specs.Slots.{IsRecordSlot};
 use crate::record_slot::{RecordSlot, bucket_word, is_empty, is_taken};
 use crate::records::hash_in;
 use bucket_meta::words::{
-    MARK_WORD, NOTE_SLOTS, REST_WORD, SLOTS, has_no_note, is_note_on, note_finger_of,
+    MARK_PLACE, NOTE_SLOTS, REST_PLACE, SLOTS, has_no_note, is_note_on, note_finger_of,
     note_index_of, overflow_count_of,
 };
 use image_layout::{Geometry, HOMES, SECOND_STASH};
@@ -169,14 +169,14 @@ fn count_notes(
 {
     let beside = hash_word::probing(b);
     let own = count_on(
-        meta_in(geometry, words, s, b, MARK_WORD),
-        meta_in(geometry, words, s, b, REST_WORD),
+        meta_in(geometry, words, s, b, MARK_PLACE),
+        meta_in(geometry, words, s, b, REST_PLACE),
         0,
         sought,
     );
     let others = count_on(
-        meta_in(geometry, words, s, beside, MARK_WORD),
-        meta_in(geometry, words, s, beside, REST_WORD),
+        meta_in(geometry, words, s, beside, MARK_PLACE),
+        meta_in(geometry, words, s, beside, REST_PLACE),
         1,
         sought,
     );
@@ -217,11 +217,11 @@ fn is_named(
     requires note_slot { note_slot < note_slots }
     ensures { IsTrue result ↔ IsNamed geometry.now (slice_index words.now) s b c side note_slot }
 {
-    let w1 = meta_in(geometry, words, s, c, MARK_WORD);
+    let w1 = meta_in(geometry, words, s, c, MARK_PLACE);
     if !is_note_on(w1, note_slot, side) {
         return true;
     }
-    let note = note_on(w1, meta_in(geometry, words, s, c, REST_WORD), note_slot);
+    let note = note_on(w1, meta_in(geometry, words, s, c, REST_PLACE), note_slot);
     let noted = count_notes(geometry, words, s, b, Some(note));
     let stashed = count_stashed(geometry, words, s, b, Some(note));
     if noted > stashed {
@@ -255,14 +255,14 @@ fn has_nothing_noted(geometry: &Geometry, words: &[u64], s: u64, b: u8) -> bool
     requires bucket { b < homes }
     ensures { IsTrue result → HasExactNotes geometry.now (slice_index words.now) s b }
 {
-    let own = meta_in(geometry, words, s, b, MARK_WORD);
+    let own = meta_in(geometry, words, s, b, MARK_PLACE);
     if overflow_count_of(own) > 0 {
         return false;
     }
     if !has_no_note(own) {
         return false;
     }
-    if !has_no_note(meta_in(geometry, words, s, hash_word::probing(b), MARK_WORD)) {
+    if !has_no_note(meta_in(geometry, words, s, hash_word::probing(b), MARK_PLACE)) {
         return false;
     }
     if !is_empty(geometry, words, s, HOMES) {
@@ -281,7 +281,7 @@ pub(crate) fn has_exact_notes(geometry: &Geometry, words: &[u64], s: u64, b: u8)
     if has_nothing_noted(geometry, words, s, b) {
         return true;
     }
-    let unnoted = overflow_count_of(meta_in(geometry, words, s, b, MARK_WORD));
+    let unnoted = overflow_count_of(meta_in(geometry, words, s, b, MARK_PLACE));
     let noted = count_notes(geometry, words, s, b, None);
     if unnoted + noted != count_stashed(geometry, words, s, b, None) {
         return false;

@@ -6,7 +6,7 @@ ghost use Rattle.image_layout.specs.Places.{bucket_at, words_of, buckets, block,
 ghost use Rattle.sound_image.specs.Records.{slot_key, slot_value};
 ghost use Rattle.image_rules.specs.Slots.{IsRecordSlot, IsTaken};
 
-use bucket_meta::words::{self, FIRST_KEY, FIRST_VALUE, MARK_WORD, RECORD_WORDS};
+use bucket_meta::words::{self, FIRST_KEY, FIRST_VALUE, MARK_PLACE, RECORD_WORDS};
 use image_layout::Geometry;
 
 /// A record slot.
@@ -38,7 +38,7 @@ pub(crate) fn is_taken(geometry: &Geometry, words: &[u64], record_slot: RecordSl
     ensures { IsTrue result ↔ IsTaken geometry.now (slice_index words.now) record_slot.segment record_slot.bucket record_slot.slot }
 {
     words::is_taken(
-        words[bucket_word(geometry, record_slot.segment, record_slot.bucket) + MARK_WORD],
+        words[bucket_word(geometry, record_slot.segment, record_slot.bucket) + MARK_PLACE],
         record_slot.slot,
     )
 }
@@ -50,7 +50,7 @@ pub(crate) fn is_empty(geometry: &Geometry, words: &[u64], s: u64, b: u8) -> boo
     requires bucket { b < buckets }
     ensures { IsTrue result → (r : ℕ) → r < record_slots → IsTaken geometry.now (slice_index words.now) s b r → ⊥ }
 {
-    words::is_empty(words[bucket_word(geometry, s, b) + MARK_WORD])
+    words::is_empty(words[bucket_word(geometry, s, b) + MARK_PLACE])
 }
 
 /// The key in a record slot.

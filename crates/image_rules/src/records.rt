@@ -12,7 +12,7 @@ ghost use Rattle.image_rules.specs.Slots.{IsRecordSlot, IsTwin, Needs, IsStandin
 use crate::heads::owns;
 use crate::record_slot::{RecordSlot, bucket_word, is_empty, is_taken, key_in, value_in};
 use bucket_meta::words::{
-    FINGERS_WORD, FIRST_KEY, MARK_WORD, RECORD_WORDS, REST_WORD, SLOTS, finger_of, is_member,
+    FINGERS_PLACE, FIRST_KEY, MARK_PLACE, RECORD_WORDS, REST_PLACE, SLOTS, finger_of, is_member,
 };
 use image_layout::{BUCKETS, Geometry, HOMES, SECOND_STASH};
 use way::key_hash;
@@ -47,15 +47,15 @@ fn stands_right(geometry: &Geometry, words: &[u64], record_slot: RecordSlot) -> 
     let at = bucket_word(geometry, record_slot.segment, record_slot.bucket);
     let hash = hash_in(geometry, words, record_slot);
     if finger_of(
-        words[at + FINGERS_WORD],
-        words[at + REST_WORD],
+        words[at + FINGERS_PLACE],
+        words[at + REST_PLACE],
         record_slot.slot,
     ) != hash_word::finger(hash)
     {
         return false;
     }
     let home = hash_word::home(hash);
-    let own = if is_member(words[at + MARK_WORD], record_slot.slot) {
+    let own = if is_member(words[at + MARK_PLACE], record_slot.slot) {
         hash_word::probing(home)
     } else {
         home

@@ -1,7 +1,7 @@
 //! Changes of key 5 on the words of a new image with one segment, and on such words that another caller changes. Each is told by its call.
 use crate::memory::Memory;
 use crate::rows::Follows;
-use bucket_meta::words::MARK_WORD;
+use bucket_meta::words::MARK_PLACE;
 use map_model::{Change, Effect};
 use op_core::{Machine, Want};
 use phase::Held;
@@ -33,8 +33,8 @@ impl Follows for WriteOp {
         }
         let kept = self.kept();
         let (home, probing) = (
-            kept.buckets.home[MARK_WORD],
-            kept.buckets.probing[MARK_WORD],
+            kept.buckets.home[MARK_PLACE],
+            kept.buckets.probing[MARK_PLACE],
         );
         (
             end,

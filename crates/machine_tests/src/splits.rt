@@ -2,7 +2,7 @@
 //! slot 1 is free. The words of the side were reckoned by the plain model of a split.
 use crate::memory::Memory;
 use crate::rows::Follows;
-use bucket_meta::words::REST_WORD;
+use bucket_meta::words::REST_PLACE;
 use map_model::{Change, Effect};
 use split_op::{SplitEnd, SplitOp};
 use std::test::Fail;
@@ -17,7 +17,7 @@ impl Follows for SplitOp {
     }
 
     fn stands(&self) -> Self::Stand {
-        let words = [self.copied.words[REST_WORD], self.copied.words[2051]];
+        let words = [self.copied.words[REST_PLACE], self.copied.words[2051]];
         (self.end(), self.copied.side, words)
     }
 }

@@ -1,7 +1,7 @@
 //! Records that come to the stash of a new image with one segment, on words that another caller may change. Each is told by its key.
 use crate::memory::Memory;
 use crate::rows::Follows;
-use bucket_meta::words::{MARK_WORD, REST_WORD, must_visit};
+use bucket_meta::words::{MARK_PLACE, REST_PLACE, must_visit};
 use hash_word::finger;
 use map_model::{Change, Effect};
 use op_core::{Machine, Want};
@@ -29,10 +29,10 @@ fn kept_in(memory: &mut Memory, key: u64) -> Kept {
     };
     let (h, p) = (buckets.home, buckets.probing);
     if must_visit(
-        h[MARK_WORD],
-        h[REST_WORD],
-        p[MARK_WORD],
-        p[REST_WORD],
+        h[MARK_PLACE],
+        h[REST_PLACE],
+        p[MARK_PLACE],
+        p[REST_PLACE],
         finger(key),
         0,
     ) {
@@ -40,10 +40,10 @@ fn kept_in(memory: &mut Memory, key: u64) -> Kept {
         held.first = locked(memory, 2144);
     }
     if must_visit(
-        h[MARK_WORD],
-        h[REST_WORD],
-        p[MARK_WORD],
-        p[REST_WORD],
+        h[MARK_PLACE],
+        h[REST_PLACE],
+        p[MARK_PLACE],
+        p[REST_PLACE],
         finger(key),
         1,
     ) {
@@ -71,7 +71,7 @@ impl Follows for StashOp {
             return (end, None);
         }
         let kept = self.kept();
-        (end, Some((kept.held, kept.buckets.second[MARK_WORD])))
+        (end, Some((kept.held, kept.buckets.second[MARK_PLACE])))
     }
 }
 

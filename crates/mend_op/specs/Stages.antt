@@ -1,6 +1,6 @@
 -- The three stages in which words are stored: which words each may change, one after another, and what they are to be.
 use Rattle.std.specs.Prelude.{ℕ, ◌+◌, ◌*◌, ◌/◌, ◌%◌, List}
-use Rattle.bucket_meta.specs.Bucket.{mark_word}
+use Rattle.bucket_meta.specs.Bucket.{mark_place}
 use Rattle.image_layout.specs.Places.{Shape, buckets, block, note_words, words_of_buckets}
 use Rattle.whole_segment.specs.Words.{words_by}
 use Rattle.mend_op.specs.declared.stage.Stage.{Stage}
@@ -15,7 +15,7 @@ most Note = note_words
 
 -- which word of the buckets is the one of this number among them
 abbrev pub place : Stage → ℕ → ℕ
-place Clear n = block * n + mark_word
+place Clear n = block * n + mark_place
 place Mend n = block * (n / 2) + n % 2
 place Note n = block * (n / 2) + 1 + 2 * (n % 2)
 

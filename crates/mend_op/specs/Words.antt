@@ -1,7 +1,7 @@
 -- The words of the buckets of a segment, by their numbers: word n of bucket b is number 32 * b + n. And what a mending makes of them, in its
 -- three stages: of a split that ends the records of the 1-side leave, then locks are free and spoiled records leave, and then notes are exact.
 use Rattle.std.specs.Prelude.{◌≡◌, ℕ, min, ◌+◌, ◌*◌, ◌/◌, ◌%◌, ◌<◌, ◌==◌, ◌&&◌, nat_lt, List, slice_index, if◌then◌else◌}
-use Rattle.bucket_meta.specs.Bucket.{record_slots, lock_word, mark_word, rest_word, first_key, without_lock, record_words}
+use Rattle.bucket_meta.specs.Bucket.{record_slots, lock_place, mark_place, rest_place, first_key, without_lock, record_words}
 use Rattle.bucket_meta.specs.Marks.{cleared_mark}
 use Rattle.segment_head.specs.HeadWord.{depth_in, pattern_in, header_of, normal}
 use Rattle.hash_word.specs.Hash.{hash_bits}
@@ -40,10 +40,10 @@ mended_lock w = without_lock w
 module _ (words : List ℕ) where
   -- words 1 and 3 of each bucket, and the key in each record slot
   abbrev pub first_of : ℕ → ℕ
-  first_of b = word_of_bucket words b mark_word
+  first_of b = word_of_bucket words b mark_place
 
   abbrev pub third_of : ℕ → ℕ
-  third_of b = word_of_bucket words b rest_word
+  third_of b = word_of_bucket words b rest_place
 
   abbrev pub key_of : ℕ → ℕ → ℕ
   key_of b r = slice_index words (block * b + first_key + record_words * r)
@@ -70,13 +70,13 @@ module _ (words : List ℕ) where
 
     -- the words of this number that these make
     abbrev pub halved : ℕ → ℕ
-    halved i = if i % block == mark_word then halved_first (i / block) else slice_index words i
+    halved i = if i % block == mark_place then halved_first (i / block) else slice_index words i
 
     abbrev pub mended : ℕ → ℕ
-    mended i = if i % block == lock_word then mended_lock (slice_index words i) else if i % block == mark_word then mended_first (i / block) else slice_index words i
+    mended i = if i % block == lock_place then mended_lock (slice_index words i) else if i % block == mark_place then mended_first (i / block) else slice_index words i
 
     abbrev pub noted : ℕ → ℕ
     noted i =
-        if nat_lt (i / block) homes && (i % block == mark_word) then first_with (first_of (i / block)) (notes_of (i / block))
-        else if nat_lt (i / block) homes && (i % block == rest_word) then third_with (third_of (i / block)) (notes_of (i / block))
+        if nat_lt (i / block) homes && (i % block == mark_place) then first_with (first_of (i / block)) (notes_of (i / block))
+        else if nat_lt (i / block) homes && (i % block == rest_place) then third_with (third_of (i / block)) (notes_of (i / block))
         else slice_index words i

@@ -6,7 +6,7 @@ ghost use Rattle.image_layout.specs.Places.{buckets};
 ghost use Rattle.whole_segment.specs.Records.{first_in, third_in, key_in};
 ghost use Rattle.mend_op.specs.Words.{key_of, HasWords};
 
-use bucket_meta::words::{BUCKET_WORDS, FIRST_KEY, MARK_WORD, RECORD_WORDS, REST_WORD, SLOTS};
+use bucket_meta::words::{BUCKET_WORDS, FIRST_KEY, MARK_PLACE, RECORD_WORDS, REST_PLACE, SLOTS};
 use image_layout::{BUCKETS, WORDS_OF_BUCKETS};
 use whole_segment::Loaded;
 
@@ -34,8 +34,8 @@ pub(crate) fn loaded_of(words: &Words) -> Loaded
     let mut loaded = Loaded::blank();
     for bucket in 0..BUCKETS {
         let at = BUCKET_WORDS * usize::from(bucket);
-        loaded.set_first(bucket, words[at + MARK_WORD]);
-        loaded.set_third(bucket, words[at + REST_WORD]);
+        loaded.set_first(bucket, words[at + MARK_PLACE]);
+        loaded.set_third(bucket, words[at + REST_PLACE]);
         put_keys(&mut loaded, words, bucket);
     }
     loaded

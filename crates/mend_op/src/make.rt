@@ -8,7 +8,7 @@ ghost use Rattle.mend_op.specs.Stages.{made};
 use crate::heads::own_depth;
 use crate::load::{Words, loaded_of};
 use crate::stage::Stage;
-use bucket_meta::words::{BUCKET_WORDS, MARK_WORD, REST_WORD, without_lock};
+use bucket_meta::words::{BUCKET_WORDS, MARK_PLACE, REST_PLACE, without_lock};
 use image_layout::{BUCKETS, Geometry};
 use segment_head::split::{one_pattern_field, side_depth};
 use segment_head::word::pattern_of;
@@ -43,7 +43,7 @@ fn halved(words: &Words, geometry: &Geometry, head: u64) -> Words
 {
     let rest = loaded_of(words).without_half(geometry, side_depth(head), one_pattern_field(head));
     let mut next = *words;
-    put(&mut next, MARK_WORD, &rest.first);
+    put(&mut next, MARK_PLACE, &rest.first);
     next
 }
 
@@ -54,7 +54,7 @@ fn mended(words: &Words, geometry: &Geometry, head: u64) -> Words
     let mended = loaded_of(words).mended(geometry, own_depth(head), pattern_of(head));
     let mut next = *words;
     free_locks(&mut next);
-    put(&mut next, MARK_WORD, &mended.first);
+    put(&mut next, MARK_PLACE, &mended.first);
     next
 }
 
@@ -64,8 +64,8 @@ fn noted(words: &Words, geometry: &Geometry) -> Words
 {
     let notes = rebuilt_notes(&loaded_of(words), geometry);
     let mut next = *words;
-    put(&mut next, MARK_WORD, &notes.first);
-    put(&mut next, REST_WORD, &notes.third);
+    put(&mut next, MARK_PLACE, &notes.first);
+    put(&mut next, REST_PLACE, &notes.third);
     next
 }
 

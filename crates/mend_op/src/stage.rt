@@ -4,7 +4,7 @@ ghost use Rattle.std.specs.Prelude.{◌≡◌, ◌<◌};
 ghost use Rattle.image_layout.specs.Places.{words_of_buckets};
 ghost use Rattle.mend_op.specs.Stages.{most, place};
 
-use bucket_meta::words::MARK_WORD;
+use bucket_meta::words::MARK_PLACE;
 use image_layout::{BLOCK_WORDS, BUCKETS, NOTE_WORDS};
 
 /// What is stored, and in which words.
@@ -37,7 +37,7 @@ impl Stage {
     {
         let number = u16::from(number);
         match self {
-            Stage::Clear => BLOCK_WORDS * number + MARK_WORD as u16,
+            Stage::Clear => BLOCK_WORDS * number + MARK_PLACE as u16,
             Stage::Mend => BLOCK_WORDS * (number / 2) + number % 2,
             Stage::Note => BLOCK_WORDS * (number / 2) + 1 + 2 * (number % 2),
         }

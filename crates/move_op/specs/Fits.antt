@@ -1,6 +1,6 @@
 -- How a displacement fits the world: the kind of each of its events, and the view that its caller has in each step.
 use Rattle.std.specs.Prelude.{◌≡◌, ◌≢◌, ℕ, ◌+◌, ◌%◌, ◌^◌, ◌<◌, ⊤, true, Option, None, Some, List, [], ◌∷◌, slice_index}
-use Rattle.bucket_meta.specs.Bucket.{allocated, finger, record_slots, mark_word, fingers_word, rest_word, key_place}
+use Rattle.bucket_meta.specs.Bucket.{allocated, finger, record_slots, mark_place, fingers_place, rest_place, key_place}
 use Rattle.hash_word.specs.Hash.{home_of, finger_of}
 use Rattle.trace.specs.Events.{Words}
 use Rattle.image_layout.specs.Places.{root_word, block}
@@ -147,10 +147,10 @@ pub record KeepsBut (direction : Direction) (site : Ground) (kept : Kept) (v : V
 pub record CanMove (site : Ground) (kept : Kept) (direction : Direction) (from to : ℕ) : Type 0 where
   pub from_low : from < record_slots
   pub to_low : to < record_slots
-  pub taken : allocated from (slice_index (words_in kept.buckets (source_of direction)) mark_word) ≡ 1
-  pub is_free : allocated to (slice_index (words_in kept.buckets (target_of direction)) mark_word) ≡ 0
+  pub taken : allocated from (slice_index (words_in kept.buckets (source_of direction)) mark_place) ≡ 1
+  pub is_free : allocated to (slice_index (words_in kept.buckets (target_of direction)) mark_place) ≡ 0
   pub home : bucket_of kept.hash (home_place direction) ≡ home_of (key_hash site.shape (slice_index (words_in kept.buckets (source_of direction)) (key_place from)))
-  pub fingerprint : finger from (slice_index (words_in kept.buckets (source_of direction)) fingers_word) (slice_index (words_in kept.buckets (source_of direction)) rest_word)
+  pub fingerprint : finger from (slice_index (words_in kept.buckets (source_of direction)) fingers_place) (slice_index (words_in kept.buckets (source_of direction)) rest_place)
       ≡ finger_of (key_hash site.shape (slice_index (words_in kept.buckets (source_of direction)) (key_place from)))
 
 -- a shift is that of a record that can move, the lowest one

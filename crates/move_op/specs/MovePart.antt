@@ -1,6 +1,6 @@
 -- A displacement as a part of a call: where no record can move it keeps its locks, and another part goes on.
 use Rattle.std.specs.Prelude.{◌≡◌, ⊤, true, false, None, slice_index}
-use Rattle.bucket_meta.specs.Bucket.{mark_word}
+use Rattle.bucket_meta.specs.Bucket.{mark_place}
 use Rattle.map_model.specs.declared.call.Call.{Call}
 use Rattle.world.specs.declared.site.Site.{Site}
 use Rattle.world.specs.Ground.{Ground, spent_lock}
@@ -36,7 +36,7 @@ module _ (site : Ground) (kept : Kept) (did : Doings) where
   -- before the second direction is tried, the words of the next bucket were loaded, and by them no record can move on
   abbrev pub HasTried : Direction → Type 0
   HasTried Forward = ⊤
-  HasTried Backward = WasLoaded kept did.loads Next × NothingMovesOn (slice_index kept.buckets.probing mark_word) (slice_index kept.buckets.next mark_word)
+  HasTried Backward = WasLoaded kept did.loads Next × NothingMovesOn (slice_index kept.buckets.probing mark_place) (slice_index kept.buckets.next mark_place)
 
   -- the lock word of a third bucket that had its turn was loaded as free with the last version
   abbrev pub LoadedSpent : Type 0

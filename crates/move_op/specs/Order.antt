@@ -1,6 +1,6 @@
 -- WHICH RECORD MOVES: the lowest that may, forward where one may and else backward, to the lowest free slot of the third bucket.
 use Rattle.std.specs.Prelude.{◌≡◌, ℕ, ◌<◌, ⊤, ◌⊎◌, Some, slice_index}
-use Rattle.bucket_meta.specs.Bucket.{allocated, member, record_slots, mark_word}
+use Rattle.bucket_meta.specs.Bucket.{allocated, member, record_slots, mark_place}
 use Rattle.bucket_meta.specs.Search.{lowest_free}
 use Rattle.bucket_meta.specs.Slots.{IsFull}
 use Rattle.part.specs.Room.{HasOnlyMembers}
@@ -13,7 +13,7 @@ use Rattle.move_op.specs.Shifts.{source_of, target_of, bit_of}
 
 -- by the metadata words of the probing and the next bucket no record can move on
 abbrev pub StaysForward : Kept → Type 0
-StaysForward kept = HasOnlyMembers (slice_index kept.buckets.probing mark_word) ⊎ IsFull (slice_index kept.buckets.next mark_word)
+StaysForward kept = HasOnlyMembers (slice_index kept.buckets.probing mark_place) ⊎ IsFull (slice_index kept.buckets.next mark_place)
 
 -- a direction has its turn: the second one where no record can move in the first
 abbrev pub HasTurn : Direction → Kept → Type 0
@@ -23,10 +23,10 @@ HasTurn Backward kept = StaysForward kept
 module _ (kept : Kept) (direction : Direction) where
   -- the metadata words of the bucket that the record leaves, and of that to which it comes
   abbrev pub source_word : ℕ
-  source_word = slice_index (words_in kept.buckets (source_of direction)) mark_word
+  source_word = slice_index (words_in kept.buckets (source_of direction)) mark_place
 
   abbrev pub target_word : ℕ
-  target_word = slice_index (words_in kept.buckets (target_of direction)) mark_word
+  target_word = slice_index (words_in kept.buckets (target_of direction)) mark_place
 
   -- a record may leave this slot
   pub record MayLeave (slot : ℕ) : Type 0 where

@@ -1,7 +1,7 @@
 -- Which record moves to make room for a new one, and what is stored of its copy, of its source, and of the new record.
 use Rattle.std.specs.Prelude.{◌==◌, ◌&&◌, ℕ, zero, suc, ◌+◌, Option, None, Some, List, slice_index, if◌then◌else◌}
 use Rattle.hash_word.specs.Hash.{finger_of}
-use Rattle.bucket_meta.specs.Bucket.{member, finger, record_slots, mark_word, fingers_word, rest_word, key_place, value_place}
+use Rattle.bucket_meta.specs.Bucket.{member, finger, record_slots, mark_place, fingers_place, rest_place, key_place, value_place}
 use Rattle.bucket_meta.specs.Search.{is_taken, lowest_free}
 use Rattle.bucket_meta.specs.Marks.{inserted_mark, member_mark, removed_mark, finger_place, with_finger}
 use Rattle.phase.specs.declared.role.Role.{Role}
@@ -64,14 +64,14 @@ copied direction source from target to = record {
   slot = to;
   key = slice_index source (key_place from);
   value = slice_index source (value_place from);
-  fingers = with_finger (slice_index target (finger_place to)) to (finger from (slice_index source fingers_word) (slice_index source rest_word));
-  published = mark_word;
-  mark = arrived_mark direction (slice_index target mark_word) to;
+  fingers = with_finger (slice_index target (finger_place to)) to (finger from (slice_index source fingers_place) (slice_index source rest_place));
+  published = mark_place;
+  mark = arrived_mark direction (slice_index target mark_place) to;
 }
 
 -- where it stood: the metadata word alone
 abbrev pub cleared : List ℕ → ℕ → Record
-cleared source from = record { slot = from; key = 0; value = 0; fingers = 0; published = mark_word; mark = removed_mark (slice_index source mark_word) from }
+cleared source from = record { slot = from; key = 0; value = 0; fingers = 0; published = mark_place; mark = removed_mark (slice_index source mark_place) from }
 
 -- of the new record, in the slot that was cleared
 abbrev pub placed : Direction → Kept → List ℕ → ℕ → Record
@@ -80,8 +80,8 @@ placed direction kept source from = record {
   key = kept.change.key;
   value = brought kept.change.effect;
   fingers = with_finger (slice_index source (finger_place from)) from (finger_of kept.hash);
-  published = mark_word;
-  mark = arrived_mark direction (removed_mark (slice_index source mark_word) from) from;
+  published = mark_place;
+  mark = arrived_mark direction (removed_mark (slice_index source mark_place) from) from;
 }
 
 -- THE SHIFT of the record of one slot to another
@@ -102,8 +102,8 @@ shift_by kept direction from to = None
 abbrev pub shift_in : Kept → Direction → Option Shift
 shift_in kept direction =
     shift_by kept direction
-    (moving_slot direction (slice_index (words_in kept.buckets (source_of direction)) mark_word) (lowest_free (slice_index (words_in kept.buckets (target_of direction)) mark_word)))
-    (lowest_free (slice_index (words_in kept.buckets (target_of direction)) mark_word))
+    (moving_slot direction (slice_index (words_in kept.buckets (source_of direction)) mark_place) (lowest_free (slice_index (words_in kept.buckets (target_of direction)) mark_place)))
+    (lowest_free (slice_index (words_in kept.buckets (target_of direction)) mark_place))
 
 -- ---- one after another
 -- the bucket in which this is stored, and what

@@ -1,14 +1,14 @@
 //! Which record moves to make room, and what is stored of it and of the new one.
 
 ghost use Rattle.std.specs.Prelude.{◌≡◌, ◌<◌, IfSome, slice_index};
-ghost use Rattle.bucket_meta.specs.Bucket.{record_slots, mark_word};
+ghost use Rattle.bucket_meta.specs.Bucket.{record_slots, mark_place};
 ghost use Rattle.bucket_meta.specs.Search.{lowest_free};
 ghost use Rattle.move_op.specs.Shifts.{source_of, target_of, arrived_mark, moving_slot, copied, cleared, placed, shift_at, shift_by, shift_in, place_of, record_of};
 
 use crate::step::{Direction, Leg, Shift};
 use bucket_meta::Meta;
 use bucket_meta::words::{
-    BUCKET_WORDS, FINGERS_WORD, FIRST_KEY, MARK_WORD, RECORD_WORDS, REST_WORD, finger_of,
+    BUCKET_WORDS, FINGERS_PLACE, FIRST_KEY, MARK_PLACE, RECORD_WORDS, REST_PLACE, finger_of,
     finger_place, inserted_mark, lowest_free, member_mark, removed_mark, with_finger,
 };
 use displace::{backward, forward};
@@ -45,11 +45,19 @@ fn moving_slot(
     source: &[u64; BUCKET_WORDS],
     target: &[u64; BUCKET_WORDS],
 ) -> Option<u8>
-    ensures is { result ≡ moving_slot direction (slice_index source.now mark_word) (lowest_free (slice_index target.now mark_word)) }
+    ensures is { result ≡ moving_slot direction (slice_index source.now mark_place) (lowest_free (slice_index target.now mark_place)) }
     ensures within { IfSome result (λ slot. slot < record_slots) }
 {
-    let from = Meta::read([source[MARK_WORD], source[FINGERS_WORD], source[REST_WORD]]);
-    let to = Meta::read([target[MARK_WORD], target[FINGERS_WORD], target[REST_WORD]]);
+    let from = Meta::read([
+        source[MARK_PLACE],
+        source[FINGERS_PLACE],
+        source[REST_PLACE],
+    ]);
+    let to = Meta::read([
+        target[MARK_PLACE],
+        target[FINGERS_PLACE],
+        target[REST_PLACE],
+    ]);
     match direction {
         Direction::Forward => forward(&from, &to),
         Direction::Backward => backward(&from, &to),
@@ -89,10 +97,10 @@ fn copied(
         fingers: with_finger(
             target[finger_place(to)],
             to,
-            finger_of(source[FINGERS_WORD], source[REST_WORD], from),
+            finger_of(source[FINGERS_PLACE], source[REST_PLACE], from),
         ),
-        published: MARK_WORD as u8,
-        mark: arrived_mark(direction, target[MARK_WORD], to),
+        published: MARK_PLACE as u8,
+        mark: arrived_mark(direction, target[MARK_PLACE], to),
     }
 }
 
@@ -105,8 +113,8 @@ fn cleared(source: &[u64; BUCKET_WORDS], from: u8) -> Record
         key: 0,
         value: 0,
         fingers: 0,
-        published: MARK_WORD as u8,
-        mark: removed_mark(source[MARK_WORD], from),
+        published: MARK_PLACE as u8,
+        mark: removed_mark(source[MARK_PLACE], from),
     }
 }
 
@@ -120,8 +128,8 @@ fn placed(direction: Direction, kept: &Kept, source: &[u64; BUCKET_WORDS], from:
         key: kept.change.key,
         value: brought(kept.change.effect),
         fingers: with_finger(source[finger_place(from)], from, finger(kept.hash)),
-        published: MARK_WORD as u8,
-        mark: arrived_mark(direction, removed_mark(source[MARK_WORD], from), from),
+        published: MARK_PLACE as u8,
+        mark: arrived_mark(direction, removed_mark(source[MARK_PLACE], from), from),
     }
 }
 
@@ -160,7 +168,7 @@ pub fn shift_in(kept: &Kept, direction: Direction) -> Option<Shift>
     let source = kept.buckets.of(source_of(direction));
     let target = kept.buckets.of(target_of(direction));
     let from = moving_slot(direction, &source, &target);
-    shift_by(kept, direction, from, lowest_free(target[MARK_WORD]))
+    shift_by(kept, direction, from, lowest_free(target[MARK_PLACE]))
 }
 
 // ---- one after another

@@ -7,7 +7,7 @@ use Rattle.op_core.specs.declared.why.Why.{Why}
 use Rattle.op_core.specs.declared.why.Why.TheVariants.{Busy, Moved}
 use Rattle.op_core.specs.Answers.{Finds}
 use Rattle.hash_word.specs.Hash.{home_of, probing_of, next_of, previous_of, finger_of}
-use Rattle.bucket_meta.specs.Bucket.{record_slots, mark_word, rest_word, key_place, lock_bit}
+use Rattle.bucket_meta.specs.Bucket.{record_slots, mark_place, rest_place, key_place, lock_bit}
 use Rattle.bucket_meta.specs.Slots.{IsFull}
 use Rattle.bucket_meta.specs.Visits.{must_visit}
 use Rattle.trace.specs.Events.{Words}
@@ -36,11 +36,11 @@ use Rattle.part.specs.Room.{NothingMovesOn, NothingMovesBack, NothingMoves}
 module _ (shape : Shape) (loads : List (ℕ × ℕ)) (segment : ℕ) where
   -- the first one of a bucket had this value
   abbrev pub WasMeta : ℕ → ℕ → Type 0
-  WasMeta b meta = Has (bucket_at shape segment b + mark_word, meta) loads
+  WasMeta b meta = Has (bucket_at shape segment b + mark_place, meta) loads
 
   -- the third one, of which notes have their fingerprints, had this
   abbrev pub WasFingers : ℕ → ℕ → Type 0
-  WasFingers b fingers = Has (bucket_at shape segment b + rest_word, fingers) loads
+  WasFingers b fingers = Has (bucket_at shape segment b + rest_place, fingers) loads
 
   -- by its first one, which had this value, all record slots of a bucket were taken
   pub record WasFull (b meta : ℕ) : Type 0 where

@@ -4,7 +4,7 @@ use Rattle.hash_word.specs.Hash.{home_of, probing_of, next_of, previous_of}
 use Rattle.trace.specs.Events.{Words}
 use Rattle.image_layout.specs.Places.{Shape, header_word, bucket_at, homes, second_stash}
 use Rattle.way.specs.Ways.{is_leading}
-use Rattle.bucket_meta.specs.Bucket.{allocated, member, record_slots, mark_word}
+use Rattle.bucket_meta.specs.Bucket.{allocated, member, record_slots, mark_place}
 use Rattle.bucket_meta.specs.Slots.{IsFull}
 
 -- each record of a bucket stands there as in its probing bucket
@@ -32,7 +32,7 @@ pub record NothingMoves (home probing next previous : ℕ) : Type 0 where
 module _ (shape : Shape) (words : Words) (segment : ℕ) where
   -- the first metadata word of a bucket
   abbrev pub meta_now : ℕ → ℕ
-  meta_now b = words (bucket_at shape segment b + mark_word)
+  meta_now b = words (bucket_at shape segment b + mark_place)
 
   -- THERE IS NO ROOM in a segment for a key of this hash: its header leads to the hash, home and probing bucket and both stash buckets are
   -- full, and nothing can be moved

@@ -1,7 +1,7 @@
 -- What the holder of the buckets of a key has found, by the words that it loaded: what the laws of `world` ask of a search,
 -- and of a draw.
 use Rattle.std.specs.Prelude.{◌≡◌, ℕ, ◌+◌, ◌<◌, ◌≤◌, false, None, Some, [], ◌⊎◌, slice_index}
-use Rattle.bucket_meta.specs.Bucket.{mark_word, allocated, overflow_count}
+use Rattle.bucket_meta.specs.Bucket.{mark_place, allocated, overflow_count}
 use Rattle.bucket_meta.specs.Marks.{KeepsUpper}
 use Rattle.bucket_meta.specs.Search.{lowest_with}
 use Rattle.hash_word.specs.Hash.{home_of, finger_of}
@@ -121,10 +121,10 @@ PreparedStandsNowhere = (shape : Shape) (hash segment : ℕ) (held : Held) (word
 -- THE ONE STORE that makes the change: the record stands there where it was ready, or stood; and a mark that keeps the overflow
 -- parts keeps what is noted of the stash, and what is owed of it
 pub record PublishTells : Type 0 where
-  pub taken : (shape : Shape) (word : Words) (s b r k x : ℕ) → IsReadyAt shape word s b r k → allocated r x ≡ 1 → Hit shape (with_word word (bucket_at shape s b + mark_word) x) s b r k
+  pub taken : (shape : Shape) (word : Words) (s b r k x : ℕ) → IsReadyAt shape word s b r k → allocated r x ≡ 1 → Hit shape (with_word word (bucket_at shape s b + mark_place) x) s b r k
   pub valued : (shape : Shape) (word : Words) (s b r k x : ℕ) → Hit shape word s b r k → Hit shape (with_word word (value_at shape s b r) x) s b r k
-  pub spared : (shape : Shape) (hash segment : ℕ) (held : Held) (word : Words) (s b x : ℕ) → b < buckets → KeepsUpper (word (bucket_at shape s b + mark_word)) x
-      → SparesStash shape hash segment held word → SparesStash shape hash segment held (with_word word (bucket_at shape s b + mark_word) x)
-  pub owed : (site : Ground) (v : View) (word : Words) (s b d x : ℕ) (o : Owed) → b < buckets → d < homes → KeepsUpper (word (bucket_at site.shape s b + mark_word)) x
-      → Has o v.owed → o.segment ≡ s → o.home ≡ d → o.added ≡ false → o.notes ≡ notes_of site.shape word s d → o.count ≡ overflow_count (word_in site.shape word s d mark_word)
-      → OwesAsKnown site v (with_word word (bucket_at site.shape s b + mark_word) x) s d
+  pub spared : (shape : Shape) (hash segment : ℕ) (held : Held) (word : Words) (s b x : ℕ) → b < buckets → KeepsUpper (word (bucket_at shape s b + mark_place)) x
+      → SparesStash shape hash segment held word → SparesStash shape hash segment held (with_word word (bucket_at shape s b + mark_place) x)
+  pub owed : (site : Ground) (v : View) (word : Words) (s b d x : ℕ) (o : Owed) → b < buckets → d < homes → KeepsUpper (word (bucket_at site.shape s b + mark_place)) x
+      → Has o v.owed → o.segment ≡ s → o.home ≡ d → o.added ≡ false → o.notes ≡ notes_of site.shape word s d → o.count ≡ overflow_count (word_in site.shape word s d mark_place)
+      → OwesAsKnown site v (with_word word (bucket_at site.shape s b + mark_place) x) s d

@@ -1,6 +1,6 @@
 -- What an insert hands on that found no room: what its view holds and knows, and what its attempt remembers.
 use Rattle.std.specs.Prelude.{◌≡◌, ℕ, ◌+◌, ◌<◌, ◌≤◌, true, false, None, List, slice_index}
-use Rattle.bucket_meta.specs.Bucket.{mark_word}
+use Rattle.bucket_meta.specs.Bucket.{mark_place}
 use Rattle.bucket_meta.specs.Search.{lowest_free}
 use Rattle.trace.specs.Events.{Words}
 use Rattle.image_layout.specs.Places.{block}
@@ -26,7 +26,7 @@ kept_words kept = words_of kept.site kept.hash kept.segment kept.buckets
 
 -- no slot of a bucket is free, by its words
 abbrev pub IsFull : List ℕ → Type 0
-IsFull words = lowest_free (slice_index words mark_word) ≡ None
+IsFull words = lowest_free (slice_index words mark_place) ≡ None
 
 -- ITS LOCKS ARE HELD, and the words of their buckets known; the header is pinned and leads to its hash; its key stands nowhere, and
 -- home and probing bucket are full; nothing is unsettled, planned, under way or owed, and the list of replies has room

@@ -1,7 +1,7 @@
 -- What a holder of locks knows, said over one function of all words, which stands in proofs alone: which words it knows, and which
 -- may be loose.
 use Rattle.std.specs.Prelude.{◌≡◌, ℕ, ◌+◌, ◌%◌, ◌-◌, ◌<◌, ◌≤◌, ◌&&◌, nat_lt, List, ◌⊎◌, slice_index, if◌then◌else◌}
-use Rattle.bucket_meta.specs.Bucket.{rest_word}
+use Rattle.bucket_meta.specs.Bucket.{rest_place}
 use Rattle.trace.specs.Events.{Words, with_word}
 use Rattle.image_layout.specs.Places.{Shape, block, bucket_at}
 use Rattle.map_model.specs.declared.call.Call.{Call}
@@ -63,4 +63,4 @@ pub record KnowsMore (S : ℕ → Type 0) : Type 0 where
       → ((i : ℕ) → IsUnder (bucket_at shape s b) i → S i) → ((p : ℕ × ℕ) → IsLoose v p → IsUnder (bucket_at shape s b) p.0 → ⊥) → KnowsBucket shape v s b word
   -- and its metadata, where none of those words is loose
   pub meta : (word : Words) (shape : Shape) (s b : ℕ) (v : View) → HasLock v.held (bucket_at shape s b) → Knows S word v
-      → ((i : ℕ) → IsUnder (bucket_at shape s b) i → S i) → ((p : ℕ × ℕ) → IsLoose v p → bucket_at shape s b + rest_word < p.0) → KnowsMeta shape v s b word
+      → ((i : ℕ) → IsUnder (bucket_at shape s b) i → S i) → ((p : ℕ × ℕ) → IsLoose v p → bucket_at shape s b + rest_place < p.0) → KnowsMeta shape v s b word

@@ -2,7 +2,7 @@
 -- them, and what the words are then.
 use Rattle.std.specs.Prelude.{◌≡◌, ◌≢◌, ℕ, ◌+◌, ◌^◌, ◌<◌, ◌≤◌, ⊤, List, ◌⊎◌}
 use Rattle.op_core.specs.declared.want.Want.TheVariants.{Store}
-use Rattle.bucket_meta.specs.Bucket.{mark_word, allocated, record_slots}
+use Rattle.bucket_meta.specs.Bucket.{mark_place, allocated, record_slots}
 use Rattle.bucket_meta.specs.Marks.{with_finger}
 use Rattle.hash_word.specs.Hash.{fingerprint_bits, finger_of}
 use Rattle.trace.specs.Events.{Words, with_word, line_of}
@@ -124,7 +124,7 @@ pub record FitsSlot (shape : Shape) (word : Words) (s b lock : ℕ) (written : R
   pub bucket : b < buckets
   pub at : lock ≡ bucket_at shape s b
   pub slot : written.slot < record_slots
-  pub is_free : allocated written.slot (word (lock + mark_word)) ≡ 0
+  pub is_free : allocated written.slot (word (lock + mark_place)) ≡ 0
   pub small : finger < 2 ^ fingerprint_bits
   pub fingers : written.fingers ≡ with_finger (word (fingers_at lock written)) written.slot finger
 
@@ -211,7 +211,7 @@ MakeFalls = (slot : ℕ) (make : Make) → made_left (make_taken slot make) < ma
 -- A RECORD THAT WAS PREPARED: it stands ready in its slot, no key stands where it did not, and what is noted of the stash is as it was
 pub record PreparesRecord : Type 0 where
   pub meta : (shape : Shape) (word : Words) (s b lock finger : ℕ) (written : Record) → FitsSlot shape word s b lock written finger
-      → with_record lock written word (lock + mark_word) ≡ word (lock + mark_word)
+      → with_record lock written word (lock + mark_place) ≡ word (lock + mark_place)
   pub ready : (shape : Shape) (word : Words) (s b lock finger : ℕ) (written : Record) → FitsSlot shape word s b lock written finger → finger ≡ finger_of (key_hash shape written.key)
       → IsReadyAt shape (with_record lock written word) s b written.slot written.key
   pub value : (shape : Shape) (word : Words) (s b lock finger : ℕ) (written : Record) → FitsSlot shape word s b lock written finger

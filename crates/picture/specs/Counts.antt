@@ -1,7 +1,7 @@
 -- What a picture of an image counts: the records of each bucket, and the records that a home bucket says stand in the stash, by its notes
 -- and its count.
 use Rattle.std.specs.Prelude.{ℕ, zero, suc, ◌+◌, ◌==◌, nat_lt, length, filter, if◌then◌else◌}
-use Rattle.bucket_meta.specs.Bucket.{mark_word, record_slots, note_slots, note_used, overflow_count}
+use Rattle.bucket_meta.specs.Bucket.{mark_place, record_slots, note_slots, note_used, overflow_count}
 use Rattle.bucket_meta.specs.Search.{is_taken}
 use Rattle.bucket_meta.specs.Notes.{numbers_below}
 use Rattle.image_layout.specs.Places.{Shape, bucket_at}
@@ -18,11 +18,11 @@ notes_below n w1 = length (filter (λ i. note_used i w1 == 1) (numbers_below n))
 module _ (shape : Shape) (word : ImageWords) (s b : ℕ) where
   -- how many records bucket b of segment s has
   abbrev pub filled : ℕ
-  filled = taken_below record_slots (word (bucket_at shape s b + mark_word))
+  filled = taken_below record_slots (word (bucket_at shape s b + mark_place))
 
   -- how many it says that the stash has for it: one a note, and those that are only counted
   abbrev pub stashed : ℕ
-  stashed = notes_below note_slots (word (bucket_at shape s b + mark_word)) + overflow_count (word (bucket_at shape s b + mark_word))
+  stashed = notes_below note_slots (word (bucket_at shape s b + mark_place)) + overflow_count (word (bucket_at shape s b + mark_place))
 
 -- how many the first n buckets of segment s say that the stash has for them, together
 abbrev pub stashed_below : ℕ → Shape → ImageWords → ℕ → ℕ

@@ -1,11 +1,11 @@
 //! How many records buckets have, and how many the stash has for them.
 
 ghost use Rattle.std.specs.Prelude.{◌≡◌, ℕ, ◌+◌, ◌^◌, ◌<◌, ◌≤◌, length, slice_index};
-ghost use Rattle.bucket_meta.specs.Bucket.{mark_word, record_slots, note_slots, count_bits};
+ghost use Rattle.bucket_meta.specs.Bucket.{mark_place, record_slots, note_slots, count_bits};
 ghost use Rattle.image_layout.specs.Places.{bucket_at, buckets, homes, words_of};
 ghost use Rattle.picture.specs.Counts.{taken_below, notes_below, filled, stashed, stashed_below, sign};
 
-use bucket_meta::words::{MARK_WORD, NOTE_SLOTS, SLOTS, has_note, is_taken, overflow_count_of};
+use bucket_meta::words::{MARK_PLACE, NOTE_SLOTS, SLOTS, has_note, is_taken, overflow_count_of};
 use image_layout::{Geometry, HOMES};
 
 /// The metadata word of a bucket.
@@ -13,9 +13,9 @@ fn metadata_of(geometry: &Geometry, words: &[u64], s: u64, b: u8) -> u64
     requires whole { length words.now ≡ words_of geometry.now }
     requires slot { s < geometry.now.segments }
     requires bucket { b < buckets }
-    ensures { result ≡ slice_index words.now (bucket_at geometry.now s b + mark_word) }
+    ensures { result ≡ slice_index words.now (bucket_at geometry.now s b + mark_place) }
 {
-    words[geometry.bucket_at(s, b) as usize + MARK_WORD]
+    words[geometry.bucket_at(s, b) as usize + MARK_PLACE]
 }
 
 /// How many record slots are taken, by the metadata word.

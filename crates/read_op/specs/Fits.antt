@@ -5,7 +5,7 @@ use Rattle.op_core.specs.declared.want.Want.TheVariants.{Done}
 use Rattle.op_core.specs.declared.want.Ans.TheVariants.{Value}
 use Rattle.hash_word.specs.Hash.{home_of, finger_of}
 use Rattle.trace.specs.Events.{Words}
-use Rattle.bucket_meta.specs.Bucket.{record_slots, mark_word, rest_word}
+use Rattle.bucket_meta.specs.Bucket.{record_slots, mark_place, rest_place}
 use Rattle.image_layout.specs.Volatile.{counter_word}
 use Rattle.map_model.specs.declared.call.Call.TheVariants.{Get}
 use Rattle.map_model.specs.declared.entry.Reply.TheVariants as reply
@@ -130,7 +130,7 @@ module _ (site : Ground) (notes : List Glance) where
 
   -- words 1 and 3 of the home bucket are kept
   abbrev pub KeepsMeta : Task → Seen → Type 0
-  KeepsMeta task s = (m : Words) → IsNow site notes m → (m (lock_of task s Home + mark_word) ≡ s.meta) × (m (lock_of task s Home + rest_word) ≡ s.fingers)
+  KeepsMeta task s = (m : Words) → IsNow site notes m → (m (lock_of task s Home + mark_place) ≡ s.meta) × (m (lock_of task s Home + rest_place) ≡ s.fingers)
 
   -- a bucket's words are loaded and noted
   pub record IsFilling (task : Task) (s : Seen) (p : Role) (load : Load) : Type 0 where

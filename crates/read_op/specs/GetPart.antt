@@ -1,7 +1,7 @@
 -- A get as a part of a call.
 use Rattle.std.specs.Prelude.{◌≡◌, ℕ, ◌+◌, ◌^◌, ◌<◌, ⊤, Bool, true, false, Option, None, Some, List, []}
 use Rattle.op_core.specs.declared.want.Want.TheVariants.{Done}
-use Rattle.bucket_meta.specs.Bucket.{mark_word, rest_word, lock_bit}
+use Rattle.bucket_meta.specs.Bucket.{mark_place, rest_place, lock_bit}
 use Rattle.image_layout.specs.Places.{buckets_of_key}
 use Rattle.image_layout.specs.Volatile.{counter_word}
 use Rattle.map_model.specs.declared.call.Call.{Call}
@@ -69,7 +69,7 @@ module _ (task : Task) (loads : List (ℕ × ℕ)) where
 
   -- words 1 and 3 of the home bucket were loaded, as they are kept while the probing bucket is
   abbrev pub RemembersMeta : Seen → Role → Type 0
-  RemembersMeta s Probing = Has (lock_of task s Home + mark_word, s.meta) loads × Has (lock_of task s Home + rest_word, s.fingers) loads
+  RemembersMeta s Probing = Has (lock_of task s Home + mark_place, s.meta) loads × Has (lock_of task s Home + rest_place, s.fingers) loads
   RemembersMeta s p = ⊤
 
   -- a bucket that is asked for is loaded

@@ -10,7 +10,7 @@ use Rattle.op_core.specs.declared.want.Ans.{Ans}
 use Rattle.op_core.specs.declared.want.Ans.TheVariants.{Value}
 use Rattle.op_core.specs.declared.why.Why.TheVariants.{Busy, Moved}
 use Rattle.bucket_words.specs.Buckets.{find_below}
-use Rattle.bucket_meta.specs.Bucket.{lock_bit, record_slots, mark_word, rest_word}
+use Rattle.bucket_meta.specs.Bucket.{lock_bit, record_slots, mark_place, rest_place}
 use Rattle.bucket_meta.specs.Visits.{must_visit}
 use Rattle.world.specs.declared.site.Site.{Site}
 use Rattle.phase.specs.declared.walk.Path.{Path}
@@ -93,13 +93,13 @@ module _ (key : ℕ) where
   with_value seen words = record seen { value = option_or (value_of words key) seen.value }
 
   abbrev pub read_home : Seen → List ℕ → Seen
-  read_home seen words = record (with_value seen words) { meta = slice_index words mark_word; fingers = slice_index words rest_word }
+  read_home seen words = record (with_value seen words) { meta = slice_index words mark_place; fingers = slice_index words rest_place }
 
   module _ (hash : ℕ) where
     abbrev pub read_probing : Seen → List ℕ → Seen
     read_probing seen words = record (with_value seen words) {
-      first = must_visit seen.meta seen.fingers (slice_index words mark_word) (slice_index words rest_word) (finger_of hash) 0;
-      second = must_visit seen.meta seen.fingers (slice_index words mark_word) (slice_index words rest_word) (finger_of hash) 1;
+      first = must_visit seen.meta seen.fingers (slice_index words mark_place) (slice_index words rest_place) (finger_of hash) 0;
+      second = must_visit seen.meta seen.fingers (slice_index words mark_place) (slice_index words rest_place) (finger_of hash) 1;
     }
 
     abbrev pub read_all : Seen → Role → List ℕ → ReadStep

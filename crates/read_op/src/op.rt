@@ -12,7 +12,7 @@ ghost use Rattle.read_op.specs.Steps.{begun, seen_none, wanted, taken, moved, bu
 use crate::role::{Free, free_at};
 use crate::slots::value_of;
 use crate::step::{ReadEnd, ReadStep, Seen, Task};
-use bucket_meta::words::{BUCKET_WORDS, MARK_WORD, REST_WORD, is_locked, must_visit};
+use bucket_meta::words::{BUCKET_WORDS, MARK_PLACE, REST_PLACE, is_locked, must_visit};
 use hash_word::finger;
 use op_core::{Ans, Machine, Want, Why};
 use phase::{
@@ -178,8 +178,8 @@ fn read_home(seen: Seen, key: u64, words: &[u64; BUCKET_WORDS]) -> Seen
     ensures { result ≡ read_home key seen words.now }
 {
     let mut with = with_value(seen, key, words);
-    with.meta = words[MARK_WORD];
-    with.fingers = words[REST_WORD];
+    with.meta = words[MARK_PLACE];
+    with.fingers = words[REST_PLACE];
     with
 }
 
@@ -191,16 +191,16 @@ fn read_probing(seen: Seen, key: u64, hash: u64, words: &[u64; BUCKET_WORDS]) ->
     with.first = must_visit(
         seen.meta,
         seen.fingers,
-        words[MARK_WORD],
-        words[REST_WORD],
+        words[MARK_PLACE],
+        words[REST_PLACE],
         finger(hash),
         0,
     );
     with.second = must_visit(
         seen.meta,
         seen.fingers,
-        words[MARK_WORD],
-        words[REST_WORD],
+        words[MARK_PLACE],
+        words[REST_PLACE],
         finger(hash),
         1,
     );

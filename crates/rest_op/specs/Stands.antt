@@ -1,7 +1,7 @@
 -- How the rest of a split fits the world: the kind of each event, and how the view of its caller stands in each step.
 use Rattle.std.specs.Prelude.{◌≡◌, ◌≢◌, ℕ, ◌+◌, ◌*◌, ◌<◌, ◌≤◌, ◌==◌, ◌&&◌, nat_lt, None, [], ◌∷◌, slice_index, if◌then◌else◌}
 use Rattle.trace.specs.Events.{line_of}
-use Rattle.bucket_meta.specs.Bucket.{mark_word, rest_word, given_back}
+use Rattle.bucket_meta.specs.Bucket.{mark_place, rest_place, given_back}
 use Rattle.segment_head.specs.HeadWord.{version_in, depth_in, pattern_in, splitting}
 use Rattle.image_layout.specs.Places.{root_word, bucket_at, homes, buckets, block, note_words}
 use Rattle.frame_facts.specs.Facts.{Lacks, Deep}
@@ -42,11 +42,11 @@ kind_at op Ended = of_call (peeks root_word)
 -- ---- its words
 -- those of bucket b, where words 1 and 3 of each bucket are these, and the others as they are kept
 abbrev pub value_of : Enclosed → (first third : ℕ → ℕ) → ℕ → ℕ → ℕ
-value_of e first third b n = if n == mark_word then first b else if n == rest_word then third b else kept_word e b n
+value_of e first third b n = if n == mark_place then first b else if n == rest_place then third b else kept_word e b n
 
 -- word 1 of each bucket, of which those before one are cleared
 abbrev pub cleared_before : RestOp → ℕ → ℕ → ℕ
-cleared_before op b c = if nat_lt c b then slice_index op.cleared c else kept_word op.whole c mark_word
+cleared_before op b c = if nat_lt c b then slice_index op.cleared c else kept_word op.whole c mark_place
 
 -- words 1 and 3 of each bucket, of which those before one have their notes
 abbrev pub first_before : RestOp → ℕ → ℕ → ℕ
@@ -87,11 +87,11 @@ module _ (site : Ground) (e : Enclosed) where
 
   -- only the words that were cleared may be loose: word 1 of buckets before one
   abbrev pub IsLooseBefore : ℕ → View → Type 0
-  IsLooseBefore b v = (p : ℕ × ℕ) → IsLoose v p → (c : ℕ) × (c < b) × (p.0 ≡ bucket_at site.shape e.segment c + mark_word)
+  IsLooseBefore b v = (p : ℕ × ℕ) → IsLoose v p → (c : ℕ) × (c < b) × (p.0 ≡ bucket_at site.shape e.segment c + mark_place)
 
   -- a line is that of word 1 of a bucket
   abbrev pub IsClearedLine : ℕ → Type 0
-  IsClearedLine line = (c : ℕ) × (c < buckets) × (line ≡ line_of (bucket_at site.shape e.segment c + mark_word))
+  IsClearedLine line = (c : ℕ) × (c < buckets) × (line ≡ line_of (bucket_at site.shape e.segment c + mark_place))
 
 module _ (site : Ground) (op : RestOp) where
   -- buckets before this one are cleared, in rounds

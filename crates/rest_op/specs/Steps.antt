@@ -1,7 +1,7 @@
 -- What the rest of a split wants in each step, and what an answer makes of it; and how it ends.
 use Rattle.std.specs.Prelude.{ℕ, ◌+◌, ◌-◌, ◌/◌, ◌%◌, ◌==◌, not, nat_lt, Bool, true, false, Option, None, Some, List, slice_index, if◌then◌else◌}
 use Rattle.trace.specs.Events.{line_of}
-use Rattle.bucket_meta.specs.Bucket.{mark_word, rest_word}
+use Rattle.bucket_meta.specs.Bucket.{mark_place, rest_place}
 use Rattle.segment_head.specs.HeadWord.{normal}
 use Rattle.segment_head.specs.SplitHeads.{zero_side_head}
 use Rattle.image_layout.specs.Places.{homes, buckets, note_words}
@@ -35,20 +35,20 @@ abbrev pub note_home : ℕ → ℕ
 note_home n = n / 2 % homes
 
 abbrev pub note_place : ℕ → ℕ
-note_place n = if n % 2 == 0 then mark_word else rest_word
+note_place n = if n % 2 == 0 then mark_place else rest_place
 
 module _ (op : RestOp) where
   -- ---- what is cleared
   -- a bucket has records that are to be cleared
   abbrev pub is_cleared : ℕ → Bool
-  is_cleared b = not (slice_index op.cleared b == kept_word op.whole b mark_word)
+  is_cleared b = not (slice_index op.cleared b == kept_word op.whole b mark_place)
 
   abbrev pub clear_from : ℕ → ℕ
   clear_from b = seek is_cleared (buckets - b) b
 
   -- the store that is to come: word 1 of this bucket
   abbrev pub due : ℕ → Option (ℕ × ℕ)
-  due b = if nat_lt b buckets then Some (lock_of op.whole b + mark_word, slice_index op.cleared b) else None
+  due b = if nat_lt b buckets then Some (lock_of op.whole b + mark_place, slice_index op.cleared b) else None
 
   -- where all are cleared, and that is settled, the header is next
   abbrev pub clearing_by : Option Want → ℕ → Rounds → RestStep
@@ -72,7 +72,7 @@ module _ (op : RestOp) where
   note_value n = if n % 2 == 0 then slice_index op.notes.first (note_home n) else slice_index op.notes.third (note_home n)
 
   abbrev pub note_old : ℕ → ℕ
-  note_old n = if n % 2 == 0 then slice_index op.cleared (note_home n) else kept_word op.whole (note_home n) rest_word
+  note_old n = if n % 2 == 0 then slice_index op.cleared (note_home n) else kept_word op.whole (note_home n) rest_place
 
   abbrev pub is_noted : ℕ → Bool
   is_noted n = not (note_value n == note_old n)

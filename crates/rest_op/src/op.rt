@@ -6,7 +6,7 @@ ghost use Rattle.op_core.specs.declared.want.Want.TheVariants as want;
 ghost use Rattle.rest_op.specs.Steps.{is_cleared, clear_from, note_old, note_value, is_noted, note_from, note_word, due, clearing, noting, locks_from, given_to, cleared, begun, begun_in, wanted, taken, end_of};
 
 use crate::heads::rest_head;
-use bucket_meta::words::{BUCKET_WORDS, MARK_WORD, REST_WORD};
+use bucket_meta::words::{BUCKET_WORDS, MARK_PLACE, REST_PLACE};
 use enclose_op::{Enclosed, Give, given};
 use image_layout::{BUCKETS, HOMES, NOTE_WORDS};
 use op_core::{Ans, Machine, Want};
@@ -105,7 +105,7 @@ impl RestOp {
     {
         if bucket < BUCKETS {
             Some((
-                self.whole.lock(bucket) + MARK_WORD as u64,
+                self.whole.lock(bucket) + MARK_PLACE as u64,
                 self.cleared[usize::from(bucket)],
             ))
         } else {
@@ -159,7 +159,7 @@ impl RestOp {
         if number % 2 == 0 {
             self.cleared[at]
         } else {
-            self.whole.buckets[BUCKET_WORDS * at + REST_WORD]
+            self.whole.buckets[BUCKET_WORDS * at + REST_PLACE]
         }
     }
 

@@ -4,7 +4,7 @@ use Rattle.std.specs.List.{flat_map}
 use Rattle.hash_word.specs.Hash.{home_of, finger_of, probing_of}
 pub use Rattle.image_layout.specs.Keys.{key_hash}
 use Rattle.image_layout.specs.Notes.{OverflowNote, numbers_below, notes_on, AreExact}
-use Rattle.image_layout.specs.Bucket.{mark_word, rest_word, allocated, note_used, note_member, note_index, note_finger, overflow_count, record_slots}
+use Rattle.image_layout.specs.Bucket.{mark_place, rest_place, allocated, note_used, note_member, note_index, note_finger, overflow_count, record_slots}
 use Rattle.image_layout.specs.Places.{Shape, homes, buckets, bucket_at, key_at, value_at}
 use Rattle.sound_image.specs.Segments.{ImageWords, frame_of, Owns}
 
@@ -28,7 +28,7 @@ module _ (shape : Shape) (word : ImageWords) where
     pub segment : s < shape.segments
     pub bucket : b < buckets
     pub slot : r < record_slots
-    pub is_allocated : allocated r (word_in s b mark_word) ≡ 1
+    pub is_allocated : allocated r (word_in s b mark_place) ≡ 1
 
   -- a record in the segment that owns its key's hash
   pub record HasOwnRecord (s b r : ℕ) : Type 0 where
@@ -53,8 +53,8 @@ module _ (shape : Shape) (word : ImageWords) where
   -- the notes in bucket b of records that have it as their home (side 0) or as their probing bucket (side 1)
   abbrev pub notes_in : ℕ → ℕ → ℕ → List OverflowNote
   notes_in s b side =
-      notes_on (λ i. note_used i (word_in s b mark_word)) (λ i. note_member i (word_in s b mark_word)) (λ i. note_finger i (word_in s b mark_word) (word_in s b rest_word))
-      (λ i. note_index i (word_in s b mark_word)) side
+      notes_on (λ i. note_used i (word_in s b mark_place)) (λ i. note_member i (word_in s b mark_place)) (λ i. note_finger i (word_in s b mark_place) (word_in s b rest_place))
+      (λ i. note_index i (word_in s b mark_place)) side
 
   abbrev pub notes_of : ℕ → ℕ → List OverflowNote
   notes_of s b = notes_in s b 0 ++ notes_in s (probing_of b) 1
@@ -63,7 +63,7 @@ module _ (shape : Shape) (word : ImageWords) where
   abbrev pub stashed_in : ℕ → ℕ → ℕ → List OverflowNote
   stashed_in s b k =
       flat_map
-      (λ r. if (allocated r (word_in s (homes + k) mark_word) == 1) && (home_of (slot_hash s (homes + k) r) == b)
+      (λ r. if (allocated r (word_in s (homes + k) mark_place) == 1) && (home_of (slot_hash s (homes + k) r) == b)
       then (finger_of (slot_hash s (homes + k) r), k) ∷ []
       else [])
       (numbers_below record_slots)
@@ -73,4 +73,4 @@ module _ (shape : Shape) (word : ImageWords) where
 
   -- the notes and the count of home b are exact for its records in the stash
   abbrev pub HasExactNotes : ℕ → ℕ → Type 0
-  HasExactNotes s b = AreExact (notes_of s b) (overflow_count (word_in s b mark_word)) (stashed_of s b)
+  HasExactNotes s b = AreExact (notes_of s b) (overflow_count (word_in s b mark_place)) (stashed_of s b)

@@ -2,7 +2,7 @@
 -- and nothing of others. So the word at which a rule is broken first is one word.
 use Rattle.std.specs.Prelude.{◌≡◌, ◌≢◌, ℕ, ◌+◌, ◌^◌, ◌<◌, ◌≤◌, ◌⊎◌}
 use Rattle.hash_word.specs.Hash.{home_of, finger_of, probing_of}
-use Rattle.image_layout.specs.Bucket.{mark_word, fingers_word, rest_word, lock_bit, member, finger}
+use Rattle.image_layout.specs.Bucket.{mark_place, fingers_place, rest_place, lock_bit, member, finger}
 use Rattle.segment_head.specs.HeadWord.{version_in, normal}
 use Rattle.image_layout.specs.Places.{Shape, homes, buckets, root_word, state_word, entry_at, header_word, link_word, bucket_at, key_at}
 use Rattle.sound_image.specs.Segments.{ImageWords, Frame, frame_of, image_version, IsClean, state_at, IsLive, Owns}
@@ -16,13 +16,13 @@ module _ (shape : Shape) (word : ImageWords) where
   -- a record stands in its home bucket without the membership bit, in its probing bucket with it, or in the stash
   abbrev pub InItsBucket : ℕ → ℕ → ℕ → Type 0
   InItsBucket s b r =
-      ((b ≡ home_of (slot_hash shape word s b r)) × (member r (word_in shape word s b mark_word) ≡ 0))
-      ⊎ ((b ≡ probing_of (home_of (slot_hash shape word s b r))) × (member r (word_in shape word s b mark_word) ≡ 1))
+      ((b ≡ home_of (slot_hash shape word s b r)) × (member r (word_in shape word s b mark_place) ≡ 0))
+      ⊎ ((b ≡ probing_of (home_of (slot_hash shape word s b r))) × (member r (word_in shape word s b mark_place) ≡ 1))
       ⊎ (homes ≤ b)
 
   pub record StandsRight (s b r : ℕ) : Type 0 where
     pub bucket : InItsBucket s b r
-    pub fingerprint : finger r (word_in shape word s b fingers_word) (word_in shape word s b rest_word) ≡ finger_of (slot_hash shape word s b r)
+    pub fingerprint : finger r (word_in shape word s b fingers_place) (word_in shape word s b rest_place) ≡ finger_of (slot_hash shape word s b r)
 
   -- a record of the same key that stands before it in the segment has the same value
   abbrev pub SameValueAsBefore : ℕ → ℕ → ℕ → Type 0
@@ -77,7 +77,7 @@ module _ (shape : Shape) (word : ImageWords) where
     pub lock : (s b : ℕ) → IsCleanAndCurrent s → b < buckets → w ≡ bucket_at shape s b → lock_bit (word w) ≡ 0
     pub own : (s b r : ℕ) → IsCleanAndCurrent s → HasRecord shape word s b r → w ≡ key_at shape s b r → Owns frame s (slot_hash shape word s b r)
     pub once : (s b r : ℕ) → IsCleanAndCurrent s → HasRecord shape word s b r → w ≡ key_at shape s b r → NotBefore s b r
-    pub notes : (s b : ℕ) → IsCleanAndCurrent s → b < homes → w ≡ bucket_at shape s b + mark_word → HasExactNotes shape word s b
+    pub notes : (s b : ℕ) → IsCleanAndCurrent s → b < homes → w ≡ bucket_at shape s b + mark_place → HasExactNotes shape word s b
 
   -- the rules by their numbers, in the order in which they are looked at
   pub record Rule (n w : ℕ) : Type 0 where

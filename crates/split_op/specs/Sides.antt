@@ -1,7 +1,7 @@
 -- THE WORDS OF A SIDE, by what is kept of its segment: all are as they are kept, but for the metadata, which is that of the records of the 1-side
 -- alone.
 use Rattle.std.specs.Prelude.{◌≡◌, ◌≢◌, ℕ, zero, suc, ◌+◌, ◌-◌, ◌*◌, ◌/◌, ◌%◌, ◌<◌, ◌≤◌, ◌==◌, nat_lt, length, slice_index, List, if◌then◌else◌}
-use Rattle.bucket_meta.specs.Bucket.{allocated, record_slots, mark_word, fingers_word, rest_word, fingers_of_word, rest_fingers, slot_fingers_part}
+use Rattle.bucket_meta.specs.Bucket.{allocated, record_slots, mark_place, fingers_place, rest_place, fingers_of_word, rest_fingers, slot_fingers_part}
 use Rattle.bucket_meta.specs.Marks.{copied_mark, with_finger}
 use Rattle.image_layout.specs.Places.{homes, buckets, block, words_of_buckets}
 use Rattle.sound_image.specs.Records.{key_hash}
@@ -49,11 +49,11 @@ module _ (e : Enclosed) where
 
   -- word m of bucket b of a side, with the fingerprints of all slots
   abbrev pub marked_word : ℕ → ℕ → ℕ
-  marked_word b m = if m == mark_word then side_mark b else if m == rest_word then side_third b else kept_word e b m
+  marked_word b m = if m == mark_place then side_mark b else if m == rest_place then side_third b else kept_word e b m
 
 -- of words of buckets, those that have the fingerprints of taken slots alone
 abbrev pub thinned_word : (word : ℕ → ℕ → ℕ) → ℕ → ℕ → ℕ
-thinned_word word b m = if m == fingers_word then low_fingers (word b mark_word) (word b fingers_word) else if m == rest_word then high_fingers (word b mark_word) (word b rest_word) else word b m
+thinned_word word b m = if m == fingers_place then low_fingers (word b mark_place) (word b fingers_place) else if m == rest_place then high_fingers (word b mark_place) (word b rest_place) else word b m
 
 -- THE WORDS OF A SIDE: word m of bucket b is number 32 * b + m
 abbrev pub side_words : Enclosed → List ℕ
@@ -64,15 +64,15 @@ side_words e = words_by words_of_buckets (λ i. thinned_word (marked_word e) (i 
 -- as they are kept
 pub record HasMarks (kept : List ℕ) (half : Loaded) (notes : Notes) (words : List ℕ) : Type 0 where
   pub each : length words ≡ words_of_buckets
-  pub first : (b : ℕ) → b < homes → side_word words b mark_word ≡ slice_index notes.first b
-  pub third : (b : ℕ) → b < homes → side_word words b rest_word ≡ slice_index notes.third b
-  pub stash : (b : ℕ) → homes ≤ b → b < buckets → side_word words b mark_word ≡ first_in half b
-  pub stash_third : (b : ℕ) → homes ≤ b → b < buckets → side_word words b rest_word ≡ slot_fingers_part (side_word kept b rest_word)
-  pub others : (b m : ℕ) → b < buckets → m < block → m ≢ mark_word → m ≢ rest_word → side_word words b m ≡ side_word kept b m
+  pub first : (b : ℕ) → b < homes → side_word words b mark_place ≡ slice_index notes.first b
+  pub third : (b : ℕ) → b < homes → side_word words b rest_place ≡ slice_index notes.third b
+  pub stash : (b : ℕ) → homes ≤ b → b < buckets → side_word words b mark_place ≡ first_in half b
+  pub stash_third : (b : ℕ) → homes ≤ b → b < buckets → side_word words b rest_place ≡ slot_fingers_part (side_word kept b rest_place)
+  pub others : (b m : ℕ) → b < buckets → m < block → m ≢ mark_place → m ≢ rest_place → side_word words b m ≡ side_word kept b m
 
 -- EACH BUCKET has the fingerprints of taken slots alone, and all other words are the same
 pub record IsThinned (words thin : List ℕ) : Type 0 where
   pub each : length thin ≡ words_of_buckets
-  pub low : (b : ℕ) → b < buckets → side_word thin b fingers_word ≡ low_fingers (side_word words b mark_word) (side_word words b fingers_word)
-  pub high : (b : ℕ) → b < buckets → side_word thin b rest_word ≡ high_fingers (side_word words b mark_word) (side_word words b rest_word)
-  pub others : (b m : ℕ) → b < buckets → m < block → m ≢ fingers_word → m ≢ rest_word → side_word thin b m ≡ side_word words b m
+  pub low : (b : ℕ) → b < buckets → side_word thin b fingers_place ≡ low_fingers (side_word words b mark_place) (side_word words b fingers_place)
+  pub high : (b : ℕ) → b < buckets → side_word thin b rest_place ≡ high_fingers (side_word words b mark_place) (side_word words b rest_place)
+  pub others : (b m : ℕ) → b < buckets → m < block → m ≢ fingers_place → m ≢ rest_place → side_word thin b m ≡ side_word words b m

@@ -4,7 +4,7 @@ ghost use Rattle.std.specs.Prelude.{◌≡◌};
 ghost use Rattle.split_op.specs.Sides.{HasMarks, low_fingers, high_fingers, IsThinned, side_words};
 
 use bucket_meta::words::{
-    BUCKET_WORDS, FINGERS_OF_WORD, FINGERS_WORD, MARK_WORD, REST_WORD, SLOTS, is_taken,
+    BUCKET_WORDS, FINGERS_OF_WORD, FINGERS_PLACE, MARK_PLACE, REST_PLACE, SLOTS, is_taken,
     slot_fingers_part, with_finger,
 };
 use enclose_op::Enclosed;
@@ -24,12 +24,12 @@ fn with_marks(
     for bucket in 0..BUCKETS {
         let at = usize::from(bucket);
         if bucket < HOMES {
-            words[BUCKET_WORDS * at + MARK_WORD] = notes.first[at];
-            words[BUCKET_WORDS * at + REST_WORD] = notes.third[at];
+            words[BUCKET_WORDS * at + MARK_PLACE] = notes.first[at];
+            words[BUCKET_WORDS * at + REST_PLACE] = notes.third[at];
         } else {
-            words[BUCKET_WORDS * at + MARK_WORD] = half.first[at];
-            words[BUCKET_WORDS * at + REST_WORD] = slot_fingers_part(
-                kept[BUCKET_WORDS * at + REST_WORD],
+            words[BUCKET_WORDS * at + MARK_PLACE] = half.first[at];
+            words[BUCKET_WORDS * at + REST_PLACE] = slot_fingers_part(
+                kept[BUCKET_WORDS * at + REST_PLACE],
             );
         }
     }
@@ -69,8 +69,8 @@ fn thinned(words: &[u64; WORDS_OF_BUCKETS as usize]) -> [u64; WORDS_OF_BUCKETS a
     let mut thin = *words;
     for bucket in 0..BUCKETS {
         let at = BUCKET_WORDS * usize::from(bucket);
-        thin[at + FINGERS_WORD] = low_fingers(words[at + MARK_WORD], words[at + FINGERS_WORD]);
-        thin[at + REST_WORD] = high_fingers(words[at + MARK_WORD], words[at + REST_WORD]);
+        thin[at + FINGERS_PLACE] = low_fingers(words[at + MARK_PLACE], words[at + FINGERS_PLACE]);
+        thin[at + REST_PLACE] = high_fingers(words[at + MARK_PLACE], words[at + REST_PLACE]);
     }
     thin
 }

@@ -1,6 +1,6 @@
 -- How it fits the world: the kind of each of its events, and the view that its caller has in each step.
 use Rattle.std.specs.Prelude.{◌≡◌, ℕ, ◌+◌, ◌%◌, ◌^◌, ◌<◌, ⊤, Bool, true, false, Option, None, Some, List, [], ◌∷◌}
-use Rattle.bucket_meta.specs.Bucket.{overflow_count, mark_word, rest_word}
+use Rattle.bucket_meta.specs.Bucket.{overflow_count, mark_place, rest_place}
 use Rattle.hash_word.specs.Hash.{home_of, finger_of}
 use Rattle.trace.specs.Events.{Words, with_word}
 use Rattle.image_layout.specs.Places.{root_word, block}
@@ -68,10 +68,10 @@ module _ (kept : Kept) (seen : Seen) where
 
   -- with the first store of the note, and with the second
   abbrev pub marked : Words
-  marked = with_word changed (lock_of kept (note_place (noted kept.hash seen).bucket) + mark_word) (noted kept.hash seen).mark
+  marked = with_word changed (lock_of kept (note_place (noted kept.hash seen).bucket) + mark_place) (noted kept.hash seen).mark
 
   abbrev pub fingered : Words
-  fingered = with_word marked (lock_of kept (note_place (noted kept.hash seen).bucket) + rest_word) (noted kept.hash seen).fingers
+  fingered = with_word marked (lock_of kept (note_place (noted kept.hash seen).bucket) + rest_place) (noted kept.hash seen).fingers
 
   -- the note that is owed since the record came to the stash
   abbrev pub owed : Owed
@@ -81,7 +81,7 @@ module _ (kept : Kept) (seen : Seen) where
     added = true;
     note = (finger_of kept.hash, index_of seen.bucket);
     notes = notes_of kept.site.geometry prepared kept.segment (home_of kept.hash);
-    count = overflow_count (word_in kept.site.geometry prepared kept.segment (home_of kept.hash) mark_word);
+    count = overflow_count (word_in kept.site.geometry prepared kept.segment (home_of kept.hash) mark_place);
   }
 
   -- ---- THE KIND of each event
@@ -95,8 +95,8 @@ module _ (kept : Kept) (seen : Seen) where
   mark_kind false i x = repays i x owed
 
   abbrev pub note_kind : NoteWord → NoteWords → Kind
-  note_kind Mark note = mark_kind (has_finger seen note) (lock_of kept (note_place note.bucket) + mark_word) note.mark
-  note_kind Fingers note = repays (lock_of kept (note_place note.bucket) + rest_word) note.fingers owed
+  note_kind Mark note = mark_kind (has_finger seen note) (lock_of kept (note_place note.bucket) + mark_place) note.mark
+  note_kind Fingers note = repays (lock_of kept (note_place note.bucket) + rest_place) note.fingers owed
 
   abbrev pub kind_at : StashStep → Kind
   kind_at (Lock bucket take) = take_kind (lock_of kept (place_of bucket)) take

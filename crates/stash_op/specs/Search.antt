@@ -1,7 +1,7 @@
 -- What the loaded words say: where a stash bucket has a free slot, what is stored of the record, and what of its note.
 use Rattle.std.specs.Prelude.{◌==◌, ℕ, Bool, true, false, Option, None, Some, List, slice_index, if◌then◌else◌}
 use Rattle.hash_word.specs.Hash.{finger_of}
-use Rattle.bucket_meta.specs.Bucket.{mark_word, rest_word}
+use Rattle.bucket_meta.specs.Bucket.{mark_place, rest_place}
 use Rattle.bucket_meta.specs.Search.{lowest_free}
 use Rattle.bucket_meta.specs.Marks.{inserted_mark, finger_place, with_finger}
 use Rattle.bucket_meta.specs.NoteWords.{unused_place, noted_mark, noted_fingers, raised_count}
@@ -43,7 +43,7 @@ side_of Probing = 1
 -- ---- the record
 -- the lowest free slot of a stash bucket
 abbrev pub free_slot : Buckets → StashBucket → Option ℕ
-free_slot buckets bucket = lowest_free (slice_index (words_in buckets (place_of bucket)) mark_word)
+free_slot buckets bucket = lowest_free (slice_index (words_in buckets (place_of bucket)) mark_place)
 
 -- what is stored of it in a slot of a bucket with these words; in the stash it has no membership bit
 abbrev pub record_by : Kept → List ℕ → ℕ → Record
@@ -52,8 +52,8 @@ record_by kept words slot = record {
   key = kept.change.key;
   value = brought kept.change.effect;
   fingers = with_finger (slice_index words (finger_place slot)) slot (finger_of kept.hash);
-  published = mark_word;
-  mark = inserted_mark (slice_index words mark_word) slot;
+  published = mark_place;
+  mark = inserted_mark (slice_index words mark_place) slot;
 }
 
 abbrev pub record_in : Kept → Buckets → StashBucket → ℕ → Record
@@ -64,21 +64,21 @@ record_in kept buckets bucket slot = record_by kept (words_in buckets (place_of 
 abbrev pub noted_or : NoteBucket → List ℕ → ℕ → ℕ → Option ℕ → NoteWords → NoteWords
 noted_or bucket words finger index (Some i) rest = record {
   bucket = bucket;
-  mark = noted_mark (slice_index words mark_word) i (side_of bucket) finger index;
-  fingers = noted_fingers (slice_index words rest_word) i finger;
+  mark = noted_mark (slice_index words mark_place) i (side_of bucket) finger index;
+  fingers = noted_fingers (slice_index words rest_place) i finger;
 }
 noted_or bucket words finger index None rest = rest
 
 -- the lowest unused note slot of the home bucket takes it, else that of the probing bucket, and else it is counted in the home bucket
 abbrev pub noted_by : List ℕ → List ℕ → ℕ → ℕ → NoteWords
 noted_by home probing finger index =
-    noted_or Home home finger index (unused_place (slice_index home mark_word))
-    (noted_or Probing probing finger index (unused_place (slice_index probing mark_word))
-    (record { bucket = Home; mark = raised_count (slice_index home mark_word); fingers = slice_index home rest_word }))
+    noted_or Home home finger index (unused_place (slice_index home mark_place))
+    (noted_or Probing probing finger index (unused_place (slice_index probing mark_place))
+    (record { bucket = Home; mark = raised_count (slice_index home mark_place); fingers = slice_index home rest_place }))
 
 abbrev pub noted : ℕ → Seen → NoteWords
 noted hash seen = noted_by seen.buckets.home seen.buckets.probing (finger_of hash) (index_of seen.bucket)
 
 -- whether its fingerprint word changes too
 abbrev pub has_finger : Seen → NoteWords → Bool
-has_finger seen note = if slice_index (words_in seen.buckets (note_place note.bucket)) rest_word == note.fingers then false else true
+has_finger seen note = if slice_index (words_in seen.buckets (note_place note.bucket)) rest_place == note.fingers then false else true

@@ -1,6 +1,6 @@
 -- What is wanted in each step, and what an answer makes of it.
 use Rattle.std.specs.Prelude.{ℕ, ◌+◌, ◌%◌, ⊤, Bool, true, false, Option, None, Some, is_none, List, if◌then◌else◌}
-use Rattle.bucket_meta.specs.Bucket.{mark_word, rest_word}
+use Rattle.bucket_meta.specs.Bucket.{mark_place, rest_place}
 use Rattle.image_layout.specs.Volatile.{counter_word}
 use Rattle.op_core.specs.declared.want.Want.{Want}
 use Rattle.op_core.specs.declared.want.Want.TheVariants as want
@@ -126,8 +126,8 @@ module _ (kept : Kept) where
   lock_of place = lock_word kept.site kept.hash kept.segment place
 
   abbrev pub note_wanted : NoteWord → NoteWords → Want
-  note_wanted Mark note = want.Store (lock_of (note_place note.bucket) + mark_word) note.mark
-  note_wanted Fingers note = want.Store (lock_of (note_place note.bucket) + rest_word) note.fingers
+  note_wanted Mark note = want.Store (lock_of (note_place note.bucket) + mark_place) note.mark
+  note_wanted Fingers note = want.Store (lock_of (note_place note.bucket) + rest_place) note.fingers
 
   module _ (seen : Seen) where
     -- THE EVENT that is wanted
@@ -163,7 +163,7 @@ nothing kept = record {
   held = kept.held;
   buckets = kept.buckets;
   bucket = First;
-  written = record { slot = 0; key = 0; value = 0; fingers = 0; published = mark_word; mark = 0 };
+  written = record { slot = 0; key = 0; value = 0; fingers = 0; published = mark_place; mark = 0 };
 }
 
 abbrev pub begun : Kept → StashOp

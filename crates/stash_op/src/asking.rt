@@ -5,7 +5,7 @@ ghost use Rattle.stash_op.specs.Steps.{note_wanted, wanted_in};
 
 use crate::search::{note_place, noted, place_of};
 use crate::step::{NoteWords, Seen, StashStep};
-use bucket_meta::words::{MARK_WORD, REST_WORD};
+use bucket_meta::words::{MARK_PLACE, REST_PLACE};
 use op_core::Want;
 use phase::{Kept, NoteWord, give_want, load_want, make_want, take_want};
 
@@ -15,8 +15,8 @@ fn want_note(kept: &Kept, part: NoteWord, note: &NoteWords) -> Want
 {
     let lock = kept.lock_of(note_place(note.bucket));
     match part {
-        NoteWord::Mark => Want::Store(lock + MARK_WORD as u64, note.mark),
-        NoteWord::Fingers => Want::Store(lock + REST_WORD as u64, note.fingers),
+        NoteWord::Mark => Want::Store(lock + MARK_PLACE as u64, note.mark),
+        NoteWord::Fingers => Want::Store(lock + REST_PLACE as u64, note.fingers),
     }
 }
 

@@ -7,7 +7,7 @@ ghost use Rattle.stash_op.specs.Steps.{nothing, begun, wanted, end_at, is_over, 
 use crate::asking::want_of;
 use crate::step::{Seen, Stage, StashBucket, StashEnd, StashStep};
 use crate::taking::{at_first, end_of, take_in};
-use bucket_meta::words::MARK_WORD;
+use bucket_meta::words::MARK_PLACE;
 use op_core::{Ans, Machine, Want};
 use phase::{Kept, Record, give_next};
 
@@ -33,7 +33,7 @@ fn nothing(kept: &Kept) -> Seen
             key: 0,
             value: 0,
             fingers: 0,
-            published: MARK_WORD as u8,
+            published: MARK_PLACE as u8,
             mark: 0,
         },
     }

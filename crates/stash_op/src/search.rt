@@ -5,7 +5,7 @@ ghost use Rattle.stash_op.specs.Search.{place_of, index_of, note_place, side_of,
 
 use crate::step::{NoteBucket, NoteWords, Seen, StashBucket};
 use bucket_meta::words::{
-    BUCKET_WORDS, MARK_WORD, REST_WORD, finger_place, inserted_mark, lowest_free, noted_fingers,
+    BUCKET_WORDS, MARK_PLACE, REST_PLACE, finger_place, inserted_mark, lowest_free, noted_fingers,
     noted_mark, raised_count, unused_place, with_finger,
 };
 use hash_word::finger;
@@ -60,7 +60,7 @@ pub fn free_slot(buckets: &Buckets, bucket: StashBucket) -> Option<u8>
     ensures { result ≡ free_slot buckets.now bucket }
 {
     let words = buckets.of(place_of(bucket));
-    lowest_free(words[MARK_WORD])
+    lowest_free(words[MARK_PLACE])
 }
 
 /// What is stored of the record in a slot of a stash bucket: no membership bit.
@@ -73,8 +73,8 @@ pub fn record_in(kept: &Kept, buckets: &Buckets, bucket: StashBucket, slot: u8) 
         key: kept.change.key,
         value: brought(kept.change.effect),
         fingers: with_finger(words[finger_place(slot)], slot, finger(kept.hash)),
-        published: MARK_WORD as u8,
-        mark: inserted_mark(words[MARK_WORD], slot),
+        published: MARK_PLACE as u8,
+        mark: inserted_mark(words[MARK_PLACE], slot),
     }
 }
 
@@ -94,8 +94,8 @@ fn noted_or(
     match at {
         Some(at) => NoteWords {
             bucket,
-            mark: noted_mark(words[MARK_WORD], at, side_of(bucket), finger, index),
-            fingers: noted_fingers(words[REST_WORD], at, finger),
+            mark: noted_mark(words[MARK_PLACE], at, side_of(bucket), finger, index),
+            fingers: noted_fingers(words[REST_PLACE], at, finger),
         },
         None => rest,
     }
@@ -113,11 +113,11 @@ fn noted_by(
 {
     let counted = NoteWords {
         bucket: NoteBucket::Home,
-        mark: raised_count(home[MARK_WORD]),
-        fingers: home[REST_WORD],
+        mark: raised_count(home[MARK_PLACE]),
+        fingers: home[REST_PLACE],
     };
-    let in_probing = unused_place(probing[MARK_WORD]);
-    let in_home = unused_place(home[MARK_WORD]);
+    let in_probing = unused_place(probing[MARK_PLACE]);
+    let in_home = unused_place(home[MARK_PLACE]);
     let rest = noted_or(
         NoteBucket::Probing,
         probing,
@@ -147,5 +147,5 @@ pub fn has_finger(seen: &Seen, note: &NoteWords) -> bool
     ensures { result ≡ has_finger seen.now note.now }
 {
     let words = seen.buckets.of(note_place(note.bucket));
-    words[REST_WORD] != note.fingers
+    words[REST_PLACE] != note.fingers
 }

@@ -2,7 +2,7 @@
 use Rattle.std.specs.Prelude.{◌≡◌, ◌≢◌, ◌⊎◌, true, ℕ, zero, suc, ◌+◌, ◌^◌, ◌<◌, ◌≤◌, List, [], ◌∷◌, slice_index, length}
 use Rattle.op_core.specs.declared.want.Want.{Want}
 use Rattle.op_core.specs.declared.want.Want.TheVariants.{Load, Store, Exchange}
-use Rattle.bucket_meta.specs.Bucket.{lock_word, lock_bit, free_lock, locked, unlocked, given_back}
+use Rattle.bucket_meta.specs.Bucket.{lock_place, lock_bit, free_lock, locked, unlocked, given_back}
 use Rattle.image_layout.specs.Places.{block}
 use Rattle.world.specs.Ground.{Ground, spent_lock}
 use Rattle.world.specs.Views.{Glance, View, Has, IsFirm}
@@ -53,7 +53,7 @@ LookedOnce lock x took later = later ≡ (Load lock, x) ∷ took
 -- the 32 words of the bucket were loaded, of which the lock word was the first and found to be `before`, and then the lock word once more, and found to
 -- be `after`
 abbrev pub ReadToItsEnd : ℕ → ℕ → ℕ → List (Want × ℕ) → List (Want × ℕ) → Type 0
-ReadToItsEnd lock before after took later = (bits : List ℕ) × (slice_index bits lock_word ≡ before) × (later ≡ (Load lock, after) ∷ with_loads lock bits block took)
+ReadToItsEnd lock before after took later = (bits : List ℕ) × (slice_index bits lock_place ≡ before) × (later ≡ (Load lock, after) ∷ with_loads lock bits block took)
 
 -- the view notes that the bucket was read, with its words, and that its lock word was the same behind them
 abbrev pub NotesBucket : ℕ → ℕ → List ℕ → View → Type 0
@@ -87,7 +87,7 @@ pub record IsReading (site : Ground) (v : View) (lock before : ℕ) (bits : List
   pub even : lock_bit before ≡ 0
   pub has : (j : ℕ) → 1 ≤ j → j < next → Has (lock + j, slice_index bits j) note.words
   pub whole : length bits ≡ block
-  pub first : slice_index bits lock_word ≡ before
+  pub first : slice_index bits lock_place ≡ before
   pub same_view : IsBesideNotes v w
   pub found : WasFound site v lock before
 

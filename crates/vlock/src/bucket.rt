@@ -17,7 +17,7 @@ ghost use Rattle.vlock.specs.Buckets.{MayCall, Loads, IsBesideNotes, ReadSays, L
 
 use crate::steps::event;
 use crate::table::{Acting, Image, ImageSeat};
-use bucket_meta::words::{LOCK_WORD, SPENT_LOCK, is_locked, lock_version, locked, unlocked};
+use bucket_meta::words::{LOCK_PLACE, SPENT_LOCK, is_locked, lock_version, locked, unlocked};
 use image_layout::{BLOCK, Geometry};
 use op_core::{Ans, Want};
 use std::marker::Brand;
@@ -160,7 +160,7 @@ pub fn read_bucket(
         return ReadReply::Held { seen: before };
     }
     let mut words = [0; BLOCK as usize];
-    words[LOCK_WORD] = before;
+    words[LOCK_PLACE] = before;
     for i in 1..BLOCK as usize {
         words[i] = glance(image, geometry, seat, lock, i as u64);
     }

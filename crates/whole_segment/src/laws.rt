@@ -1,7 +1,7 @@
 //! What the functions of this crate make together. The functions here do nothing: each stands for the law that its contract says.
 
 ghost use Rattle.std.specs.Prelude.{◌≡◌, ℕ, ◌^◌, ◌<◌, ◌≤◌, ◌⊎◌, ◌↔◌, IsTrue, List, [], length, Contains};
-ghost use Rattle.bucket_meta.specs.Bucket.{mark_word, rest_word, record_slots};
+ghost use Rattle.bucket_meta.specs.Bucket.{mark_place, rest_place, record_slots};
 ghost use Rattle.bucket_meta.specs.Marks.{copied_mark, cleared_mark};
 ghost use Rattle.sound_image.specs.Segments.{ImageWords};
 ghost use Rattle.sound_image.specs.Records.{word_in, slot_key, key_hash, HasRecord};
@@ -61,9 +61,9 @@ pub fn rounds_keep_their_lines()
 /// By the words of a segment of an image, a record that stands is a record of the image, and exact notes are exact notes of the image.
 pub fn loaded_segments_are_of_images()
     ensures records { (shape : Shape) (word : ImageWords) (s b r k : ℕ) → s < shape.segments
-        → Stands (λ c. word_in shape word s c mark_word) (λ c t. slot_key shape word s c t) b r k ↔ (HasRecord shape word s b r × (slot_key shape word s b r ≡ k)) }
+        → Stands (λ c. word_in shape word s c mark_place) (λ c t. slot_key shape word s c t) b r k ↔ (HasRecord shape word s b r × (slot_key shape word s b r ≡ k)) }
     ensures notes { (shape : Shape) (word : ImageWords) (s b : ℕ)
-        → HasExactNotes (λ c. word_in shape word s c mark_word) (λ c. word_in shape word s c rest_word) b
-        (stashed_of (λ c. word_in shape word s c mark_word) (λ c t. slot_key shape word s c t) (key_hash shape) b)
+        → HasExactNotes (λ c. word_in shape word s c mark_place) (λ c. word_in shape word s c rest_place) b
+        (stashed_of (λ c. word_in shape word s c mark_place) (λ c t. slot_key shape word s c t) (key_hash shape) b)
         → Rattle.sound_image.specs.Records.HasExactNotes shape word s b }
 {}

@@ -1,6 +1,6 @@
 -- What the holder of locks has to know of buckets to make a store there, said over the words that it knows.
 use Rattle.std.specs.Prelude.{◌≡◌, ◌≢◌, ◌≤◌, ℕ, ◌+◌, ◌<◌, ◌⊎◌, [], true, false, None, Some, List}
-use Rattle.bucket_meta.specs.Bucket.{mark_word, rest_word, allocated, member, overflow_count, record_slots, key_place, value_place, note_fingers_part}
+use Rattle.bucket_meta.specs.Bucket.{mark_place, rest_place, allocated, member, overflow_count, record_slots, key_place, value_place, note_fingers_part}
 use Rattle.bucket_meta.specs.Notes.{AreExact}
 use Rattle.frame_facts.specs.Core.{core_of}
 use Rattle.hash_word.specs.Hash.{home_of, probing_of, finger_of}
@@ -45,7 +45,7 @@ pub record SparesTaken (word : Words) (at m x : ℕ) : Type 0 where
   pub keys : (t : ℕ) → t < record_slots → IsTaken word at t → key_place t ≢ m
   pub values : (t : ℕ) → t < record_slots → IsTaken word at t → value_place t ≢ m
   pub fingers : (t : ℕ) → t < record_slots → IsTaken word at t → finger_in (with_word word (at + m) x) at t ≡ finger_in word at t
-  pub overflow : m ≡ rest_word → note_fingers_part x ≡ note_fingers_part (word (at + rest_word))
+  pub overflow : m ≡ rest_place → note_fingers_part x ≡ note_fingers_part (word (at + rest_place))
 
 -- the stores that change no pair: to the key, the value and the fingerprint of a free slot. The words of the slot itself may be
 -- loose: it is enough that the words of metadata are not
@@ -92,38 +92,38 @@ pub record FreesSlot (r w x : ℕ) : Type 0 where
 pub record MayPlace (site : Ground) (v : View) : Type 0 where
   -- an insert in the home or the probing bucket
   pub insert : (s b r k a x : ℕ) (word : Words) → FoundNone site v word s k → b < homes → KnowsBucket site.shape v s b word → IsReadyAt site.shape word s b r k
-      → value_in word (bucket_at site.shape s b) r ≡ a → TakesSlot site.shape b r k (word (bucket_at site.shape s b + mark_word)) x
-      → May site (publishes (bucket_at site.shape s b + mark_word) x (Insert k a)) v
+      → value_in word (bucket_at site.shape s b) r ≡ a → TakesSlot site.shape b r k (word (bucket_at site.shape s b + mark_place)) x
+      → May site (publishes (bucket_at site.shape s b + mark_place) x (Insert k a)) v
   -- and in the stash, for which a note is owed
   pub stash : (s c r k a x : ℕ) (word : Words) → FoundNone site v word s k → c < stash_buckets → KnowsBucket site.shape v s (homes + c) word → IsReadyAt site.shape word s (homes + c) r k
-      → value_in word (bucket_at site.shape s (homes + c)) r ≡ a → TakesSlot site.shape (homes + c) r k (word (bucket_at site.shape s (homes + c) + mark_word)) x
-      → May site (stashes (bucket_at site.shape s (homes + c) + mark_word) x (Insert k a) (record {
+      → value_in word (bucket_at site.shape s (homes + c)) r ≡ a → TakesSlot site.shape (homes + c) r k (word (bucket_at site.shape s (homes + c) + mark_place)) x
+      → May site (stashes (bucket_at site.shape s (homes + c) + mark_place) x (Insert k a) (record {
         segment = s;
         home = home_of (key_hash site.shape k);
         added = true;
         note = (finger_of (key_hash site.shape k), c);
         notes = notes_of site.shape word s (home_of (key_hash site.shape k));
-        count = overflow_count (word_in site.shape word s (home_of (key_hash site.shape k)) mark_word);
+        count = overflow_count (word_in site.shape word s (home_of (key_hash site.shape k)) mark_place);
       })) v
 
 -- the stores to a record that was found
 pub record MayChange (site : Ground) (v : View) : Type 0 where
   -- an update wherever the record stands, and a remove in the home or the probing bucket
   pub update : (s b r k a : ℕ) (word : Words) → FoundAt site v word s b r k → May site (publishes (value_at site.shape s b r) a (Update k a)) v
-  pub remove : (s b r k x : ℕ) (word : Words) → FoundAt site v word s b r k → b < homes → FreesSlot r (word (bucket_at site.shape s b + mark_word)) x
-      → May site (publishes (bucket_at site.shape s b + mark_word) x (Remove k)) v
+  pub remove : (s b r k x : ℕ) (word : Words) → FoundAt site v word s b r k → b < homes → FreesSlot r (word (bucket_at site.shape s b + mark_place)) x
+      → May site (publishes (bucket_at site.shape s b + mark_place) x (Remove k)) v
 
 -- a remove of a record in the stash, for which a note is owed
 pub record MayUnstash (site : Ground) (v : View) : Type 0 where
   pub remove : (s c r k x : ℕ) (word : Words) → FoundAt site v word s (homes + c) r k → OwesNone site v s (home_of (key_hash site.shape k)) → c < stash_buckets
-      → FreesSlot r (word (bucket_at site.shape s (homes + c) + mark_word)) x
-      → May site (stashes (bucket_at site.shape s (homes + c) + mark_word) x (Remove k) (record {
+      → FreesSlot r (word (bucket_at site.shape s (homes + c) + mark_place)) x
+      → May site (stashes (bucket_at site.shape s (homes + c) + mark_place) x (Remove k) (record {
         segment = s;
         home = home_of (key_hash site.shape k);
         added = false;
         note = (finger_of (key_hash site.shape k), c);
         notes = notes_of site.shape word s (home_of (key_hash site.shape k));
-        count = overflow_count (word_in site.shape word s (home_of (key_hash site.shape k)) mark_word);
+        count = overflow_count (word_in site.shape word s (home_of (key_hash site.shape k)) mark_place);
       })) v
 
 -- the replies that change nothing
@@ -136,7 +136,7 @@ pub record MayTell (site : Ground) (v : View) : Type 0 where
 pub record KeepsNeighbours (shape : Shape) (word other : Words) (s b : ℕ) : Type 0 where
   pub home_before : notes_in shape other s b 1 ≡ notes_in shape word s b 1
   pub home_after : notes_in shape other s (probing_of b) 0 ≡ notes_in shape word s (probing_of b) 0
-  pub count_after : overflow_count (word_in shape other s (probing_of b) mark_word) ≡ overflow_count (word_in shape word s (probing_of b) mark_word)
+  pub count_after : overflow_count (word_in shape other s (probing_of b) mark_place) ≡ overflow_count (word_in shape word s (probing_of b) mark_place)
 
 -- such a store to word n of bucket c by one who owes a note
 pub record TouchesNote (site : Ground) (v : View) (word : Words) (o : Owed) (c n x : ℕ) : Type 0 where
@@ -146,7 +146,7 @@ pub record TouchesNote (site : Ground) (v : View) (word : Words) (o : Owed) (c n
   pub home : KnowsBucket site.shape v o.segment o.home word
   pub probing : KnowsBucket site.shape v o.segment (probing_of o.home) word
   pub bucket : (c ≡ o.home) ⊎ (c ≡ probing_of o.home)
-  pub meta : (n ≡ mark_word) ⊎ (n ≡ rest_word)
+  pub meta : (n ≡ mark_place) ⊎ (n ≡ rest_place)
   pub same_core : core_of site.shape (bucket_at site.shape o.segment c + n) x ≡ core_of site.shape (bucket_at site.shape o.segment c + n) (word (bucket_at site.shape o.segment c + n))
   pub neighbours : KeepsNeighbours site.shape word (with_word word (bucket_at site.shape o.segment c + n) x) o.segment o.home
 
@@ -157,7 +157,7 @@ pub record MayRepay (site : Ground) (v : View) : Type 0 where
   pub last : (o : Owed) (c n x : ℕ) (word : Words) → TouchesNote site v word o c n x
       → ((stashed : List (ℕ × ℕ)) → IsOwedOf o.added o.note o.notes o.count stashed
       → AreExact (notes_of site.shape (with_word word (bucket_at site.shape o.segment c + n) x) o.segment o.home)
-      (overflow_count (word_in site.shape (with_word word (bucket_at site.shape o.segment c + n) x) o.segment o.home mark_word)) stashed)
+      (overflow_count (word_in site.shape (with_word word (bucket_at site.shape o.segment c + n) x) o.segment o.home mark_place)) stashed)
       → May site (repays (bucket_at site.shape o.segment c + n) x o) v
 
 -- the draw of a change: what is held and firm, and what of the stash is not held; and that no note is owed of a record that came there
@@ -174,7 +174,7 @@ pub record DrawsWell (site : Ground) (v : View) (call : Call) (s : ℕ) (word : 
 -- the view owes the home nothing, or the note of a record that left, with the notes that are known
 abbrev pub OwesAsKnown : Ground → View → Words → ℕ → ℕ → Type 0
 OwesAsKnown site v word s b = OwesNone site v s b
-    ⊎ ((o : Owed) × Has o v.owed × (o.segment ≡ s) × (o.home ≡ b) × (o.added ≡ false) × (o.notes ≡ notes_of site.shape word s b) × (o.count ≡ overflow_count (word_in site.shape word s b mark_word)))
+    ⊎ ((o : Owed) × Has o v.owed × (o.segment ≡ s) × (o.home ≡ b) × (o.added ≡ false) × (o.notes ≡ notes_of site.shape word s b) × (o.count ≡ overflow_count (word_in site.shape word s b mark_place)))
 
 -- the draws of a change
 pub record MayDraw (site : Ground) (v : View) : Type 0 where
@@ -192,13 +192,13 @@ pub record MayMove (site : Ground) (v : View) : Type 0 where
   -- the copy of a record of bucket b in bucket c
   pub copy : (s b r c t k x : ℕ) (word : Words) → HasLock v.held (bucket_at site.shape s (home_of (key_hash site.shape k))) → c < homes
       → KnowsBucket site.shape v s b word → KnowsBucket site.shape v s c word → Hit site.shape word s b r k → IsReadyAt site.shape word s c t k
-      → value_in word (bucket_at site.shape s c) t ≡ value_in word (bucket_at site.shape s b) r → TakesSlot site.shape c t k (word (bucket_at site.shape s c + mark_word)) x
+      → value_in word (bucket_at site.shape s c) t ≡ value_in word (bucket_at site.shape s b) r → TakesSlot site.shape c t k (word (bucket_at site.shape s c + mark_place)) x
       → v.moving ≡ []
-      → May site (copies (bucket_at site.shape s c + mark_word) x (record { segment = s; key = k; from_bucket = b; from_slot = r; to_bucket = c; to_slot = t })) v
+      → May site (copies (bucket_at site.shape s c + mark_place) x (record { segment = s; key = k; from_bucket = b; from_slot = r; to_bucket = c; to_slot = t })) v
   -- and the clearing of its source
   pub clear : (m : Move) (x : ℕ) (word : Words) → HasLock v.held (bucket_at site.shape m.segment (home_of (key_hash site.shape m.key))) → m.from_bucket < homes
       → KnowsBucket site.shape v m.segment m.from_bucket word → KnowsBucket site.shape v m.segment m.to_bucket word
       → Hit site.shape word m.segment m.from_bucket m.from_slot m.key → Hit site.shape word m.segment m.to_bucket m.to_slot m.key
-      → (m.to_bucket ≡ m.from_bucket → m.to_slot ≡ m.from_slot → ⊥) → FreesSlot m.from_slot (word (bucket_at site.shape m.segment m.from_bucket + mark_word)) x
+      → (m.to_bucket ≡ m.from_bucket → m.to_slot ≡ m.from_slot → ⊥) → FreesSlot m.from_slot (word (bucket_at site.shape m.segment m.from_bucket + mark_place)) x
       → ((n : Move) → Has n v.moving → n ≡ m)
-      → May site (clears (bucket_at site.shape m.segment m.from_bucket + mark_word) x m) v
+      → May site (clears (bucket_at site.shape m.segment m.from_bucket + mark_place) x m) v

@@ -4,7 +4,7 @@ use Rattle.op_core.specs.declared.want.Want.TheVariants.{Load, Done as DoneWant}
 use Rattle.op_core.specs.declared.want.Ans.{Ans}
 use Rattle.op_core.specs.declared.want.Ans.TheVariants.{Value, Drawn}
 use Rattle.op_core.specs.declared.why.Why.TheVariants.{Busy}
-use Rattle.bucket_meta.specs.Bucket.{lock_bit, record_slots, mark_word, records_of}
+use Rattle.bucket_meta.specs.Bucket.{lock_bit, record_slots, mark_place, records_of}
 use Rattle.bucket_meta.specs.Search.{IsThere, lowest_free}
 use Rattle.trace.specs.Events.{Words}
 use Rattle.image_layout.specs.Volatile.{counter_word}
@@ -48,13 +48,13 @@ MadeOnlySo = (op : WriteOp) (a : Ans) → HasMadeAt (taken op a).stage.step → 
 -- ---- where a new record comes
 -- as many records has a bucket, by its words
 abbrev pub records_in : List ℕ → ℕ
-records_in words = records_of (slice_index words mark_word)
+records_in words = records_of (slice_index words mark_place)
 
 -- IT TAKES THE LOWEST FREE SLOT of the home bucket where that has no more records than the probing bucket, and else of the probing
 -- bucket
 pub record IsRoomiest (buckets : Buckets) (place : Role) (slot : ℕ) : Type 0 where
   pub fewer : ((place ≡ Home) × (records_in buckets.home ≤ records_in buckets.probing)) ⊎ ((place ≡ Probing) × (records_in buckets.probing < records_in buckets.home))
-  pub lowest : lowest_free (slice_index (words_in buckets place) mark_word) ≡ Some slot
+  pub lowest : lowest_free (slice_index (words_in buckets place) mark_place) ≡ Some slot
 
 -- so by the words that are kept, where the one store of an insert is next
 abbrev pub InsertsWhereFewer : Type 0

@@ -1,6 +1,6 @@
 -- How a change fits the world: the kind of each of its events, and the view that its caller has in each step.
 use Rattle.std.specs.Prelude.{◌≡◌, ℕ, ◌+◌, ◌%◌, ◌^◌, ◌<◌, nat_le, ⊤, Bool, true, false, Option, None, Some, List, [], ◌∷◌, if◌then◌else◌}
-use Rattle.bucket_meta.specs.Bucket.{overflow_count, mark_word, rest_word}
+use Rattle.bucket_meta.specs.Bucket.{overflow_count, mark_place, rest_place}
 use Rattle.hash_word.specs.Hash.{home_of, finger_of}
 use Rattle.trace.specs.Events.{Words, with_word}
 use Rattle.image_layout.specs.Places.{root_word, block, buckets_of_key}
@@ -80,7 +80,7 @@ module _ (task : Task) (seen : Seen) where
     added = false;
     note = (finger_of task.hash, stash_index seen.place);
     notes = notes_of task.site.geometry loaded seen.path.segment (home_of task.hash);
-    count = overflow_count (word_in task.site.geometry loaded seen.path.segment (home_of task.hash) mark_word);
+    count = overflow_count (word_in task.site.geometry loaded seen.path.segment (home_of task.hash) mark_place);
   }
 
   -- ---- THE KIND of each event
@@ -116,8 +116,8 @@ module _ (task : Task) (seen : Seen) where
   mark_kind false i x = repays i x owed
 
   abbrev pub note_kind : NoteWord → NoteWords → Kind
-  note_kind Mark note = mark_kind (has_finger seen note) (lock_of task seen note.place + mark_word) note.mark
-  note_kind Fingers note = repays (lock_of task seen note.place + rest_word) note.fingers owed
+  note_kind Mark note = mark_kind (has_finger seen note) (lock_of task seen note.place + mark_place) note.mark
+  note_kind Fingers note = repays (lock_of task seen note.place + rest_place) note.fingers owed
 
   -- the second look at the header pins it under the lock of the home bucket
   abbrev pub kind_at : WriteStep → ℕ → Kind
@@ -248,7 +248,7 @@ module _ (site : Ground) (task : Task) (seen : Seen) where
   -- the words at each store of a note
   abbrev pub words_of_note : NoteWord → Words
   words_of_note Mark = changed task seen
-  words_of_note Fingers = with_word (changed task seen) (lock_of task seen (unnoted task.hash seen).place + mark_word) (unnoted task.hash seen).mark
+  words_of_note Fingers = with_word (changed task seen) (lock_of task seen (unnoted task.hash seen).place + mark_place) (unnoted task.hash seen).mark
 
   pub record IsUnnoting (part : NoteWord) (v : View) : Type 0 where
     pub all : HasAll v

@@ -2,7 +2,7 @@
 -- stored of a record, and how the note of one is taken away that leaves the stash.
 use Rattle.std.specs.Prelude.{◌==◌, ℕ, Bool, true, false, Option, None, Some, List, slice_index, if◌then◌else◌}
 use Rattle.hash_word.specs.Hash.{finger_of}
-use Rattle.bucket_meta.specs.Bucket.{mark_word, rest_word, value_place}
+use Rattle.bucket_meta.specs.Bucket.{mark_place, rest_place, value_place}
 use Rattle.bucket_meta.specs.Search.{lowest_with, lowest_free}
 use Rattle.bucket_meta.specs.Marks.{inserted_mark, member_mark, removed_mark, finger_place, with_finger}
 use Rattle.bucket_meta.specs.NoteWords.{note_place, freed_mark, freed_fingers, lowered_count}
@@ -44,19 +44,19 @@ found seen key =
 
 -- the lowest free slot of the bucket that is chosen
 abbrev pub room_by : Choice → Buckets → Option Spot
-room_by choice.Home buckets = spot_or Home (lowest_free (slice_index buckets.home mark_word)) None
-room_by choice.Probe buckets = spot_or Probing (lowest_free (slice_index buckets.probing mark_word)) None
+room_by choice.Home buckets = spot_or Home (lowest_free (slice_index buckets.home mark_place)) None
+room_by choice.Probe buckets = spot_or Probing (lowest_free (slice_index buckets.probing mark_place)) None
 room_by choice.Neither buckets = None
 
 -- the slot that a new record takes: in the less full of home and probing bucket, in home where both are as full, and none where both
 -- are full
 abbrev pub room_in : Buckets → Option Spot
-room_in buckets = room_by (choice_of (slice_index buckets.home mark_word) (slice_index buckets.probing mark_word)) buckets
+room_in buckets = room_by (choice_of (slice_index buckets.home mark_place) (slice_index buckets.probing mark_place)) buckets
 
 -- whether a stash bucket is to be visited, by the words of home and probing bucket
 abbrev pub visits : ℕ → Buckets → ℕ → Bool
 visits hash buckets index =
-    must_visit (slice_index buckets.home mark_word) (slice_index buckets.home rest_word) (slice_index buckets.probing mark_word) (slice_index buckets.probing rest_word) (finger_of hash) index
+    must_visit (slice_index buckets.home mark_place) (slice_index buckets.home rest_place) (slice_index buckets.probing mark_place) (slice_index buckets.probing rest_place) (finger_of hash) index
 
 -- ---- what is stored of a record
 -- a record that stands in its probing bucket has the membership bit too
@@ -66,9 +66,9 @@ taken_mark place w1 slot = inserted_mark w1 slot
 
 -- the word whose store makes the change, by its number in the bucket
 abbrev pub published_word : Effect → ℕ → ℕ
-published_word (Insert value) slot = mark_word
+published_word (Insert value) slot = mark_place
 published_word (Update value) slot = value_place slot
-published_word Remove slot = mark_word
+published_word Remove slot = mark_place
 
 -- what is stored there
 abbrev pub published_mark : Effect → Role → ℕ → ℕ → ℕ
@@ -84,7 +84,7 @@ record_in task place words slot = record {
   value = brought task.change.effect;
   fingers = with_finger (slice_index words (finger_place slot)) slot (finger_of task.hash);
   published = published_word task.change.effect slot;
-  mark = published_mark task.change.effect place (slice_index words mark_word) slot;
+  mark = published_mark task.change.effect place (slice_index words mark_place) slot;
 }
 
 abbrev pub record_at : Task → Buckets → Spot → Record
@@ -104,19 +104,19 @@ leaves_note effect place = false
 
 -- words 1 and 3 of a bucket without the note on a place, or else what is made instead
 abbrev pub freed_or : Role → List ℕ → Option ℕ → NoteWords → NoteWords
-freed_or place words (Some i) rest = record { place = place; mark = freed_mark (slice_index words mark_word) i; fingers = freed_fingers (slice_index words rest_word) i }
+freed_or place words (Some i) rest = record { place = place; mark = freed_mark (slice_index words mark_place) i; fingers = freed_fingers (slice_index words rest_place) i }
 freed_or place words None rest = rest
 
 -- the lowest note of it in the home bucket goes, else that in the probing bucket, and else one of those that are counted
 abbrev pub unnoted_by : List ℕ → List ℕ → ℕ → ℕ → NoteWords
 unnoted_by home probing finger index =
-    freed_or Home home (note_place (slice_index home mark_word) (slice_index home rest_word) 0 finger index)
-    (freed_or Probing probing (note_place (slice_index probing mark_word) (slice_index probing rest_word) 1 finger index)
-    (record { place = Home; mark = lowered_count (slice_index home mark_word); fingers = slice_index home rest_word }))
+    freed_or Home home (note_place (slice_index home mark_place) (slice_index home rest_place) 0 finger index)
+    (freed_or Probing probing (note_place (slice_index probing mark_place) (slice_index probing rest_place) 1 finger index)
+    (record { place = Home; mark = lowered_count (slice_index home mark_place); fingers = slice_index home rest_place }))
 
 abbrev pub unnoted : ℕ → Seen → NoteWords
 unnoted hash seen = unnoted_by seen.buckets.home seen.buckets.probing (finger_of hash) (stash_index seen.place)
 
 -- whether its fingerprint word changes too
 abbrev pub has_finger : Seen → NoteWords → Bool
-has_finger seen note = if slice_index (words_in seen.buckets note.place) rest_word == note.fingers then false else true
+has_finger seen note = if slice_index (words_in seen.buckets note.place) rest_place == note.fingers then false else true

@@ -1,6 +1,6 @@
 -- What a change wants in each step, and what an answer makes of it.
 use Rattle.std.specs.Prelude.{ℕ, ◌+◌, ◌%◌, nat_le, ⊤, Bool, true, false, Option, None, Some, is_none, List, if◌then◌else◌}
-use Rattle.bucket_meta.specs.Bucket.{mark_word, rest_word}
+use Rattle.bucket_meta.specs.Bucket.{mark_place, rest_place}
 use Rattle.image_layout.specs.Volatile.{counter_word}
 use Rattle.sound_image.specs.Records.{key_hash}
 use Rattle.op_core.specs.declared.want.Want.{Want}
@@ -180,8 +180,8 @@ module _ (task : Task) (seen : Seen) where
   lock_of place = lock_word task.site task.hash seen.path.segment place
 
   abbrev pub note_wanted : NoteWord → NoteWords → Want
-  note_wanted Mark note = want.Store (lock_of note.place + mark_word) note.mark
-  note_wanted Fingers note = want.Store (lock_of note.place + rest_word) note.fingers
+  note_wanted Mark note = want.Store (lock_of note.place + mark_place) note.mark
+  note_wanted Fingers note = want.Store (lock_of note.place + rest_place) note.fingers
 
   -- THE EVENT that it wants
   abbrev pub wanted_in : WriteStep → Want
@@ -225,7 +225,7 @@ nothing = record {
   held = none_held;
   buckets = no_words;
   place = Home;
-  written = record { slot = 0; key = 0; value = 0; fingers = 0; published = mark_word; mark = 0 };
+  written = record { slot = 0; key = 0; value = 0; fingers = 0; published = mark_place; mark = 0 };
 }
 
 abbrev pub begun : Change → Site → WriteOp

@@ -6,7 +6,7 @@ ghost use Rattle.write_op.specs.Steps.{lock_of, note_wanted, wanted_in};
 
 use crate::search::{NoteWords, unnoted};
 use crate::step::{Seen, Task, WriteStep};
-use bucket_meta::words::{MARK_WORD, REST_WORD};
+use bucket_meta::words::{MARK_PLACE, REST_PLACE};
 use op_core::Want;
 use phase::{
     NoteWord, Role, back_want, give_want, load_want, lock_word, make_want, take_want, walk_want,
@@ -26,8 +26,8 @@ fn want_note(task: &Task, seen: &Seen, part: NoteWord, note: &NoteWords) -> Want
 {
     let lock = lock_of(task, seen, note.place);
     match part {
-        NoteWord::Mark => Want::Store(lock + MARK_WORD as u64, note.mark),
-        NoteWord::Fingers => Want::Store(lock + REST_WORD as u64, note.fingers),
+        NoteWord::Mark => Want::Store(lock + MARK_PLACE as u64, note.mark),
+        NoteWord::Fingers => Want::Store(lock + REST_PLACE as u64, note.fingers),
     }
 }
 

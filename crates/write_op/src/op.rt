@@ -9,7 +9,7 @@ ghost use Rattle.write_op.specs.Steps.{nothing, begun, wanted, end_at, is_over, 
 use crate::asking::want_of;
 use crate::step::{Seen, Stage, Task, WriteEnd, WriteStep};
 use crate::taking::{end_of, take_in};
-use bucket_meta::words::MARK_WORD;
+use bucket_meta::words::MARK_PLACE;
 use map_model::Change;
 use op_core::{Ans, Machine, Want};
 use phase::{Buckets, Held, Kept, Path, Record, Role, Walk, give_next};
@@ -45,7 +45,7 @@ fn nothing() -> Seen
             key: 0,
             value: 0,
             fingers: 0,
-            published: MARK_WORD as u8,
+            published: MARK_PLACE as u8,
             mark: 0,
         },
     }

@@ -2,7 +2,7 @@
 //! of a record, and how the note of one is taken away that leaves the stash.
 
 ghost use Rattle.std.specs.Prelude.{◌≡◌, ℕ, ◌<◌, IfSome, slice_index};
-ghost use Rattle.bucket_meta.specs.Bucket.{record_slots, mark_word, fingers_word, rest_word};
+ghost use Rattle.bucket_meta.specs.Bucket.{record_slots, mark_place, fingers_place, rest_place};
 ghost use Rattle.bucket_meta.specs.MetaWords.{IsMetaOf};
 ghost use Rattle.write_op.specs.Search.{spot_or, slot_in, found, room_in, visits, taken_mark, published_word, published_mark, record_in, record_at, stash_index, leaves_note, freed_or, unnoted_by, unnoted, has_finger};
 
@@ -10,7 +10,7 @@ use crate::step::{Seen, Spot, Task};
 use balance::{Choice, choose};
 use bucket_meta::Meta;
 use bucket_meta::words::{
-    self, BUCKET_WORDS, FINGERS_WORD, MARK_WORD, REST_WORD, finger_place, freed_fingers,
+    self, BUCKET_WORDS, FINGERS_PLACE, MARK_PLACE, REST_PLACE, finger_place, freed_fingers,
     freed_mark, inserted_mark, lowered_count, lowest_free, lowest_with, member_mark, must_visit,
     note_place, removed_mark, with_finger,
 };
@@ -66,9 +66,9 @@ pub fn found(seen: &Seen, key: u64) -> Option<Spot>
 
 /// The metadata of a bucket, by its words.
 fn meta_of(words: &[u64; BUCKET_WORDS]) -> Meta
-    ensures { IsMetaOf result (slice_index words.now mark_word) (slice_index words.now fingers_word) (slice_index words.now rest_word) }
+    ensures { IsMetaOf result (slice_index words.now mark_place) (slice_index words.now fingers_place) (slice_index words.now rest_place) }
 {
-    Meta::read([words[MARK_WORD], words[FINGERS_WORD], words[REST_WORD]])
+    Meta::read([words[MARK_PLACE], words[FINGERS_PLACE], words[REST_PLACE]])
 }
 
 /// The slot that a new record takes: the lowest free one of the less full of home and probing bucket, of home where both are as
@@ -78,8 +78,12 @@ pub fn room_in(buckets: &Buckets) -> Option<Spot>
     ensures within { IfSome result (λ spot. spot.slot < record_slots) }
 {
     match choose(&meta_of(&buckets.home), &meta_of(&buckets.probing)) {
-        Choice::Home => spot_or(Role::Home, lowest_free(buckets.home[MARK_WORD]), None),
-        Choice::Probe => spot_or(Role::Probing, lowest_free(buckets.probing[MARK_WORD]), None),
+        Choice::Home => spot_or(Role::Home, lowest_free(buckets.home[MARK_PLACE]), None),
+        Choice::Probe => spot_or(
+            Role::Probing,
+            lowest_free(buckets.probing[MARK_PLACE]),
+            None,
+        ),
         Choice::Neither => None,
     }
 }
@@ -90,10 +94,10 @@ pub fn visits(hash: u64, buckets: &Buckets, index: u8) -> bool
 {
     let (home, probing) = (&buckets.home, &buckets.probing);
     must_visit(
-        home[MARK_WORD],
-        home[REST_WORD],
-        probing[MARK_WORD],
-        probing[REST_WORD],
+        home[MARK_PLACE],
+        home[REST_PLACE],
+        probing[MARK_PLACE],
+        probing[REST_PLACE],
         finger(hash),
         index,
     )
@@ -120,7 +124,7 @@ fn published_word(effect: Effect, slot: u8) -> u8
 {
     match effect {
         Effect::Update(_) => FIRST_VALUE + RECORD_WORDS * slot,
-        Effect::Insert(_) | Effect::Remove => MARK_WORD as u8,
+        Effect::Insert(_) | Effect::Remove => MARK_PLACE as u8,
     }
 }
 
@@ -147,7 +151,7 @@ fn record_in(task: &Task, place: Role, words: &[u64; BUCKET_WORDS], slot: u8) ->
         value: brought(effect),
         fingers: with_finger(words[finger_place(slot)], slot, finger(task.hash)),
         published: published_word(effect, slot),
-        mark: published_mark(effect, place, words[MARK_WORD], slot),
+        mark: published_mark(effect, place, words[MARK_PLACE], slot),
     }
 }
 
@@ -200,8 +204,8 @@ fn freed_or(place: Role, words: &[u64; BUCKET_WORDS], at: Option<u8>, rest: Note
     match at {
         Some(at) => NoteWords {
             place,
-            mark: freed_mark(words[MARK_WORD], at),
-            fingers: freed_fingers(words[REST_WORD], at),
+            mark: freed_mark(words[MARK_PLACE], at),
+            fingers: freed_fingers(words[REST_PLACE], at),
         },
         None => rest,
     }
@@ -219,11 +223,11 @@ fn unnoted_by(
 {
     let counted = NoteWords {
         place: Role::Home,
-        mark: lowered_count(home[MARK_WORD]),
-        fingers: home[REST_WORD],
+        mark: lowered_count(home[MARK_PLACE]),
+        fingers: home[REST_PLACE],
     };
-    let in_probing = note_place(probing[MARK_WORD], probing[REST_WORD], 1, finger, index);
-    let in_home = note_place(home[MARK_WORD], home[REST_WORD], 0, finger, index);
+    let in_probing = note_place(probing[MARK_PLACE], probing[REST_PLACE], 1, finger, index);
+    let in_home = note_place(home[MARK_PLACE], home[REST_PLACE], 0, finger, index);
     let rest = freed_or(Role::Probing, probing, in_probing, counted);
     freed_or(Role::Home, home, in_home, rest)
 }
@@ -246,5 +250,5 @@ pub fn has_finger(seen: &Seen, note: &NoteWords) -> bool
     ensures { result ≡ has_finger seen.now note.now }
 {
     let words = seen.buckets.of(note.place);
-    words[REST_WORD] != note.fingers
+    words[REST_PLACE] != note.fingers
 }

@@ -3,7 +3,7 @@
 use Rattle.std.specs.Prelude.{◌≡◌, ◌≢◌, ℕ, suc, ◌+◌, ◌*◌, ◌-◌, ◌/◌, ◌^◌, ◌<◌, ◌≤◌, ◌⊎◌, [], ◌∷◌}
 use Rattle.trace.specs.Events.{Words}
 use Rattle.hash_word.specs.Hash.{Covers}
-use Rattle.bucket_meta.specs.Bucket.{mark_word, lock_bit, record_slots, allocated, member}
+use Rattle.bucket_meta.specs.Bucket.{mark_place, lock_bit, record_slots, allocated, member}
 use Rattle.segment_head.specs.HeadWord.{version_in, state_in, depth_in, pattern_in, free, fresh, normal, splitting, HasLiveState, link_to}
 use Rattle.image_layout.specs.Places.{Shape, block, root_word, entry_at, bucket_at, key_at, value_at, homes, buckets}
 use Rattle.segment_head.specs.SplitHeads.{side_depth_in, side_pattern_in}
@@ -153,7 +153,7 @@ pub record MayFinish (site : Ground) (v : View) : Type 0 where
   -- records are cleared of a region of which the segment has nothing
   pub clear : (s b x d p : ℕ) (word : Words) → IsSettledHolder site.shape v → HoldsBucketOf site.shape v s b → Has (Lacks s d p) v.facts
       → ((n : ℕ) → 1 ≤ n → n < block → KnowsWord v (bucket_at site.shape s b + n) (word (bucket_at site.shape s b + n)))
-      → ClearsRegion site word (bucket_at site.shape s b) d p (word (bucket_at site.shape s b + mark_word)) x → MayAt site (sets (bucket_at site.shape s b + mark_word) x) v
+      → ClearsRegion site word (bucket_at site.shape s b) d p (word (bucket_at site.shape s b + mark_place)) x → MayAt site (sets (bucket_at site.shape s b + mark_place) x) v
   -- the split ends: the segment lacks its 1-side, whose entries name deeper ones, and no side is held
   pub end : (s x : ℕ) (word : Words) → IsSettledHolder site.shape v → Has (Whole s) v.areas → Has (Segment s) v.areas → HasNoSides v.areas → KnowsHead site.shape v s word
       → state_in (word (header_word site.shape s)) ≡ splitting
