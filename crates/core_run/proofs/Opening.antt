@@ -1,11 +1,11 @@
 -- The pairs of an image are the map that the records of owners make, slot by slot.
-use Rattle.std.proofs.Common.{◌≡◌, ◌≢◌, ℕ, zero, suc, ◌+◌, ◌*◌, ◌/◌, ◌%◌, ◌^◌, ◌<◌, ◌≤◌, ◌⊎◌, refl, sym, ap, subst, ◌∙◌, arith, inl, inr, ⊎_elim, List, cond, eq-eqb, Bool, true, false, Option, None, Some}
+use Rattle.std.proofs.Common.{◌≡◌, ◌≢◌, ℕ, zero, suc, ◌+◌, ◌*◌, ◌/◌, ◌%◌, ◌^◌, ◌<◌, ◌≤◌, ◌⊎◌, refl, sym, ap, subst, ◌∙◌, arith, inl, inr, ⊎_elim, List, cond, eq-eqb, true, false, Option, None, Some}
 use Rattle.std.specs.Prelude.{◌==◌, if◌then◌else◌, slice_index}
 use Rattle.std.specs.FinMap.{get, insert, get-empty, get-insert}
 use Rattle.std.specs.Cmp.{unsigned_tied}
 use Rattle.std.proofs.lemmas.Cmp.{nat_cmp_total}
 use Rattle.std.specs.Ordering.{nat_cmp}
-use Rattle.std.proofs.lemmas.Bool.{cases_eq, cases_lt, ne_eqb, eqb-true, and_parts}
+use Rattle.std.proofs.lemmas.Bool.{cases_eq, cases_lt, ne_eqb, eqb-true, and_parts, cases_Bool, both_ways}
 use Rattle.std.specs.Cmp.Derive.{both_true}
 use Rattle.bucket_meta.specs.Bucket.{allocated}
 use Rattle.image_layout.specs.Places.{Shape, key_at}
@@ -27,10 +27,6 @@ get-insert_same m k v = get-insert nat_cmp_total m k v k ∙ ap (λ b. cond b (S
 
 get-insert_other : (m : Map) (k v q : ℕ) → q ≢ k → get (insert m k v) q ≡ get m q
 get-insert_other m k v q other = get-insert nat_cmp_total m k v q ∙ ap (λ b. cond b (Some v) (get m q)) (unsigned_tied q k ∙ ne_eqb q k other)
-
-bool_cases : (b : Bool) → (b ≡ true) ⊎ (b ≡ false)
-bool_cases true = inl refl
-bool_cases false = inr refl
 
 -- ---- the number of a slot, of 924 in each segment
 abbrev number : ℕ → ℕ → ℕ → ℕ
@@ -110,11 +106,8 @@ module _ (shape : Shape) (word : ImageWords) where
       ])
       (λ (fails : has_record shape word t ≡ false).
       subst (HasBelow (suc t) k) (sym (ap (λ m. get m k) (without_record t fails)))
-      (same_below t k _ (λ h e. differ _ h fails) (map_has t k)))
-      (bool_cases (has_record shape word t))
-    where
-      differ : (b : Bool) → b ≡ true → b ≡ false → ⊥
-      differ b h f = cc
+      (same_below t k _ (λ h e. both_ways _ fails h) (map_has t k)))
+      (cases_Bool (has_record shape word t))
 
 -- the test whether the owner that was found is a segment
 of_test : (o : Option ℕ) (s : ℕ) → is_owner o s ≡ true → o ≡ Some s

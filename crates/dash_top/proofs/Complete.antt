@@ -1,10 +1,11 @@
 -- What is good is not refused: a good script has no fault, and a good image is taken.
-use Rattle.std.proofs.Common.{◌≡◌, ℕ, ◌+◌, ◌≤◌, List, [], ◌∷◌, length, take, refl, sym, ◌∙◌, subst, arith, Option, None, Some, Bool, true, false}
+use Rattle.std.proofs.Common.{◌≡◌, ℕ, ◌+◌, ◌≤◌, List, [], ◌∷◌, length, take, refl, sym, ◌∙◌, subst, arith, Option, None, Some, false}
 use Rattle.std.proofs.lemmas.Grind.{common_steps}
 use Rattle.std.specs.Prelude.{codes}
 use Rattle.std.specs.Str.{bytes_eq}
 use Rattle.std.proofs.lemmas.Slice.Eq.{bytes_eq-Decides}
 use Rattle.std.specs.Io.KnownBytes.{Consumes}
+use Rattle.std.proofs.lemmas.Bool.{both_ways}
 use Rattle.outside.specs.Storing.{IsFront}
 use Rattle.image_file.specs.declared.fault.ImageFault.{ImageFault}
 use Rattle.image_layout.specs.Places.{Shape}
@@ -58,15 +59,12 @@ good_image_is_taken t fault refused good =
 check_is_no_list : (words : List (List ℕ)) → words ≡ check_words → words ≡ list_words → ⊥
 check_is_no_list words h k = cc
 
-not_both : (b : Bool) → b ≡ false → b ≡ true → ⊥
-not_both b h k = cc
-
 only_word : (a b : List ℕ) → a ∷ [] ≡ b ∷ [] → a ≡ b
 only_word a b h = cc
 
 -- words that are not the same bytes
 differ : (words : List (List ℕ)) (a b : List ℕ) → bytes_eq a b ≡ false → words ≡ a ∷ [] → words ≡ b ∷ [] → ⊥
-differ words a b unlike h k = not_both (bytes_eq a b) unlike ((bytes_eq-Decides a b).1 (only_word a b (sym h ∙ k)))
+differ words a b unlike h k = both_ways (bytes_eq a b) unlike ((bytes_eq-Decides a b).1 (only_word a b (sym h ∙ k)))
 
 pub check_is_no_run : (words : List (List ℕ)) → words ≡ check_words → ReadsSource words → ⊥
 check_is_no_run words h (Play, k) = differ words (codes "check") (codes "play") refl h k

@@ -9,7 +9,7 @@ use Rattle.std.proofs.lemmas.Map.Keys.{IsDistinct-push, IsDistinct-IsPermutation
 use Rattle.std.proofs.lemmas.List.Folds.{list_any_none}
 use Rattle.std.proofs.Math.Dec.{eqb}
 use Rattle.std.specs.Cmp.{nat_eq_equiv}
-use Rattle.std.proofs.lemmas.Bool.{cases_lt, cases_eq}
+use Rattle.std.proofs.lemmas.Bool.{cases_lt, cases_eq, ne_eqb}
 use Rattle.std.proofs.lemmas.Bool.Decides.{nat_tests}
 use Rattle.std.proofs.lemmas.List.{map-append, get_or-map, length-map}
 use Rattle.std.proofs.lemmas.List.Elements.{All-map, All-contains_itself, Contains-append_left, Contains-push, Contains-push_cases, filter-append}
@@ -73,14 +73,11 @@ decided (x ∷ xs) pair =
     (same_pair x pair)
 
 -- NO KEY of the list is this one
-eq_false : (a b : ℕ) → a ≢ b → (a == b) ≡ false
-eq_false a b h = grind (arith, nat_tests)
-
 keys_differ : (pairs : List (ℕ × ℕ)) (y : ℕ) → ((pair : ℕ × ℕ) → Contains pairs pair → pair.0 ≢ y) → list_any (λ k. y == k) (keys_of pairs) ≡ false
 keys_differ pairs y other =
     list_any_none (λ k. y == k) (keys_of pairs)
     (All-map (λ k. (y == k) ≡ false) (λ (pair : ℕ × ℕ). pair.0) pairs
-    (λ i d h. eq_false y (get_or pairs i d).0 (λ e. other (get_or pairs i d) (All-contains_itself pairs i d h) (sym e))))
+    (λ i d h. ne_eqb y (get_or pairs i d).0 (λ e. other (get_or pairs i d) (All-contains_itself pairs i d h) (sym e))))
 
 distinct_nil : IsDistinct eqb []
 unfolding IsDistinct

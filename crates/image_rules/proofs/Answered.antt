@@ -5,10 +5,6 @@ pub if_none : {X : Type 0} {P Q : Type 0} (o : Option X) → (P → Q) → IfNon
 if_none None f h = f h
 if_none (Some x) f h = tt
 
-pub if_some : {X : Type 0} {P Q : X → Type 0} (o : Option X) → ((x : X) → P x → Q x) → IfSome o P → IfSome o Q
-if_some None f h = tt
-if_some (Some x) f h = f x h
-
 pub if_err : {X E : Type 0} {P Q : E → Type 0} (r : Result X E) → ((e : E) → P e → Q e) → IfErr r P → IfErr r Q
 if_err (Ok x) f h = tt
 if_err (Err e) f h = f e h

@@ -1,7 +1,7 @@
 -- One more entry anywhere among all, at a place that the draws have reached, leaves the map at each earlier place, and every reply right.
 use Rattle.std.proofs.Common.{◌≡◌, ℕ, zero, suc, ◌<◌, ◌≤◌, ◌+◌, Bool, true, false, cond, ◌&&◌, List, [], ◌∷◌, ◌++◌, length, refl, sym, ap, subst, ◌∙◌, arith, inl, inr}
 use Rattle.std.specs.Prelude.{eqb}
-use Rattle.std.proofs.lemmas.Bool.{eqb-true}
+use Rattle.std.proofs.lemmas.Bool.{eqb-true, and_parts}
 use Rattle.std.proofs.lemmas.Bool.Decides.{eqb_tells}
 use Rattle.std.specs.List.{filter, AllByRecursion}
 use Rattle.map_model.specs.declared.entry.Entry.{Entry}
@@ -11,7 +11,7 @@ use Rattle.map_model.specs.Legal.{IsPlace, IsReplyOf, replay}
 use Rattle.map_model.specs.ByPlaces.{draws_below, map_at, IsRightAtPlace}
 use Rattle.map_model.proofs.Elements.{Has, All-at, All-from_each, Has-append_right, Has-insert_cases, Has-filter, Has-filter_parts, filter-insert_failing, length-filter-insert_passing}
 use Rattle.map_model.proofs.Rows.{replay-append, after-quiet}
-use Rattle.map_model.proofs.Places.{and-parts, drew_here}
+use Rattle.map_model.proofs.Places.{drew_here}
 
 -- ---- places against the number of draws
 pub place_within : (e : Entry) (count : ℕ) → IsPlace count e → e.place ≤ count
@@ -34,7 +34,7 @@ only_one (x ∷ y ∷ es) e one h = absurd (omega arith)
 pub none_drew : (all : List Entry) (count n : ℕ) → AllByRecursion (IsPlace count) all → count ≤ n → filter (drew_at n) all ≡ []
 none_drew all count n places behind = nothing_in (filter (drew_at n) all) (λ e h.
     let parts = Has-filter_parts (drew_at n) all e h in
-    let drew = and-parts e.drew (eqb e.place n) parts.0 in
+    let drew = and_parts e.drew (eqb e.place n) parts.0 in
     let same = eqb-true e.place n drew.1 in
     let below = subst (λ b. cond b (suc e.place) e.place ≤ count) drew.0 (All-at (IsPlace count) all e places parts.1) in
     omega arith)
@@ -104,7 +104,7 @@ module _ (before behind : List Entry) (e : Entry) where
     each_once-one_more places once n below =
         elim (drew_at n e) as (λ b. drew_at n e ≡ b → length (filter (drew_at n) new) ≡ 1) [
           | true ↦ λ here.
-              let drew = and-parts e.drew (eqb e.place n) here in
+              let drew = and_parts e.drew (eqb e.place n) here in
               let place = reached.next drew.0 ∙ refl in
               let same = eqb-true e.place n drew.1 in
               length-filter-insert_passing (drew_at n) before behind e here ∙ ap (λ es. suc (length es)) (none_drew old (draws old) n places (omega arith))

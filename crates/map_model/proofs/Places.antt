@@ -1,6 +1,6 @@
 -- Along the weave each reply may stand exactly where each entry, looked at alone, is right at its place.
-use Rattle.std.proofs.Common.{◌≡◌, ℕ, zero, suc, ◌<◌, ◌≤◌, Bool, true, false, ◌&&◌, not, List, length, refl, sym, ap, subst, ◌∙◌, arith, inl, inr}
-use Rattle.std.proofs.lemmas.Bool.{eq-eqb, eqb-true}
+use Rattle.std.proofs.Common.{◌≡◌, ℕ, zero, suc, ◌<◌, ◌≤◌, true, false, ◌&&◌, not, List, length, refl, sym, ap, subst, ◌∙◌, arith, inl, inr}
+use Rattle.std.proofs.lemmas.Bool.{eq-eqb, eqb-true, and_parts, not-true}
 use Rattle.std.proofs.lemmas.Bool.Decides.{eqb_tells}
 use Rattle.std.specs.Prelude.{eqb}
 use Rattle.std.specs.List.{filter, AllByRecursion}
@@ -26,14 +26,10 @@ stands all e h =
       | false ↦ λ loaded. Has-append_left (filter (loaded_at e.place) all) (filter (drew_at e.place) all) e (Has-filter (loaded_at e.place) all e (loaded_here e loaded) h)
     ] refl
 
-pub and-parts : (a b : Bool) → (a && b) ≡ true → (a ≡ true) × (b ≡ true)
-and-parts true b both = (refl, both)
-and-parts false b both = absurd (grind arith)
-
 pub stands_only : (all : List Entry) (n : ℕ) (e : Entry) → Has (at_place all n) e → Has all e × (e.place ≡ n)
 stands_only all n e h = elim (Has-append_cases (filter (loaded_at n) all) (filter (drew_at n) all) e h) [
-  | inl loaded ↦ (let parts = Has-filter_parts (loaded_at n) all e loaded in (parts.1, eqb-true e.place n (and-parts (not e.drew) (eqb e.place n) parts.0).1))
-  | inr drew ↦ (let parts = Has-filter_parts (drew_at n) all e drew in (parts.1, eqb-true e.place n (and-parts e.drew (eqb e.place n) parts.0).1))
+  | inl loaded ↦ (let parts = Has-filter_parts (loaded_at n) all e loaded in (parts.1, eqb-true e.place n (and_parts (not e.drew) (eqb e.place n) parts.0).1))
+  | inr drew ↦ (let parts = Has-filter_parts (drew_at n) all e drew in (parts.1, eqb-true e.place n (and_parts e.drew (eqb e.place n) parts.0).1))
 ]
 
 -- ---- the map along the weave
@@ -45,11 +41,7 @@ module _ (start : Map) (all : List Entry) (drew_for_change : AllByRecursion Drew
   loaded-quiet : (n : ℕ) → AllByRecursion IsQuiet (filter (loaded_at n) all)
   loaded-quiet n = All-from_each IsQuiet (filter (loaded_at n) all) (λ e h.
       let parts = Has-filter_parts (loaded_at n) all e h in
-      sym (All-at DrewForChange all e drew_for_change parts.1) ∙ not-true e.drew (and-parts (not e.drew) (eqb e.place n) parts.0).0)
-    where
-      not-true : (b : Bool) → not b ≡ true → b ≡ false
-      not-true true h = sym h
-      not-true false h = refl
+      sym (All-at DrewForChange all e drew_for_change parts.1) ∙ not-true e.drew (and_parts (not e.drew) (eqb e.place n) parts.0).0)
 
   -- the weave leaves the map that the draws alone leave
   pub replay-weave_below : (n : ℕ) → replay start (weave_below all n) ≡ map_at start all n

@@ -1,7 +1,7 @@
 -- The way: what it wants is of its kind, who relies on what it loaded may take it, it keeps that, and leaves all else of the view as it was.
-use Rattle.std.proofs.Common.{◌≡◌, ℕ, ◌+◌, ◌^◌, ◌<◌, ◌≤◌, Bool, true, false, List, [], ◌∷◌, ◌++◌, Option, None, inl, inr, ◌⊎◌, refl, sym, ap, ◌∙◌, subst, arith}
-use Rattle.std.specs.Prelude.{◌==◌, ◌&&◌, ◌||◌, nat_lt, nat_le, if◌then◌else◌}
-use Rattle.std.proofs.lemmas.Bool.{eq-eqb, le-leb, lt-ltb, leb-true, ltb-false, leb-false, eqb-false, false≢true}
+use Rattle.std.proofs.Common.{◌≡◌, ℕ, ◌+◌, ◌^◌, ◌<◌, ◌≤◌, Bool, true, false, List, [], ◌∷◌, ◌++◌, Option, None, inl, inr, refl, sym, ap, ◌∙◌, subst, arith}
+use Rattle.std.specs.Prelude.{◌==◌, ◌&&◌, nat_lt, nat_le, if◌then◌else◌}
+use Rattle.std.proofs.lemmas.Bool.{eq-eqb, le-leb, lt-ltb, leb-true, ltb-false, leb-false, eqb-false, or_left, or_right, both_ways}
 use Rattle.hash_word.specs.Hash.{index_of}
 use Rattle.segment_head.specs.HeadWord.{version_in, state_in, is_live, HasLiveState, normal, splitting}
 use Rattle.trace.specs.Events.{Words}
@@ -108,17 +108,9 @@ walk_few (Entry root) = omega arith
 walk_few (Head root segment) = omega arith
 
 -- ---- a header that is live
-either_live : (a b : Bool) → (a ≡ true) ⊎ (b ≡ true) → (a || b) ≡ true
-either_live true b e = refl
-either_live false b (inl e) = absurd (let z = e in cc)
-either_live false b (inr e) = e
-
 live_test : (head : ℕ) → HasLiveState head → is_live head ≡ true
-live_test head (inl is) = either_live (state_in head == normal) (state_in head == splitting) (inl (eq-eqb (state_in head) normal is))
-live_test head (inr is) = either_live (state_in head == normal) (state_in head == splitting) (inr (eq-eqb (state_in head) splitting is))
-
-true_false : (b : Bool) → b ≡ true → b ≡ false → ⊥
-true_false b is not_so = false≢true (sym not_so ∙ is)
+live_test head (inl is) = or_left (state_in head == normal) (state_in head == splitting) (eq-eqb (state_in head) normal is)
+live_test head (inr is) = or_right (state_in head == normal) (state_in head == splitting) (eq-eqb (state_in head) splitting is)
 
 module _ (site : Ground) (here : Site) (hash : ℕ) (same : here.geometry ≡ site.shape) where
   depth_is : here.geometry.depth ≡ site.shape.depth
@@ -196,7 +188,7 @@ module _ (site : Ground) (here : Site) (hash : ℕ) (same : here.geometry ≡ si
           current = says segment n v.facts alive current;
         })
         (λ alive old. record { within = known.1; lives = said (is_live n && (version_in n == here.version)) segment n (Lives segment) v.facts known.0 })
-        (λ dead. true_false (is_live n) (live_test n (subst HasLiveState (sym header) live)) dead))
+        (λ dead. both_ways (is_live n) dead (live_test n (subst HasLiveState (sym header) live))))
 
   -- WHAT IS NOTED: nothing, and at the end the header
   module _ (v : View) where

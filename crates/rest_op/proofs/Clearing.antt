@@ -1,7 +1,7 @@
 -- Word 1 of a bucket without the records that went to the side: what its store frees.
-use Rattle.std.proofs.Common.{◌≡◌, ◌≢◌, ℕ, ◌+◌, ◌*◌, ◌^◌, ◌<◌, ◌≤◌, ◌⊎◌, Bool, true, false, inl, inr, refl, sym, ap, ◌∙◌, subst, arith}
-use Rattle.std.specs.Prelude.{◌==◌, not, if◌then◌else◌, slice_index}
-use Rattle.std.proofs.lemmas.Bool.{cases_eq, cases_lt, eqb-true, eq-eqb, ne_eqb, lt-ltb, le-ltb}
+use Rattle.std.proofs.Common.{◌≡◌, ◌≢◌, ℕ, ◌+◌, ◌*◌, ◌^◌, ◌<◌, ◌≤◌, ◌⊎◌, Bool, false, inl, inr, sym, ap, ◌∙◌, subst, arith}
+use Rattle.std.specs.Prelude.{◌==◌, if◌then◌else◌, slice_index}
+use Rattle.std.proofs.lemmas.Bool.{cases_eq, cases_lt, eqb-true, eq-eqb, ne_eqb, lt-ltb, le-ltb, not-false}
 use Rattle.trace.specs.Events.{Words}
 use Rattle.word_bits.specs.Bits.{bit}
 use Rattle.bucket_meta.specs.Bucket.{allocated, member, record_slots}
@@ -96,13 +96,9 @@ module _ (op : RestOp) where
   pub before_here : (b : ℕ) → cleared_before op b b ≡ kept_first op.whole b
   before_here b = ap (λ t. if t then slice_index op.cleared b else kept_first op.whole b) (le-ltb b b (omega arith))
 
-  not_true : (b : Bool) → not b ≡ false → b ≡ true
-  not_true true fails = refl
-  not_true false fails = absurd (cc)
-
   -- a bucket that is passed over is as it was
   same_here : (c : ℕ) → is_cleared op c ≡ false → slice_index op.cleared c ≡ kept_first op.whole c
-  same_here c fails = eqb-true (slice_index op.cleared c) (kept_first op.whole c) (not_true (slice_index op.cleared c == kept_first op.whole c) fails)
+  same_here c fails = eqb-true (slice_index op.cleared c) (kept_first op.whole c) (not-false (slice_index op.cleared c == kept_first op.whole c) fails)
 
   -- those from one on are passed over up to the next one
   module _ (from c : ℕ) where

@@ -1,7 +1,7 @@
 -- Notes are stored: which words have theirs, what each store asks, and what it leaves.
 use Rattle.std.proofs.Common.{◌≡◌, ◌≢◌, ℕ, ◌+◌, ◌*◌, ◌/◌, ◌%◌, ◌^◌, ◌<◌, ◌≤◌, Bool, true, false, inl, inr, refl, sym, ap, ◌∙◌, subst, arith}
-use Rattle.std.specs.Prelude.{◌==◌, ◌&&◌, not, if◌then◌else◌, slice_index, nat_lt}
-use Rattle.std.proofs.lemmas.Bool.{cases_eq, cases_lt, eqb-true, eq-eqb, ne_eqb, lt-ltb, le-ltb, ltb-true, ltb-false}
+use Rattle.std.specs.Prelude.{◌==◌, ◌&&◌, if◌then◌else◌, slice_index, nat_lt}
+use Rattle.std.proofs.lemmas.Bool.{cases_eq, cases_lt, eqb-true, eq-eqb, ne_eqb, lt-ltb, le-ltb, ltb-true, ltb-false, not-false, and_right}
 use Rattle.image_layout.specs.Places.{bucket_at, homes, buckets, block}
 use Rattle.bucket_words.specs.Core.{core_of}
 use Rattle.bucket_words.proofs.segments.Cores.{core_in}
@@ -70,15 +70,11 @@ module _ (op : RestOp) where
   abbrev third_by : ℕ → Bool → Bool → ℕ
   third_by c home done = if home && done then slice_index op.notes.third c else kept_third op.whole c
 
-  and_false : (a : Bool) → (a && false) ≡ false
-  and_false true = refl
-  and_false false = refl
-
   first_done : (n c : ℕ) → c < homes → 2 * c < n → first_before op n c ≡ slice_index op.notes.first c
   first_done n c low done = ap (λ t. first_by c t (nat_lt (2 * c) n)) (lt-ltb c homes low) ∙ ap (first_by c true) (lt-ltb (2 * c) n done)
 
   first_undone : (n c : ℕ) → n ≤ 2 * c → first_before op n c ≡ slice_index op.cleared c
-  first_undone n c high = ap (first_by c (nat_lt c homes)) (le-ltb (2 * c) n high) ∙ ap (λ t. if t then slice_index op.notes.first c else slice_index op.cleared c) (and_false (nat_lt c homes))
+  first_undone n c high = ap (first_by c (nat_lt c homes)) (le-ltb (2 * c) n high) ∙ ap (λ t. if t then slice_index op.notes.first c else slice_index op.cleared c) (and_right (nat_lt c homes) false refl)
 
   first_stash : (n c : ℕ) → homes ≤ c → first_before op n c ≡ slice_index op.cleared c
   first_stash n c high = ap (λ t. first_by c t (nat_lt (2 * c) n)) (le-ltb c homes high)
@@ -87,7 +83,7 @@ module _ (op : RestOp) where
   third_done n c low done = ap (λ t. third_by c t (nat_lt (2 * c + 1) n)) (lt-ltb c homes low) ∙ ap (third_by c true) (lt-ltb (2 * c + 1) n done)
 
   third_undone : (n c : ℕ) → n ≤ 2 * c + 1 → third_before op n c ≡ kept_third op.whole c
-  third_undone n c high = ap (third_by c (nat_lt c homes)) (le-ltb (2 * c + 1) n high) ∙ ap (λ t. if t then slice_index op.notes.third c else kept_third op.whole c) (and_false (nat_lt c homes))
+  third_undone n c high = ap (third_by c (nat_lt c homes)) (le-ltb (2 * c + 1) n high) ∙ ap (λ t. if t then slice_index op.notes.third c else kept_third op.whole c) (and_right (nat_lt c homes) false refl)
 
   third_stash : (n c : ℕ) → homes ≤ c → third_before op n c ≡ kept_third op.whole c
   third_stash n c high = ap (λ t. third_by c t (nat_lt (2 * c + 1) n)) (le-ltb c homes high)
@@ -109,12 +105,8 @@ module _ (op : RestOp) where
   first_behind c high = first_stash (2 * homes) c high
 
   -- ---- those that are passed over are as they are to be
-  not_true : (b : Bool) → not b ≡ false → b ≡ true
-  not_true true fails = refl
-  not_true false fails = absurd (cc)
-
   as_it_was : (n : ℕ) → is_noted op n ≡ false → note_value op n ≡ note_old op n
-  as_it_was n fails = eqb-true (note_value op n) (note_old op n) (not_true (note_value op n == note_old op n) fails)
+  as_it_was n fails = eqb-true (note_value op n) (note_old op n) (not-false (note_value op n == note_old op n) fails)
 
   module _ (from c : ℕ) where
     abbrev to : ℕ

@@ -1,8 +1,7 @@
 -- Text with a byte in it is parted at the byte's first place, and its front lacks that byte.
 use Rattle.std.proofs.Common.{◌≡◌, ◌≢◌, ℕ, ◌+◌, ◌-◌, ◌<◌, ◌≤◌, List, [], ◌∷◌, ◌++◌, length, get_or, take, drop, zero, suc, sym, ap, ◌∙◌, arith, add-one}
 use Rattle.std.proofs.Math.Seq.{drop-cons}
-use Rattle.std.proofs.lemmas.List.{take-append-drop}
-use Rattle.std.proofs.lemmas.Grind.{common_steps}
+use Rattle.std.proofs.lemmas.List.{take-append-drop, take_rest}
 use Rattle.std.specs.List.{AllByRecursion}
 use Rattle.script_text.specs.Finding.{IsFirstAt}
 
@@ -20,17 +19,13 @@ pub Lacks-all : (byte : ℕ) (bytes : List ℕ) → ((i : ℕ) → i < length by
 Lacks-all byte [] none = tt
 Lacks-all byte (b ∷ bytes) none = (none 0 (omega arith), Lacks-all byte bytes (λ i lt. none (suc i) (omega arith)))
 
--- all bytes from a place on, as a slice names them
-pub whole_rest : (bytes : List ℕ) (n : ℕ) → take (length bytes - n) (drop n bytes) ≡ drop n bytes
-whole_rest bytes n = grind (arith, common_steps)
-
 -- text is parted by a byte at its first place
 pub parted_at : (byte : ℕ) (bytes : List ℕ) (place : ℕ) → IsFirstAt byte bytes place
     → bytes ≡ take place bytes ++ byte ∷ take (length bytes - (place + 1)) (drop (place + 1) bytes)
 parted_at byte bytes place first =
     let lt : place < length bytes = first.within in
     let next : drop (suc place) bytes ≡ take (length bytes - (place + 1)) (drop (place + 1) bytes) =
-    ap (λ (n : ℕ). drop n bytes) (sym (add-one place)) ∙ sym (whole_rest bytes (place + 1)) in
+    ap (λ (n : ℕ). drop n bytes) (sym (add-one place)) ∙ sym (take_rest bytes (place + 1)) in
     sym (take-append-drop place bytes)
     ∙ ap (λ (t : List ℕ). take place bytes ++ t) (drop-cons bytes place 0 lt ∙ ap (λ (b : ℕ). b ∷ drop (suc place) bytes) first.here ∙ ap (λ (t : List ℕ). byte ∷ t) next)
 

@@ -1,7 +1,7 @@
 -- The first line ends at the first line feed, and as many lines are counted as there are.
 use Rattle.std.proofs.Common.{◌≡◌, ◌≢◌, ℕ, ◌+◌, ◌-◌, ◌<◌, ◌≤◌, List, [], ◌∷◌, ◌++◌, length, get_or, take, drop, zero, suc, Bool, true, false, cond, eqb, ◌&&◌, refl, sym, ap, ◌∙◌, subst, arith, add-zero}
-use Rattle.std.proofs.lemmas.Bool.{ne_eqb}
-use Rattle.std.proofs.lemmas.Grind.{common_steps}
+use Rattle.std.proofs.lemmas.Bool.{ne_eqb, and_parts}
+use Rattle.std.proofs.lemmas.List.{drop_all}
 use Rattle.script_text.specs.Finding.{IsFirstAt}
 use Rattle.script_text.specs.Splits.{begins_with, before_first, lines}
 use Rattle.script_text.specs.Counting.{without_return, lines_to_come}
@@ -77,10 +77,6 @@ at_least_one-twice : (n : ℕ) → at_least_one (at_least_one n) ≡ at_least_on
 at_least_one-twice zero = refl
 at_least_one-twice (suc n) = refl
 
-left_of_and : (a b : Bool) → (a && b) ≡ true → a ≡ true
-left_of_and true b h = refl
-left_of_and false b h = h
-
 -- what the lines are by the tests of the first byte
 lines_by : Bool → Bool → ℕ → List (List ℕ) → List (List ℕ)
 lines_by ends drops b behind = cond ends ([] ∷ behind) (cond drops behind (before_first b behind))
@@ -109,17 +105,14 @@ unfolding lines_by
 counted [] = (refl, refl)
 counted (b ∷ bytes) =
     count_by_tests (eqb b 10) (begins_with 10 bytes && eqb b 13) b (lines_to_come false bytes) (lines_to_come true bytes) (lines bytes) (counted bytes).0 (counted bytes).1
-    (λ e. begins_counted bytes (left_of_and _ _ e))
+    (λ e. begins_counted bytes (and_parts _ _ e).0)
 
 line_count : (bytes : List ℕ) → lines_to_come false bytes ≡ length (lines bytes)
 line_count bytes = (counted bytes).0
 
-nothing_left : (bytes : List ℕ) (n : ℕ) → length bytes ≤ n → drop n bytes ≡ []
-nothing_left bytes n le = grind (arith, common_steps)
-
 count_at_end : (bytes : List ℕ) (count n : ℕ) (begun : Bool) → length bytes ≤ n → count + lines_to_come begun (drop n bytes) ≡ lines_to_come false bytes
     → count + cond begun 1 0 ≡ length (lines bytes)
-count_at_end bytes count n begun le h = ap (λ (w : List ℕ). count + lines_to_come begun w) (sym (nothing_left bytes n le)) ∙ h ∙ line_count bytes
+count_at_end bytes count n begun le h = ap (λ (w : List ℕ). count + lines_to_come begun w) (sym (drop_all n bytes le)) ∙ h ∙ line_count bytes
 
 pub last_unended : (bytes : List ℕ) (count n : ℕ) (begun : Bool) → begun ≡ true → length bytes ≤ n → count + lines_to_come begun (drop n bytes) ≡ lines_to_come false bytes
     → count + 1 ≡ length (lines bytes)

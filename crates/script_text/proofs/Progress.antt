@@ -3,6 +3,7 @@ use Rattle.std.proofs.Common.{◌≡◌, ℕ, ◌+◌, ◌<◌, ◌≤◌, List,
 use Rattle.std.specs.Prelude.{◌==◌, true, map}
 use Rattle.std.specs.List.{AllByRecursion}
 use Rattle.std.proofs.lemmas.Grind.{common_steps}
+use Rattle.std.proofs.lemmas.List.{length_push, append-nil, length-map}
 use Rattle.script_text.specs.declared.line.Line.{Line}
 use Rattle.script_text.specs.declared.line.Mode.{Mode}
 use Rattle.script_text.specs.declared.phase.Phase.{Phase}
@@ -50,12 +51,6 @@ next_reading mode rest after line phase reading next e f g =
 regroup : (front back : List Reading) (next : Reading) → front ++ next ∷ back ≡ (front ++ next ∷ []) ++ back
 regroup front back next = grind (arith, common_steps)
 
-one_longer : (front : List Reading) (next : Reading) → length (front ++ next ∷ []) ≡ length front + 1
-one_longer front next = grind (arith, common_steps)
-
-nothing_more : (script : List Line) → script ++ [] ≡ script
-nothing_more script = grind (arith, common_steps)
-
 pub begin_reading : (mode : Mode) (bytes : List ℕ) → IsReadTo mode bytes bytes Calling [] 0
 begin_reading mode bytes = record { front = []; split = refl; good_so_far = tt; all = refl; place = refl }
 
@@ -69,13 +64,13 @@ read_more mode bytes rest after line phase script number reading next read e f g
       ∙ regroup read.front (readings_behind mode (phase_behind phase next) after) next;
   good_so_far = good_more read.front next read.good_so_far good;
   all = ap (λ (x : List Line). x ++ said (next ∷ [])) read.all ∙ sym (said-append read.front (next ∷ []));
-  place = ap (λ (n : ℕ). n + 1) read.place ∙ sym (one_longer read.front next);
+  place = ap (λ (n : ℕ). n + 1) read.place ∙ sym (length_push read.front next);
 }
 
 pub read_skipped : (mode : Mode) (bytes rest after line : List ℕ) (phase : Phase) (script : List Line) (number : ℕ) (reading : Reading) → IsReadTo mode bytes rest phase script number
     → lines rest ≡ line ∷ lines after → reading ≡ line_says mode line → Skipped ≡ in_place mode phase reading → IsReadTo mode bytes after phase script (number + 1)
 read_skipped mode bytes rest after line phase script number reading read e f g =
-    subst (λ (x : List Line). IsReadTo mode bytes after phase x (number + 1)) (nothing_more script) (read_more mode bytes rest after line phase script number reading Skipped read e f g tt)
+    subst (λ (x : List Line). IsReadTo mode bytes after phase x (number + 1)) (append-nil script) (read_more mode bytes rest after line phase script number reading Skipped read e f g tt)
 
 pub read_line : (mode : Mode) (bytes rest after line : List ℕ) (phase : Phase) (script : List Line) (number : ℕ) (reading : Reading) (one : Line) → IsReadTo mode bytes rest phase script number
     → lines rest ≡ line ∷ lines after → reading ≡ line_says mode line → Says one ≡ in_place mode phase reading
@@ -94,9 +89,6 @@ first_bad mode bytes rest after line phase script number reading bad short read 
   place = ap (λ (n : ℕ). n + 1) read.place;
 }
 
-no_more : (front : List Reading) → front ++ [] ≡ front
-no_more front = grind (arith, common_steps)
-
 pub none_left : (rest : List ℕ) → (length rest == 0) ≡ true → rest ≡ []
 none_left [] e = refl
 none_left (b ∷ rest) e = absurd (omega (arith, eqb-true (length (b ∷ rest)) 0 e))
@@ -104,7 +96,7 @@ none_left (b ∷ rest) e = absurd (omega (arith, eqb-true (length (b ∷ rest)) 
 pub read_all : (mode : Mode) (bytes rest : List ℕ) (phase : Phase) (script : List Line) (number : ℕ) → IsShort bytes → IsReadTo mode bytes rest phase script number → rest ≡ []
     → IsScript mode bytes script
 read_all mode bytes rest phase script number short read e =
-    let whole : readings mode bytes ≡ read.front = read.split ∙ ap (λ (x : List ℕ). read.front ++ readings_behind mode phase x) e ∙ no_more read.front in
+    let whole : readings mode bytes ≡ read.front = read.split ∙ ap (λ (x : List ℕ). read.front ++ readings_behind mode phase x) e ∙ append-nil read.front in
     record {
       short = short;
       good = subst (AllByRecursion IsGood) (sym whole) read.good_so_far;
@@ -116,12 +108,8 @@ length-in_order : (mode : Mode) (phase : Phase) (rs : List Reading) → length (
 length-in_order mode phase [] = refl
 length-in_order mode phase (r ∷ rs) = omega (arith, length-in_order mode (phase_behind phase (in_place mode phase r)) rs)
 
-length-map : (mode : Mode) (ls : List (List ℕ)) → length (map (line_says mode) ls) ≡ length ls
-length-map mode [] = refl
-length-map mode (line ∷ ls) = omega (arith, length-map mode ls)
-
 pub length-readings : (mode : Mode) (phase : Phase) (bytes : List ℕ) → length (readings_behind mode phase bytes) ≡ length (lines bytes)
-length-readings mode phase bytes = length-in_order mode phase (map (line_says mode) (lines bytes)) ∙ length-map mode (lines bytes)
+length-readings mode phase bytes = length-in_order mode phase (map (line_says mode) (lines bytes)) ∙ length-map (lines bytes) (line_says mode)
 
 pub still_few : (mode : Mode) (bytes rest after line : List ℕ) (phase : Phase) (script : List Line) (number : ℕ) → IsShort bytes → IsReadTo mode bytes rest phase script number
     → lines rest ≡ line ∷ lines after → number < 1000000

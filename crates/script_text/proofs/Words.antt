@@ -2,9 +2,10 @@
 use Rattle.std.proofs.Common.{◌≡◌, ◌≢◌, ℕ, ◌+◌, ◌-◌, ◌<◌, List, [], ◌∷◌, ◌++◌, length, get_or, take, drop, zero, suc, Bool, cond, eqb, refl, sym, ap, ◌∙◌, arith}
 use Rattle.std.proofs.lemmas.Grind.{common_steps}
 use Rattle.std.proofs.lemmas.Bool.{ne_eqb}
+use Rattle.std.proofs.lemmas.List.{take_rest}
 use Rattle.script_text.specs.Finding.{IsFirstAt, IsFirstOther}
 use Rattle.script_text.specs.Splits.{before_first, between_spaces, not_empty, words}
-use Rattle.script_text.proofs.Finding.{Lacks, Lacks-all, Lacks-front, whole_rest, parted_at}
+use Rattle.script_text.proofs.Finding.{Lacks, Lacks-all, Lacks-front, parted_at}
 
 -- SPACES
 space_first : (b : ℕ) (bytes : List ℕ) → b ≡ 32 → words (b ∷ bytes) ≡ words bytes
@@ -67,10 +68,10 @@ some_of_rest bytes start lt = grind (arith, common_steps)
 
 begins_word : (bytes : List ℕ) (start : ℕ) → IsFirstOther 32 bytes start → BeginsWord (take (length bytes - start) (drop start bytes))
 begins_word bytes start first =
-    rw (whole_rest bytes start) (some_of_rest bytes start first.within, λ e. first.here (sym (first_of_rest bytes start first.within) ∙ e))
+    rw (take_rest bytes start) (some_of_rest bytes start first.within, λ e. first.here (sym (first_of_rest bytes start first.within) ∙ e))
 
 from_rest : (bytes : List ℕ) (start : ℕ) → IsFirstOther 32 bytes start → words bytes ≡ words (take (length bytes - start) (drop start bytes))
-from_rest bytes start first = words-spaces bytes start first.before ∙ ap words (sym (whole_rest bytes start))
+from_rest bytes start first = words-spaces bytes start first.before ∙ ap words (sym (take_rest bytes start))
 
 pub words_of_rest : (bytes rest : List ℕ) (start end : ℕ) → rest ≡ take (length bytes - start) (drop start bytes) → IsFirstOther 32 bytes start → IsFirstAt 32 rest end
     → words bytes ≡ take end rest ∷ words (take (length rest - (end + 1)) (drop (end + 1) rest))

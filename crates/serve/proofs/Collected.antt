@@ -1,8 +1,9 @@
 -- The passes and the entries of jobs are collected one after another.
-use Rattle.std.proofs.Common.{◌≡◌, ℕ, zero, suc, ◌+◌, List, [], ◌∷◌, ◌++◌, length, Some, refl, sym, ap, ◌∙◌, subst, arith, map, append_assoc, append-nil, length-append}
+use Rattle.std.proofs.Common.{◌≡◌, ℕ, suc, ◌+◌, List, [], ◌∷◌, ◌++◌, length, Some, refl, sym, ap, ◌∙◌, subst, arith, map, append_assoc, append-nil, length-append}
 use Rattle.std.specs.Prelude.{All}
 use Rattle.std.specs.List.{AllZip}
 use Rattle.std.proofs.lemmas.List.{map-append, length-map}
+use Rattle.std.proofs.lemmas.List.Elements.{All-push}
 use Rattle.atomic_table.specs.declared.shared.Seat.{Seat}
 use Rattle.map_model.specs.declared.call.Call.{Call}
 use Rattle.map_model.specs.declared.entry.Entry.{Entry}
@@ -38,20 +39,11 @@ replies_more [] x none = ap (λ (vs : List View). x.me.0.view.own ∷ (map (λ (
 replies_more (y ∷ xs) x none = ap (λ (rs : List (List Entry)). y.me.0.view.own ∷ (map (λ (v : View). v.own) y.me.0.past ++ rs)) (replies_more xs x none)
     ∙ ap (λ (rs : List (List Entry)). y.me.0.view.own ∷ rs) (sym (append_assoc (map (λ (v : View). v.own) y.me.0.past) (replies_in xs) (x.me.0.view.own ∷ [])))
 
-all_more : {X : Type 0} (P : X → Type 0) (xs : List X) (x : X) → All P xs → P x → All P (xs ++ x ∷ [])
-all_more P [] x all p zero d low = p
-all_more P [] x all p (suc k) d low = absurd (omega (arith, low))
-all_more P (y ∷ xs) x all p zero d low = all zero d (omega arith)
-all_more P (y ∷ xs) x all p (suc k) d low = all_more P xs x (λ j e l. all (suc j) e (omega (arith, l))) p k d (omega (arith, low))
-
 zip_more : (xs : List (List Call)) (ys : List (List Entry)) (x : List Call) (y : List Entry) → AllZip AreMade xs ys → AreMade x y → AllZip AreMade (xs ++ x ∷ []) (ys ++ y ∷ [])
 zip_more [] [] x y all m = (m, tt)
 zip_more [] (b ∷ ys) x y all m = absurd all
 zip_more (a ∷ xs) [] x y all m = absurd all
 zip_more (a ∷ xs) (b ∷ ys) x y all m = (all.0, zip_more xs ys x y all.1 m)
-
-pub all_more_of : {X : Type 0} (P : X → Type 0) (xs : List X) (x : X) → All P xs → P x → All P (xs ++ x ∷ [])
-all_more_of P xs x all p = all_more P xs x all p
 
 pub goes_on : (image : SharedImage) (jobs others : List Job) (job : Job) (passes : List (Seat ℕ Watch)) (lists new : List Roomed) (pass : Seat ℕ Watch)
     → IsCollecting image jobs (job ∷ others) passes lists → IsDoneJob image job → job.pass ≡ Some pass
@@ -63,7 +55,7 @@ goes_on image jobs others job passes lists new pass c d is same listed =
     let n = d.nothing in
     let own = d.entries ∙ ap (λ (s : Seat ℕ Watch). s.me.0.view.own) token in
     record {
-      done = all_more (IsDone image) passes pass c.done (subst (λ (s : Seat ℕ Watch). IsDone image s) token (
+      done = All-push (IsDone image) passes pass c.done (subst (λ (s : Seat ℕ Watch). IsDone image s) token (
         d.pass_of,
         record { held = n.held; dirty = n.dirty; flushed = n.flushed; planned = n.planned; moving = n.moving; owed = n.owed; areas = n.areas },
       ));

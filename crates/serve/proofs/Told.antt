@@ -1,7 +1,8 @@
 -- The entries of callers that have all their replies, as what callers were told.
-use Rattle.std.proofs.Common.{◌≡◌, ℕ, suc, List, [], ◌∷◌, length, refl, sym, ap, ◌∙◌, arith}
+use Rattle.std.proofs.Common.{◌≡◌, ℕ, List, [], ◌∷◌, length, refl, sym, ap, ◌∙◌, arith}
 use Rattle.std.specs.Prelude.{map, take}
 use Rattle.std.specs.List.{AllZip}
+use Rattle.std.proofs.lemmas.List.{length-map, take_all}
 use Rattle.map_model.specs.declared.call.Call.{Call}
 use Rattle.map_model.specs.declared.entry.Entry.{Entry}
 use Rattle.session.specs.Callers.{history_of, FollowsScript, IsAnswered}
@@ -11,22 +12,14 @@ pub histories : (lists : List (List Entry)) → map history_of (map told_by list
 histories [] = refl
 histories (es ∷ lists) = ap (λ (ls : List (List Entry)). es ∷ ls) (histories lists)
 
-length_of_calls : (entries : List Entry) → length (map (λ (e : Entry). e.call) entries) ≡ length entries
-length_of_calls [] = refl
-length_of_calls (e ∷ entries) = ap suc (length_of_calls entries)
-
-taken_all : (calls : List Call) → take (length calls) calls ≡ calls
-taken_all [] = refl
-taken_all (c ∷ calls) = ap (λ (cs : List Call). c ∷ cs) (taken_all calls)
-
 same_length : (calls : List Call) (entries : List Entry) → AreMade calls entries → length entries ≡ length calls
-same_length calls entries made = sym (length_of_calls entries) ∙ ap length made
+same_length calls entries made = sym (length-map entries (λ (e : Entry). e.call)) ∙ ap length made
 
 follows : (calls : List Call) (entries : List Entry) → AreMade calls entries → FollowsScript calls (told_by entries)
 follows calls entries made =
     let long = same_length calls entries made in
     record {
-      its_calls = made ∙ sym (ap (λ (n : ℕ). take n calls) long ∙ taken_all calls);
+      its_calls = made ∙ sym (ap (λ (n : ℕ). take n calls) long ∙ take_all (length calls) calls (omega arith));
       within = omega (arith, long);
     }
 

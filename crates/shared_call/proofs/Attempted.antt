@@ -1,7 +1,7 @@
 -- An attempt of a call, event by event, and its end.
-use Rattle.std.proofs.Common.{◌≡◌, ◌≢◌, inl, inr, ◌⊎◌, ℕ, ◌<◌, ◌≤◌, true, false, Option, None, Some, List, [], ◌∷◌, ◌++◌, length, refl, sym, ap, ◌∙◌, subst, arith}
-use Rattle.std.specs.Prelude.{drop}
+use Rattle.std.proofs.Common.{◌≡◌, ◌≢◌, inl, inr, ◌⊎◌, ℕ, ◌<◌, ◌≤◌, true, false, Option, None, Some, List, [], ◌∷◌, length, refl, sym, ap, ◌∙◌, subst, arith}
 use Rattle.std.proofs.lemmas.Option.{none-some, same_Some}
+use Rattle.std.proofs.lemmas.List.{append_cancel_left}
 use Rattle.op_core.specs.declared.want.Want.{Want}
 use Rattle.op_core.specs.declared.want.Want.TheVariants.{Done}
 use Rattle.map_model.specs.declared.call.Call.{Call}
@@ -47,15 +47,11 @@ begun_works here (Update key value) = refl
 begun_works here (Remove key) = refl
 
 -- a reply that was entered is among those that came since
-same_rest : (xs ys zs : List Entry) → xs ++ ys ≡ xs ++ zs → ys ≡ zs
-same_rest [] ys zs e = e
-same_rest (x ∷ xs) ys zs e = same_rest xs ys zs (ap (drop 1) e)
-
 pub placed : (call : Call) (v w : View) (o : Option (Reply × ℕ)) → IsLater v w → EntersReply call o v w → IsPlaced o v.seen
 placed call v w None l e = tt
 placed call v w (Some r) l e =
     let entry : Entry = next_entry v call r.0 r.1 (is_done r.0) in
-    let same : entry ∷ [] ≡ l.rest = same_rest v.own (entry ∷ []) l.rest (sym e.own ∙ l.own) in
+    let same : entry ∷ [] ≡ l.rest = append_cancel_left v.own (entry ∷ []) l.rest (sym e.own ∙ l.own) in
     l.places entry (subst (λ (es : List Entry). Has entry es) same (inl refl))
 
 -- fewer events are left where the engine does not wait

@@ -2,7 +2,7 @@
 use Rattle.std.proofs.Common.{◌≡◌, ◌⊎◌, inl, inr, ℕ, zero, suc, ◌^◌, ◌<◌, ◌≤◌, List, [], ◌∷◌, ◌++◌, length, Option, refl, sym, ap, ◌∙◌, subst, arith, append_assoc, append-nil}
 use Rattle.std.specs.Prelude.{slice_index, take, map, Contains}
 use Rattle.std.specs.FinMap.{get}
-use Rattle.std.proofs.lemmas.List.{get_or-take}
+use Rattle.std.proofs.lemmas.List.{get_or-take, length-take-le}
 use Rattle.std.proofs.lemmas.List.Elements.{Contains-append_right}
 use mathlib.Core.Option.{some-injective, some-ne-none}
 use Rattle.atomic_table.specs.declared.shared.Seat.{Seat}
@@ -35,7 +35,6 @@ use Rattle.vlock.specs.Seats.{both}
 use Rattle.vlock.specs.Ends.{IsPowerCut}
 use Rattle.shared_image.specs.Closed.{with_all, replies_of}
 use Rattle.shared_image.specs.Cutting.{views_of, planned_in, MayBeLeft, LeavesGoodMedia}
-use Rattle.shared_image.proofs.Finished.{length_taken}
 
 -- ---- lists joined
 has_first : {X : Type 0} (xs ys : List X) (x : X) → Has x xs → Has x (xs ++ ys)
@@ -152,7 +151,7 @@ module _ (site : Ground) (before newest : List ℕ) (p : Watch) (passes : List (
 
   newest_left : MayBeLeft site passes newest newest
   newest_left = record {
-    whole = ap length given ∙ length_taken (words_of site.shape) before long;
+    whole = ap length given ∙ length-take-le (words_of site.shape) before long;
     each_fits = fits;
     possible = λ i within. inl refl;
   }

@@ -1,7 +1,7 @@
 -- What the close of a shared image leaves: a clean image, with the pairs of what was replied.
-use Rattle.std.proofs.Common.{◌≡◌, ℕ, zero, suc, ◌^◌, ◌<◌, ◌≤◌, List, [], ◌∷◌, length, refl, sym, ap, ◌∙◌, subst, arith}
+use Rattle.std.proofs.Common.{◌≡◌, ℕ, zero, suc, ◌^◌, ◌<◌, ◌≤◌, List, [], length, refl, sym, ap, ◌∙◌, subst, arith}
 use Rattle.std.specs.Prelude.{slice_index, take, map}
-use Rattle.std.proofs.lemmas.List.{get_or-take}
+use Rattle.std.proofs.lemmas.List.{get_or-take, length-take-le}
 use Rattle.trace.specs.Events.{Words, line_of, value, value_at, after}
 use Rattle.trace.specs.Progress.{settled_moment}
 use Rattle.trace.specs.Steps.{HadSinceSettled}
@@ -37,12 +37,6 @@ made shape ws (suc n) =
     let c = close_after shape ws [] n in
     ap (λ (f : Words). after (event_of shape (wanted c.op) (c.words (word_of shape (wanted c.op))) 0) f) (made shape ws n)
 
-pub length_taken : (n : ℕ) (xs : List ℕ) → n ≤ length xs → length (take n xs) ≡ n
-length_taken zero [] h = refl
-length_taken zero (x ∷ xs) h = refl
-length_taken (suc n) [] h = absurd (omega (arith, h))
-length_taken (suc n) (x ∷ xs) h = let r = length_taken n xs (omega (arith, h)) in omega (arith, r)
-
 module _ (site : Ground) (before last : List ℕ) (views : List View) (ended : IsEnd site (word before) views) (fits : (i : ℕ) → slice_index before i < 2 ^ 64)
     (says : SaysShape site.shape site.front) (unmarked : marker_in (site.front state_word) ≡ 0) (run : IsClosedFrom site.shape (word before) (word last))
     (long : words_of site.shape ≤ length last) where
@@ -70,7 +64,7 @@ module _ (site : Ground) (before last : List ℕ) (views : List View) (ended : I
   }
 
   pub whole : length medium ≡ words_of site.shape
-  whole = length_taken (words_of site.shape) last long
+  whole = length-take-le (words_of site.shape) last long
 
   -- the newest words are a medium that may be left
   possible : IsPossible (words_of site.shape) (word before) (close_after site.shape (word before) [] run.events).trace (slice_index medium)

@@ -1,6 +1,7 @@
 -- What the keeper knows that has taken in all passes.
 use Rattle.std.proofs.Common.{◌≡◌, ℕ, suc, ◌+◌, ◌<◌, List, [], ◌∷◌, ◌++◌, refl, sym, ap, ◌∙◌, arith, append_assoc}
 use Rattle.std.specs.Prelude.{map, All}
+use Rattle.std.proofs.lemmas.List.{append-nil}
 use Rattle.atomic_table.specs.declared.shared.Seat.{Seat}
 use Rattle.map_model.specs.declared.entry.Entry.{Entry}
 use Rattle.world.specs.Views.{View}
@@ -27,14 +28,10 @@ own_stays : (p : Watch) (passes : List (Seat ℕ Watch)) → (with_all p passes)
 own_stays p [] = refl
 own_stays p (pass ∷ passes) = own_stays (both p pass.me.0) passes
 
-nil_behind : (xs : List (List Entry)) → xs ++ [] ≡ xs
-nil_behind [] = refl
-nil_behind (x ∷ xs) = ap (λ (zs : List (List Entry)). x ∷ zs) (nil_behind xs)
-
 -- the replies of those that it took in are theirs, in their order
 past_with : (p : Watch) (passes : List (Seat ℕ Watch)) → own_of (with_all p passes).past ≡ own_of p.past ++ replies_in passes
 unfolding own_of
-past_with p [] = sym (nil_behind (own_of p.past))
+past_with p [] = sym (append-nil (own_of p.past))
 past_with p (pass ∷ passes) =
     past_with (both p pass.me.0) passes
     ∙ ap (λ (zs : List (List Entry)). zs ++ replies_in passes) (own_joined p.past (_ ∷ pass.me.0.past))

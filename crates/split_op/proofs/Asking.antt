@@ -2,7 +2,7 @@
 use Rattle.std.proofs.Common.{◌≡◌, ◌≢◌, ℕ, suc, ◌+◌, ◌-◌, ◌*◌, ◌/◌, ◌%◌, ◌^◌, ◌<◌, ◌≤◌, Bool, true, false, List, [], ◌∷◌, slice_index, inl, inr, refl, sym, ap, ◌∙◌, subst, arith}
 use Rattle.std.specs.Prelude.{nat_lt, ◌==◌, ◌||◌, not, if◌then◌else◌}
 use Rattle.word_bits.specs.Bits.{bit}
-use Rattle.std.proofs.lemmas.Bool.{eq-eqb, ne_eqb, both_ways}
+use Rattle.std.proofs.lemmas.Bool.{eq-eqb, ne_eqb, both_ways, cond_both}
 use Rattle.trace.specs.Events.{Words}
 use Rattle.bucket_meta.specs.Bucket.{without_lock}
 use Rattle.segment_head.specs.HeadWord.{version_in, state_in, depth_in, pattern_in, free, normal, splitting, fresh, HasLiveState, header_of}
@@ -31,7 +31,6 @@ use Rattle.split_op.specs.declared.batch.Batch.TheVariants.{Empty, Link, Mark, N
 use Rattle.split_op.specs.Copied.{split_head, side_head}
 use Rattle.split_op.specs.Batches.{empty_value, is_copied}
 use Rattle.split_op.specs.Fits.{KeepsOn, side_at, IsEmptying, IsCopying, IsSplitting}
-use Rattle.split_op.proofs.Cases.{choose}
 use Rattle.split_op.proofs.Places.{in_slot_at, slot_apart, number_apart, other_value}
 
 -- ---- headers
@@ -125,7 +124,7 @@ module _ (site : Ground) (ground : IsGround site) (here : Site) (call : Call) (c
       by f n p s b e = omega (arith, e)
 
   empty_even : (locks : List ℕ) (p : ℕ) → empty_value locks p % 2 ≡ 0
-  empty_even locks p = choose (λ (z : ℕ). z % 2 ≡ 0) (nat_lt p 32 || nat_lt 0 (p % 32)) 0 (without_lock (slice_index locks (p / 32 - 1))) (λ _. refl) (λ _. omega arith)
+  empty_even locks p = cond_both (nat_lt p 32 || nat_lt 0 (p % 32)) 0 (without_lock (slice_index locks (p / 32 - 1))) (λ (z : ℕ). z % 2 ≡ 0) (λ _. refl) (λ _. omega arith)
 
   module _ (locks : List ℕ) where
     -- what may be loose is no header of the side, and no word of the segment, while words of the slot are stored

@@ -1,18 +1,12 @@
--- What is so in either branch is so; and which store is the next event of rounds.
-use Rattle.std.proofs.Common.{◌≡◌, ℕ, Bool, true, false, Option, Some, inl, inr, refl}
+-- Which store is the next event of rounds.
+use Rattle.std.proofs.Common.{◌≡◌, ℕ, true, Option, Some, inl, inr}
 use Rattle.std.proofs.lemmas.Bool.{both_ways}
-use Rattle.std.specs.Prelude.{if◌then◌else◌}
 use Rattle.op_core.specs.declared.want.Want.{Want}
 use Rattle.op_core.specs.declared.want.Want.TheVariants.{Store}
 use Rattle.rounds.proofs.Events.{event_cases, some_store}
 use Rattle.rounds.specs.declared.rounds.Rounds.{Rounds}
 use Rattle.rounds.specs.Steps.{rounds_stores}
 use Rattle.rounds.specs.Events.{IsRoundEvent}
-
--- what is so of both is so of the one that is chosen
-pub choose : {A : Type 0} (P : A → Type 0) (b : Bool) (x y : A) → (b ≡ true → P x) → (b ≡ false → P y) → P (if b then x else y)
-choose P true x y f g = f refl
-choose P false x y f g = g refl
 
 -- where the next event is a store, it is the one that was to come
 came_by : (rounds : Rounds) (next : Option (ℕ × ℕ)) (w : Want) → rounds_stores rounds next ≡ true → IsRoundEvent rounds next w → (word : ℕ) × (value : ℕ) × (next ≡ Some (word, value))

@@ -3,7 +3,7 @@ use Rattle.std.proofs.Common.{◌≡◌, ◌≢◌, ℕ, suc, ◌+◌, ◌-◌, 
 use Rattle.std.specs.Prelude.{nat_lt, ◌==◌, ◌&&◌, not, min, if◌then◌else◌}
 use Rattle.whole_segment.specs.Rounds.{most_lines}
 use Rattle.image_layout.specs.Places.{Shape, segment_words, buckets, most_segments}
-use Rattle.std.proofs.lemmas.Bool.{ltb-true}
+use Rattle.std.proofs.lemmas.Bool.{ltb-true, cond_both}
 use Rattle.std.proofs.lemmas.Option.{none-some}
 use Rattle.op_core.specs.declared.want.Want.{Want}
 use Rattle.op_core.specs.declared.want.Want.TheVariants as want
@@ -34,18 +34,18 @@ use Rattle.split_op.specs.declared.op.SplitOp.{SplitOp}
 use Rattle.split_op.specs.Batches.{first_of, after_empty, copied_from, due, after}
 use Rattle.split_op.specs.Steps.{finished, put_by, put_to, batch_after, stored, copying, last_slot, searched, given_to, wanted_in, next_in}
 use Rattle.split_op.specs.SplitPart.{stores_left, left_behind, put_left, events_in, left_at, left_of, IsWithinImage, waiting_at}
-use Rattle.split_op.proofs.Cases.{choose, came}
+use Rattle.split_op.proofs.Cases.{came}
 use Rattle.split_op.proofs.sides.Seeking.{copied_behind}
 
 -- ---- a batch goes on
 -- the word that is emptied behind one is a later one
 first_behind : (locks : List ℕ) (b : ℕ) → 32 * b + 32 ≤ first_of locks b ⊎ (first_of locks b ≡ segment_words)
-first_behind locks b = choose (λ (n : ℕ). (32 * b + 32 ≤ n) ⊎ (n ≡ segment_words)) (nat_lt b buckets) _ segment_words
-    (λ _. choose (λ (n : ℕ). (32 * b + 32 ≤ n) ⊎ (n ≡ segment_words)) (slice_index locks b % 2 == 0) (32 * b + 33) (32 * b + 32) (λ _. inl (omega arith)) (λ _. inl (omega arith)))
+first_behind locks b = cond_both (nat_lt b buckets) _ segment_words (λ (n : ℕ). (32 * b + 32 ≤ n) ⊎ (n ≡ segment_words))
+    (λ _. cond_both (slice_index locks b % 2 == 0) (32 * b + 33) (32 * b + 32) (λ (n : ℕ). (32 * b + 32 ≤ n) ⊎ (n ≡ segment_words)) (λ _. inl (omega arith)) (λ _. inl (omega arith)))
     (λ _. inr refl)
 
 pub empty_behind : (locks : List ℕ) (i : ℕ) → i < segment_words → i < after_empty locks i
-empty_behind locks i low = choose (λ (n : ℕ). i < n) (not (nat_lt i 32) && nat_lt (i % 32) 3) (i + 1) (first_of locks (i / 32)) (λ _. omega arith)
+empty_behind locks i low = cond_both (not (nat_lt i 32) && nat_lt (i % 32) 3) (i + 1) (first_of locks (i / 32)) (λ (n : ℕ). i < n) (λ _. omega arith)
     (λ _. elim (first_behind locks (i / 32)) [ inl far ↦ omega (arith, far) | inr all ↦ omega (arith, all, low) ])
 
 -- a store of a batch leaves one less, and as much behind it
@@ -129,7 +129,7 @@ module _ (shape : Shape) where
     other_less wants is = let fewer = rounds_fall.others rounds next (stores_left batch) wants is in omega (arith, fewer)
 
     event_less : rounds_wanted rounds next ≢ None → all_left (batch_after op batch rounds) (rounds_taken rounds next) < all_left batch rounds
-    event_less wants = choose (λ (t : Batch). all_left t (rounds_taken rounds next) < all_left batch rounds) (rounds_stores rounds next) (after op.copied op.locks batch) batch store_less (other_less wants)
+    event_less wants = cond_both (rounds_stores rounds next) (after op.copied op.locks batch) batch (λ (t : Batch). all_left t (rounds_taken rounds next) < all_left batch rounds) store_less (other_less wants)
 
     pub stored_left : length rounds.round ≤ most_lines → rounds_wanted rounds next ≢ None → left_at shape (stored op batch rounds) < put_left batch rounds
     stored_left few wants =
@@ -163,13 +163,13 @@ module _ (op : SplitOp) where
 
   searched_left : (slot head : ℕ) → left_of (searched op slot head) < left_at shape (Search slot)
   searched_left slot head =
-      choose (λ (o : SplitOp). left_of o < left_at shape (Search slot)) (state_in head == free) _ _ (λ _. omega arith)
-      (λ _. choose (λ (o : SplitOp). left_of o < left_at shape (Search slot)) (nat_lt slot (last_slot shape)) _ _
+      cond_both (state_in head == free) _ _ (λ (o : SplitOp). left_of o < left_at shape (Search slot)) (λ _. omega arith)
+      (λ _. cond_both (nat_lt slot (last_slot shape)) _ _ (λ (o : SplitOp). left_of o < left_at shape (Search slot))
       (λ is. next_slot slot (last_slot shape) (ltb-true slot (last_slot shape) is))
       (λ _. omega arith))
 
   looked_by : (b : ℕ) → left_at shape (if nat_lt b (buckets - 1) then Look (b + 1) else Put (Empty 2) round.begun) < left_at shape (Look b)
-  looked_by b = choose (λ (s : SplitStep). left_at shape s < left_at shape (Look b)) (nat_lt b (buckets - 1)) _ _ (λ is. let low = ltb-true b (buckets - 1) is in omega (arith, low)) (λ _. omega arith)
+  looked_by b = cond_both (nat_lt b (buckets - 1)) _ _ (λ (s : SplitStep). left_at shape s < left_at shape (Look b)) (λ is. let low = ltb-true b (buckets - 1) is in omega (arith, low)) (λ _. omega arith)
 
   given_left : (next : Option Give) (end : SplitEnd) (n : ℕ) → left_give next < n → left_at shape (given_to next end) < n
   given_left (Some give) end n low = low

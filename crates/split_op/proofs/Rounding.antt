@@ -1,8 +1,8 @@
 -- The events of a batch: each is of its kind, which the view may take, and leaves a view that suits what comes next.
-use Rattle.std.proofs.Common.{◌≡◌, ℕ, suc, ◌+◌, ◌-◌, ◌*◌, ◌/◌, ◌%◌, ◌^◌, ◌<◌, ◌≤◌, Bool, true, false, Option, None, Some, List, [], ◌∷◌, slice_index, inl, inr, refl, sym, ap, ◌∙◌, subst, arith}
+use Rattle.std.proofs.Common.{◌≡◌, ℕ, suc, ◌+◌, ◌-◌, ◌*◌, ◌/◌, ◌%◌, ◌^◌, ◌<◌, ◌≤◌, Bool, true, false, Option, Some, List, [], ◌∷◌, slice_index, inl, inr, refl, sym, ap, ◌∙◌, subst, arith}
 use Rattle.std.specs.Prelude.{nat_lt, not, if◌then◌else◌}
 use Rattle.std.proofs.lemmas.Bool.{ltb-true, eq-eqb}
-use Rattle.std.proofs.lemmas.Option.{none-some, same_Some}
+use Rattle.std.proofs.lemmas.Option.{none-some, same_Some, cond_some}
 use Rattle.op_core.specs.declared.want.Want.{Want}
 use Rattle.op_core.specs.declared.want.Want.TheVariants as want
 use Rattle.op_core.specs.declared.want.Ans.TheVariants.{Passed}
@@ -40,10 +40,6 @@ use Rattle.split_op.proofs.Places.{slot_is}
 use Rattle.split_op.proofs.Stored.{HasStored, keeps_by, empty_more, copy_more, link_more, mark_more, new_more}
 use Rattle.split_op.proofs.Finished.{to_suits}
 use Rattle.split_op.proofs.Asking.{side_is, fresh_dead, may_empty, may_copy, may_link, may_mark, may_new}
-
-pub due_if : {A : Type 0} (b : Bool) (y z : A) → (if b then Some y else None) ≡ Some z → (b ≡ true) × (y ≡ z)
-due_if true y z e = (refl, same_Some _ _ e)
-due_if false y z e = absurd (none-some _ e)
 
 module _ (site : Ground) (ground : IsGround site) (here : Site) (call : Call) (op : SplitOp) (v : View) where
   abbrev c : Copied
@@ -146,7 +142,7 @@ module _ (site : Ground) (ground : IsGround site) (here : Site) (call : Call) (o
 
     pub due_in_image : (t : Batch) (word value : ℕ) → due c locks t ≡ Some (word, value) → 8 * line_of word + 8 ≤ words_of site.shape
     due_in_image (Empty k) word value e =
-        let o = due_if (nat_lt k segment_words) (slot_word c.whole.site.geometry c.side k, empty_value locks k) (word, value) e in
+        let o = cond_some (nat_lt k segment_words) (slot_word c.whole.site.geometry c.side k, empty_value locks k) (word, value) e in
         word_in_image c.side k word is.slot.slot (ltb-true k segment_words o.0) (ap (λ (z : ℕ × ℕ). z.0) o.1)
     due_in_image (Link false) word value e = word_in_image c.whole.segment 2 word is.keeps.is.located.within (omega arith) (first_is (slot_word c.whole.site.geometry c.whole.segment 2, suc c.side % 2 ^ 64) (word, value) e)
     due_in_image (Link true) word value e = absurd (none-some _ e)
@@ -155,7 +151,7 @@ module _ (site : Ground) (ground : IsGround site) (here : Site) (call : Call) (o
     due_in_image (New false) word value e = word_in_image c.side 1 word is.slot.slot (omega arith) (first_is (slot_word c.whole.site.geometry c.side 1, side_head c.whole) (word, value) e)
     due_in_image (New true) word value e = absurd (none-some _ e)
     due_in_image (Copy k) word value e =
-        let o = due_if (nat_lt k segment_words) (slot_word c.whole.site.geometry c.side k, slice_index c.words (k - 32)) (word, value) e in
+        let o = cond_some (nat_lt k segment_words) (slot_word c.whole.site.geometry c.side k, slice_index c.words (k - 32)) (word, value) e in
         word_in_image c.side k word is.slot.slot (ltb-true k segment_words o.0) (ap (λ (z : ℕ × ℕ). z.0) o.1)
 
     lines_after : (line : ℕ) → Has line (rounds_taken rounds next).round → 8 * line + 8 ≤ words_of site.shape
@@ -315,7 +311,7 @@ module _ (site : Ground) (ground : IsGround site) (here : Site) (call : Call) (o
     store_by : (batch : Batch) (is : Splits batch v) (i x : ℕ) → due c locks batch ≡ Some (i, x) → rounds_wanted rounds (due c locks batch) ≡ Some (want.Store i x) → rounds_stores rounds (due c locks batch) ≡ true
         → Fits batch rounds is stands lines (want.Store i x) (put_kind op batch (Some (want.Store i x)))
     store_by (Empty k) is i x is_due e stores =
-        let o = due_if (nat_lt k segment_words) (slot_word c.whole.site.geometry c.side k, empty_value locks k) (i, x) is_due in
+        let o = cond_some (nat_lt k segment_words) (slot_word c.whole.site.geometry c.side k, empty_value locks k) (i, x) is_due in
         let low = ltb-true k segment_words o.0 in
         let q = at_slot is.keeps c.side k (empty_value locks k) is.slot.slot (i, x) o.1 in
         set_fits (Empty k) rounds is stands lines i x (Empty (after_empty locks k)) e stores (ap (λ (b : Bool). if b then Empty (after_empty locks k) else Empty k) o.0)
@@ -343,7 +339,7 @@ module _ (site : Ground) (ground : IsGround site) (here : Site) (call : Call) (o
         (new_fits (New false) rounds is stands lines x (sym (ap (λ (z : ℕ × ℕ). z.1) q)) (e ∙ ap (λ (j : ℕ). Some (want.Store j x)) (sym at)) stores refl is)
     store_by (New true) is i x is_due e stores = absurd (none-some _ is_due)
     store_by (Copy k) is i x is_due e stores =
-        let o = due_if (nat_lt k segment_words) (slot_word c.whole.site.geometry c.side k, slice_index c.words (k - 32)) (i, x) is_due in
+        let o = cond_some (nat_lt k segment_words) (slot_word c.whole.site.geometry c.side k, slice_index c.words (k - 32)) (i, x) is_due in
         let low = ltb-true k segment_words o.0 in
         let q = at_slot is.keeps c.side k (slice_index c.words (k - 32)) is.slot.slot (i, x) o.1 in
         set_fits (Copy k) rounds is stands lines i x (Copy (copied_from c.words (k + 1))) e stores (ap (λ (b : Bool). if b then Copy (copied_from c.words (k + 1)) else Copy k) o.0)

@@ -5,7 +5,8 @@ use Rattle.enclose_op.proofs.Giving.{give_some, give_answer, give_puts, give_mak
 use Rattle.segment_head.proofs.Headers.{header_below}
 use Rattle.whole_segment.proofs.Zeros.{zeros_small}
 use Rattle.std.proofs.lemmas.List.{length-replicate}
-use Rattle.std.proofs.lemmas.Option.{none-some, same_Some}
+use Rattle.std.proofs.lemmas.Option.{none-some, same_Some, cond_some}
+use Rattle.std.proofs.lemmas.Bool.{cond_both}
 use Rattle.op_core.specs.declared.want.Want.{Want}
 use Rattle.op_core.specs.declared.want.Want.TheVariants as want
 use Rattle.op_core.specs.declared.want.Ans.{Ans}
@@ -60,10 +61,9 @@ use Rattle.split_op.specs.Batches.{slot_word, empty_value, due}
 use Rattle.split_op.specs.Steps.{go, last_slot, searched, finished, put_by, stored, given_to, wanted_in, next_in, wanted}
 use Rattle.split_op.specs.Fits.{head_kind, put_kind, look_word, look_kind, kind_at, outcome_of, outcome_at, is_copied_end, hands_on_at, IsPutting, SuitsStep}
 use Rattle.split_op.specs.SplitPart.{SplitStands, split_part, BeginsAsPart, BeginsUndecided, HandsOnCopied}
-use Rattle.split_op.proofs.Cases.{choose}
 use Rattle.split_op.proofs.Falling.{falls, most, waiting_most, flushes, keeps, ends_none}
 use Rattle.split_op.proofs.Places.{slot_is}
-use Rattle.split_op.proofs.Rounding.{Fits, event_fits, due_in_image, due_if}
+use Rattle.split_op.proofs.Rounding.{Fits, event_fits, due_in_image}
 use Rattle.split_op.proofs.Stepping.{take_suits, search_suits, searching_none, crowd, count_suits, return_suits, look_may, look_suits, release_suits, given_suits}
 
 -- ---- what is decided
@@ -72,11 +72,11 @@ abbrev IsOpen : SplitStep → Type 0
 IsOpen s = outcome_at s ≡ None
 
 pub open_search : (op : SplitOp) (slot n : ℕ) → IsOpen (searched op slot n).step
-open_search op slot n = choose (λ (o : SplitOp). IsOpen o.step) (state_in n == free) _ _ (λ _. refl)
-    (λ _. choose (λ (o : SplitOp). IsOpen o.step) (nat_lt slot (last_slot op.copied.whole.site.geometry)) _ _ (λ _. refl) (λ _. refl))
+open_search op slot n = cond_both (state_in n == free) _ _ (λ (o : SplitOp). IsOpen o.step) (λ _. refl)
+    (λ _. cond_both (nat_lt slot (last_slot op.copied.whole.site.geometry)) _ _ (λ (o : SplitOp). IsOpen o.step) (λ _. refl) (λ _. refl))
 
 pub open_look : (b : ℕ) → IsOpen (if nat_lt b (buckets - 1) then Look (b + 1) else Put (Empty 2) round.begun)
-open_look b = choose IsOpen (nat_lt b (buckets - 1)) (Look (b + 1)) (Put (Empty 2) round.begun) (λ _. refl) (λ _. refl)
+open_look b = cond_both (nat_lt b (buckets - 1)) (Look (b + 1)) (Put (Empty 2) round.begun) IsOpen (λ _. refl) (λ _. refl)
 
 open_finished : (batch : Batch) → IsOpen (finished batch)
 open_finished (Empty k) = refl
@@ -132,8 +132,8 @@ look_wants shape op (suc b) = refl
 
 -- ---- the next state is of the same segment
 same_search : (op : SplitOp) (slot n : ℕ) → (searched op slot n).copied.whole ≡ op.copied.whole
-same_search op slot n = choose (λ (o : SplitOp). o.copied.whole ≡ op.copied.whole) (state_in n == free) _ _ (λ _. refl)
-    (λ _. choose (λ (o : SplitOp). o.copied.whole ≡ op.copied.whole) (nat_lt slot (last_slot op.copied.whole.site.geometry)) _ _ (λ _. refl) (λ _. refl))
+same_search op slot n = cond_both (state_in n == free) _ _ (λ (o : SplitOp). o.copied.whole ≡ op.copied.whole) (λ _. refl)
+    (λ _. cond_both (nat_lt slot (last_slot op.copied.whole.site.geometry)) _ _ (λ (o : SplitOp). o.copied.whole ≡ op.copied.whole) (λ _. refl) (λ _. refl))
 
 -- ---- whatever the image
 module _ (site : Ground) (here : Site) (call : Call) (op : SplitOp) (is : IsOf site here call op.copied.whole) (v : View) where
@@ -173,9 +173,9 @@ module _ (site : Ground) (here : Site) (call : Call) (op : SplitOp) (is : IsOf s
 
   value_fits : (batch : Batch) (rounds : Rounds) → IsPutting site here call op.copied op.locks batch rounds v → (word value : ℕ) → due op.copied op.locks batch ≡ Some (word, value) → value < 2 ^ 64
   value_fits (Empty k) rounds s word value f =
-      let o = due_if (nat_lt k segment_words) (slot_word e.site.geometry op.copied.side k, empty_value op.locks k) (word, value) f in
+      let o = cond_some (nat_lt k segment_words) (slot_word e.site.geometry op.copied.side k, empty_value op.locks k) (word, value) f in
       subst (λ (z : ℕ). z < 2 ^ 64) (ap (λ (z : ℕ × ℕ). z.1) o.1)
-      (choose (λ (z : ℕ). z < 2 ^ 64) (nat_lt k 32 || nat_lt 0 (k % 32)) 0 (without_lock (slice_index op.locks (k / 32 - 1))) (λ _. omega arith) (λ _. free_fits (slice_index op.locks (k / 32 - 1)) (s.splits.slot.row.small (k / 32 - 1))))
+      (cond_both (nat_lt k 32 || nat_lt 0 (k % 32)) 0 (without_lock (slice_index op.locks (k / 32 - 1))) (λ (z : ℕ). z < 2 ^ 64) (λ _. omega arith) (λ _. free_fits (slice_index op.locks (k / 32 - 1)) (s.splits.slot.row.small (k / 32 - 1))))
   value_fits (Link false) rounds s word value f =
       subst (λ (z : ℕ). z < 2 ^ 64) (second_is (slot_word e.site.geometry e.segment 2, suc op.copied.side % 2 ^ 64) (word, value) f) (omega arith)
   value_fits (Link true) rounds s word value f = absurd (none-some _ f)
@@ -188,7 +188,7 @@ module _ (site : Ground) (here : Site) (call : Call) (op : SplitOp) (is : IsOf s
       (let version = is.version in header_below e.site.version fresh ((depth_in e.head + 1) % 2 ^ 8) ((2 * pattern_in e.head + 1) % 2 ^ 32) (omega (arith, version)) (omega arith) (omega arith) (omega arith))
   value_fits (New true) rounds s word value f = absurd (none-some _ f)
   value_fits (Copy k) rounds s word value f =
-      let o = due_if (nat_lt k segment_words) (slot_word e.site.geometry op.copied.side k, slice_index op.copied.words (k - 32)) (word, value) f in
+      let o = cond_some (nat_lt k segment_words) (slot_word e.site.geometry op.copied.side k, slice_index op.copied.words (k - 32)) (word, value) f in
       subst (λ (z : ℕ). z < 2 ^ 64) (ap (λ (z : ℕ × ℕ). z.1) o.1) (s.splits.keeps.words.small (k - 32))
 
   event_puts : (batch : Batch) (rounds : Rounds) → IsPutting site here call op.copied op.locks batch rounds v → PutsWord (event_wanted rounds (due op.copied op.locks batch))

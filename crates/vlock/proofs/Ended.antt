@@ -251,9 +251,3 @@ pub got : (xs : List ℕ) (i x : ℕ) → get_elem? xs i ≡ some x → get_or x
 got [] i x e = absurd (some-ne-none x (sym e))
 got (y ∷ ys) zero x e = some-injective y x e
 got (y ∷ ys) (suc i) x e = got ys i x e
-
-pub same_list : (xs ys : List ℕ) → length xs ≡ length ys → ((j : ℕ) → j < length xs → get_or xs j 0 ≡ get_or ys j 0) → xs ≡ ys
-same_list [] [] n h = refl
-same_list [] (y ∷ ys) n h = absurd (omega arith)
-same_list (x ∷ xs) [] n h = absurd (omega arith)
-same_list (x ∷ xs) (y ∷ ys) n h = λ i. h 0 (omega arith) i ∷ same_list xs ys (omega arith) (λ j l. h (suc j) (omega arith)) i

@@ -1,7 +1,7 @@
 -- What the three loads of the way to a segment add up to.
 use Rattle.std.proofs.Common.{◌≡◌, inl, inr, ℕ, ◌+◌, ◌^◌, ◌<◌, ◌≤◌, Bool, true, false, Some, None, List, ◌∷◌, ◌++◌, refl, sym, ap, ◌∙◌, subst, arith}
-use Rattle.std.specs.Prelude.{◌==◌, ◌&&◌, ◌||◌}
-use Rattle.std.proofs.lemmas.Bool.{eq-eqb}
+use Rattle.std.specs.Prelude.{◌==◌, ◌&&◌}
+use Rattle.std.proofs.lemmas.Bool.{eq-eqb, or_left, or_right}
 use Rattle.std.specs.Cmp.Derive.{both_true}
 use Rattle.hash_word.specs.Hash.{index_of}
 use Rattle.segment_head.specs.HeadWord.{version_in, state_in, normal, splitting, is_live, HasLiveState}
@@ -57,17 +57,9 @@ owner_by site v s header hash within fits leads met =
     })
 
 -- ---- a header that is live
-either_live : (a b : Bool) → (a ≡ true) → (a || b) ≡ true
-either_live true b e = refl
-either_live false b e = absurd (cc)
-
-or_live : (a b : Bool) → (b ≡ true) → (a || b) ≡ true
-or_live true b e = refl
-or_live false b e = e
-
 live_test : (head : ℕ) → HasLiveState head → is_live head ≡ true
-live_test head (inl is) = either_live (state_in head == normal) (state_in head == splitting) (eq-eqb (state_in head) normal is)
-live_test head (inr is) = or_live (state_in head == normal) (state_in head == splitting) (eq-eqb (state_in head) splitting is)
+live_test head (inl is) = or_left (state_in head == normal) (state_in head == splitting) (eq-eqb (state_in head) normal is)
+live_test head (inr is) = or_right (state_in head == normal) (state_in head == splitting) (eq-eqb (state_in head) splitting is)
 
 -- what a header tells is told beside what was known before
 behind_says : (t : Bool) (s head : ℕ) (facts : List Fact) (f : Fact) → Has f facts → Has f (says_current t s head ++ facts)

@@ -1,7 +1,6 @@
 -- What cutting and joining seats owes.
-use Rattle.std.proofs.Common.{◌≡◌, ◌≢◌, ◌⊎◌, inl, inr, Bool, true, false, ℕ, zero, suc, ◌<◌, ◌≤◌, List, [], ◌∷◌, ◌++◌, set, refl, sym, ap, ◌∙◌, subst, arith, append_assoc}
-use Rattle.std.specs.Prelude.{◌||◌}
-use Rattle.std.proofs.lemmas.Bool.{false≢true}
+use Rattle.std.proofs.Common.{◌≡◌, ◌≢◌, ◌⊎◌, inl, inr, true, false, ℕ, zero, suc, ◌<◌, ◌≤◌, List, [], ◌∷◌, ◌++◌, set, refl, sym, ap, ◌∙◌, subst, arith, append_assoc}
+use Rattle.std.proofs.lemmas.Bool.{false≢true, or_cases}
 use Rattle.std.proofs.lemmas.List.{set-set, set_comm}
 use mathlib.Core.Logic.{dite}
 use mathlib.Core.Option.{some, some-injective, some-ne-none}
@@ -166,10 +165,6 @@ module _ (site : Ground) (words : Words) where
       ungroup A (all_of t) (all_views (set (set ps i (record p { past = p.past ++ all_of q })) j spent_watch))
       (gives (A ++ all_of t) ps i j p q (λ e. ne (ap suc e)) a b (group A (all_of t) (all_views ps) h))
 
-either_on : (a b : Bool) → (a || b) ≡ true → (a ≡ true) ⊎ (b ≡ true)
-either_on true b e = inl refl
-either_on false b e = inr e
-
 pub owes_take : (site : Ground) (id : ℕ) (p : Watch) (other : ℕ) (q : Watch) → 0 < p.view.callers → Joins (Kept site) id p other q (both p q) spent_watch
 owes_take site id p other q counts s h at ne there =
     let at_q : get_elem? s.views other ≡ some q = elim (at_set s.views id other (both p q) q there) [ inl e ↦ absurd (ne e.0) | inr e ↦ e.1 ] in
@@ -220,7 +215,7 @@ owes_take site id p other q counts s h at ne there =
       off = λ n t a on. elim (at_set (set s.views id (both p q)) other n spent_watch t a) [
         | inl e ↦ absurd (false≢true (ap (λ (z : Watch). z.view.stored_power) e.1 ∙ on))
         | inr e ↦ elim (at_set s.views id n (both p q) t e.1) [
-          | inl d ↦ elim (either_on p.view.stored_power q.view.stored_power (subst (λ (z : Watch). z.view.stored_power ≡ true) (sym d.1) on)) [
+          | inl d ↦ elim (or_cases p.view.stored_power q.view.stored_power (subst (λ (z : Watch). z.view.stored_power ≡ true) (sym d.1) on)) [
             | inl mine ↦ h.off id p at mine
             | inr its ↦ h.off other q at_q its
           ]

@@ -1,6 +1,6 @@
 -- A history in log form makes the replies of all callers one legal history of a plain map, and its map is that map's.
 use Rattle.std.proofs.Common.{◌≡◌, ℕ, zero, suc, ◌+◌, ◌<◌, ◌≤◌, Bool, true, cond, eqb, List, [], ◌∷◌, ◌++◌, length, map, Option, None, Some, inl, inr, refl, sym, ap, ◌∙◌, subst, arith, length-append}
-use Rattle.std.proofs.lemmas.Bool.{eqb-true, eq-eqb, le-leb, lt-leb}
+use Rattle.std.proofs.lemmas.Bool.{eqb-true, eq-eqb, le-leb, lt-leb, and_parts}
 use Rattle.std.proofs.lemmas.List.Elements.{filter-append}
 use Rattle.std.specs.Prelude.{filter}
 use Rattle.std.specs.List.{AllByRecursion}
@@ -18,7 +18,6 @@ use Rattle.map_model.specs.Legal.{IsReplyOf, replay, InOrder, IsPlace, IsLegal, 
 use Rattle.map_model.specs.ByPlaces.{draws_below, map_at, IsRightAtPlace}
 use Rattle.map_model.proofs.Elements.{Has as IsIn, All-from_each, Has-append_cases, Has-filter_parts}
 use Rattle.map_model.proofs.Rows.{replay-append}
-use Rattle.map_model.proofs.Places.{and-parts}
 use Rattle.map_model.proofs.Histories.{from_places, replay-weave}
 use Rattle.world.specs.Ground.{Ground}
 use Rattle.world.specs.Views.{View, Has, At}
@@ -143,7 +142,7 @@ module _ (site : Ground) (words : Words) (views : List View) (log : Log) (o : Hi
       let one = only_one (filter (drew_at n) all) (count_all (drew_at n) views ∙ o.each_once n below) in
       let e = one.0 in
       let parts = Has-filter_parts (drew_at n) all e (subst (λ (es : List Entry). IsIn es e) (sym one.1) (inl refl)) in
-      let tests = and-parts e.drew (eqb e.place n) parts.0 in
+      let tests = and_parts e.drew (eqb e.place n) parts.0 in
       let place : e.place ≡ n = eqb-true e.place n tests.1 in
       let change : is_done e.reply ≡ true = sym (drew_for_change e parts.1) ∙ tests.0 in
       let r = right e parts.1 in

@@ -1,6 +1,5 @@
 -- What holds at a choice.
 use Rattle.std.proofs.Common.{◌≡◌, Bool, true, false, cond, refl, sym, subst}
-use Rattle.std.specs.Prelude.{◌||◌}
 
 pub either : {S : Type 0} (P : S → Type 0) (b : Bool) (s t : S) → P s → P t → P (cond b s t)
 either P true s t p q = p
@@ -13,7 +12,3 @@ not_so P b s t is p = subst (λ c. P (cond c s t)) (sym is) p
 pub same_choice : {S : Type 0} (b : Bool) (s t u : S) → (b ≡ false → t ≡ u) → cond b s t ≡ cond b s u
 same_choice true s t u same = refl
 same_choice false s t u same = same refl
-
-pub neither : (a b : Bool) → (a || b) ≡ false → (a ≡ false) × (b ≡ false)
-neither true b none = absurd (let z : true ≡ false = none in cc)
-neither false b none = (refl, none)

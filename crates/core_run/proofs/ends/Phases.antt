@@ -3,6 +3,7 @@
 use Rattle.std.proofs.Common.{◌≡◌, ◌≢◌, ℕ, zero, suc, ◌+◌, ◌-◌, ◌*◌, ◌<◌, ◌≤◌, ◌⊎◌, inl, inr, true, false, Option, Some, None, List, [], ◌∷◌, ◌++◌, length, slice_get, refl, sym, ◌∙◌, ap, subst, arith}
 use Rattle.std.specs.Prelude.{◌&&◌}
 use Rattle.std.proofs.lemmas.Option.{none-some, same_Some, slice_get_within}
+use Rattle.std.proofs.lemmas.Bool.{or_parts}
 use Rattle.image_layout.specs.Places.{Shape}
 use Rattle.op_core.specs.declared.want.Want.{Want}
 use Rattle.op_core.specs.declared.want.Want.TheVariants as want
@@ -38,7 +39,6 @@ use Rattle.core_run.specs.declared.goal.Goal.TheVariants.{AnyEvent, Kind, StoreT
 use Rattle.core_run.specs.State.{State, Deed, end_by, engine_deed, call_deed, caller_deed, open_deed}
 use Rattle.core_run.specs.Run.{ends_in_again, pauses, stops}
 use Rattle.core_run.specs.Running.{Setup, IsSetup}
-use Rattle.core_run.proofs.ends.Choices.{neither}
 use Rattle.core_run.proofs.ends.Working.{EngineLaws, less_of_attempt, less_before, next_attempt, call_anew, call_after, next_call_low, later_within, due_within, less_within, same_within}
 use Rattle.core_run.proofs.ends.Staying.{set_here, turn_is, deed_is}
 use Rattle.core_run.proofs.ends.Stopping.{StopsIn, none_stops}
@@ -154,14 +154,14 @@ module _ (laws : EngineLaws) (t : Setup) (is : IsSetup t) (turns : List ℕ) (j 
     had = record c { drew = drawn_by c call (answer_now t.shape w.core.words e) }
 
     goes : waits_now t.shape w.core.words e ≡ false
-    goes = goes_past t.shape goal j w.core c call e (neither _ _ on).1
+    goes = goes_past t.shape goal j w.core c call e (or_parts _ _ on).1
 
     fewer_alone : left_alone next < left_alone e
     fewer_alone = laws.goes t.shape t.first is.served t.scripts scripts_are turns j e at goes
 
     -- it does not end in Again
     calm : wanted next ≡ want.Done → is_again (end_of next) ≡ false
-    calm done = ap (λ x. ends_in_again (end_by t.shape next x)) (sym done) ∙ (neither _ _ on).0
+    calm done = ap (λ x. ends_in_again (end_by t.shape next x)) (sym done) ∙ (or_parts _ _ on).0
 
     -- where it ends the attempt has done nothing behind it
     rested : wanted next ≡ want.Done → (x : Caller) (g : Engine) → slice_get after.core.callers j ≡ Some x → x.engine ≡ Some g → after.doings j ≡ nothing_done

@@ -1,7 +1,7 @@
 -- The callers do the first of their calls, in their order.
-use Rattle.std.proofs.Common.{◌≡◌, ℕ, zero, suc, ◌<◌, ◌≤◌, Bool, true, false, List, [], ◌∷◌, ◌++◌, length, map, take, slice_get, slice_set, Option, None, Some, refl, sym, ap, ◌∙◌, arith}
+use Rattle.std.proofs.Common.{◌≡◌, ℕ, zero, suc, ◌≤◌, Bool, true, false, List, [], ◌∷◌, ◌++◌, length, map, take, slice_get, slice_set, Option, None, Some, refl, sym, ap, ◌∙◌, arith}
 use Rattle.std.specs.List.{AllZip}
-use Rattle.std.proofs.lemmas.Option.{none-some, same_Some}
+use Rattle.std.proofs.lemmas.Option.{none-some, same_Some, slice_get_within}
 use Rattle.op_core.specs.declared.want.Want.{Want}
 use Rattle.op_core.specs.declared.want.Want.TheVariants as want
 use Rattle.map_model.specs.declared.call.Call.{Call}
@@ -27,11 +27,6 @@ take_more [] n call is = absurd (none-some call is)
 take_more (x ∷ calls) zero call is = ap (λ (c : Call). c ∷ []) (same_Some x call is)
 take_more (x ∷ calls) (suc n) call is = ap (λ (cs : List Call). x ∷ cs) (take_more calls n call is)
 
-call_within : (calls : List Call) (n : ℕ) (call : Call) → slice_get calls n ≡ Some call → n < length calls
-call_within [] n call is = absurd (none-some call is)
-call_within (x ∷ calls) zero call is = omega arith
-call_within (x ∷ calls) (suc n) call is = let r = call_within calls n call is in omega (arith, r)
-
 pub replied_more : (es : List Entry) (calls : List Call) (e : Entry) (call : Call) → map (λ (e : Entry). e.call) es ≡ take (length es) calls → e.call ≡ call
     → slice_get calls (length es) ≡ Some call → map (λ (e : Entry). e.call) (es ++ e ∷ []) ≡ take (length (es ++ e ∷ [])) calls
 replied_more es calls e call replied of_call is =
@@ -39,7 +34,7 @@ replied_more es calls e call replied of_call is =
     ∙ (sym (take_more calls (length es) call is) ∙ ap (λ n. take n calls) (sym (one_more es e)))))
 
 pub within_more : (es : List Entry) (calls : List Call) (e : Entry) (call : Call) → slice_get calls (length es) ≡ Some call → length (es ++ e ∷ []) ≤ length calls
-within_more es calls e call is = let a = one_more es e in let b = call_within calls (length es) call is in omega (arith, a, b)
+within_more es calls e call is = let a = one_more es e in let b = slice_get_within calls (length es) call is in omega (arith, a, b)
 
 -- ---- the calls stay
 ended_calls : (c : Caller) (call : Call) (end : End) (o : Option (Reply × ℕ)) → (ended c call end o).calls ≡ c.calls
@@ -61,15 +56,15 @@ follows_open : (entries : List Entry) (calls : List Call) (begun : Bool) (drew :
     → slice_get calls (length entries) ≡ Some call → ((e : Entry) → drew ≡ Some e → e.call ≡ call) → FollowsScript calls (record { entries = entries; left_open = open_of begun drew })
 follows_open entries calls false drew call replied is drew_call = record {
   its_calls = replied;
-  within = (let w = call_within calls (length entries) call is in omega (arith, w));
+  within = (let w = slice_get_within calls (length entries) call is in omega (arith, w));
 }
 follows_open entries calls true None call replied is drew_call = record {
   its_calls = replied;
-  within = (let w = call_within calls (length entries) call is in omega (arith, w));
+  within = (let w = slice_get_within calls (length entries) call is in omega (arith, w));
 }
 follows_open entries calls true (Some e) call replied is drew_call = record {
   its_calls = replied_more entries calls e call replied (drew_call e refl) is;
-  within = (let w = call_within calls (length entries) call is in omega (arith, w));
+  within = (let w = slice_get_within calls (length entries) call is in omega (arith, w));
 }
 
 follows_idle : (entries : List Entry) (calls : List Call) (begun : Bool) (drew : Option Entry) → map (λ (e : Entry). e.call) entries ≡ take (length entries) calls

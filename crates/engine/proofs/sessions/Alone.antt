@@ -1,7 +1,7 @@
 -- The weave of one caller's replies is their own order.
 use Rattle.std.proofs.Common.{◌≡◌, ◌≢◌, ℕ, zero, suc, ◌<◌, ◌≤◌, ◌&&◌, not, eqb, ltb, Bool, true, false, cond, List, [], ◌∷◌, ◌++◌, length, map, filter, inl, inr, refl, sym, ap, ◌∙◌, subst, arith, append-nil}
 use Rattle.std.specs.List.{AllByRecursion}
-use Rattle.std.proofs.lemmas.Bool.{cases_eq, cases_lt, eq-eqb, ne_eqb, lt-ltb, le-ltb}
+use Rattle.std.proofs.lemmas.Bool.{cases_eq, cases_lt, eq-eqb, ne_eqb, lt-ltb, le-ltb, and_right}
 use Rattle.map_model.specs.declared.call.Call.{Call}
 use Rattle.map_model.specs.declared.entry.Entry.{Entry}
 use Rattle.map_model.specs.Map.{Map}
@@ -26,10 +26,6 @@ here n e = eqb e.place n
 abbrev below : ℕ → Entry → Bool
 below n e = ltb e.place n
 
-and_false : (b : Bool) → (b && false) ≡ false
-and_false true = refl
-and_false false = refl
-
 -- ---- replies in order never go back
 not_back : (b : Bool) (place m : ℕ) → m ≤ place → m ≤ cond b (suc place) place
 not_back true place m le = omega (arith, le)
@@ -43,10 +39,10 @@ none_later p m serial seen (x ∷ es) le order none =
 
 module _ (n : ℕ) where
   loaded_elsewhere : (e : Entry) → e.place ≢ n → loaded_at n e ≡ false
-  loaded_elsewhere e other = ap (λ b. not e.drew && b) (ne_eqb e.place n other) ∙ and_false (not e.drew)
+  loaded_elsewhere e other = and_right (not e.drew) (eqb e.place n) (ne_eqb e.place n other)
 
   drew_elsewhere : (e : Entry) → e.place ≢ n → drew_at n e ≡ false
-  drew_elsewhere e other = ap (λ b. e.drew && b) (ne_eqb e.place n other) ∙ and_false e.drew
+  drew_elsewhere e other = and_right e.drew (eqb e.place n) (ne_eqb e.place n other)
 
   past : (e : Entry) → suc n ≤ e.place → e.place ≢ n
   past e le same = omega (arith, le, same)

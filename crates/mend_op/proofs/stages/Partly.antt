@@ -1,7 +1,7 @@
 -- A stage in the middle: it begins, words that are as they are to be are passed over, one is stored, and at the end all are made.
-use Rattle.std.proofs.Common.{◌≡◌, ◌≢◌, ℕ, ◌+◌, ◌^◌, ◌<◌, ◌≤◌, ◌⊎◌, Bool, true, false, List, length, slice_index, slice_set, inl, inr, refl, sym, ap, ◌∙◌, arith}
-use Rattle.std.specs.Prelude.{◌==◌, not}
-use Rattle.std.proofs.lemmas.Bool.{cases_eq, cases_lt, eqb-true}
+use Rattle.std.proofs.Common.{◌≡◌, ◌≢◌, ℕ, ◌+◌, ◌^◌, ◌<◌, ◌≤◌, ◌⊎◌, false, List, length, slice_index, slice_set, inl, inr, refl, sym, ap, ◌∙◌, arith}
+use Rattle.std.specs.Prelude.{◌==◌}
+use Rattle.std.proofs.lemmas.Bool.{cases_eq, cases_lt, eqb-true, not-false}
 use Rattle.std.proofs.lemmas.List.{get_or-set_same, get_or-set_other}
 use Rattle.std.proofs.lemmas.Grind.{same_number_lists}
 use Rattle.image_layout.specs.Places.{words_of_buckets}
@@ -47,12 +47,8 @@ module _ (op : MendOp) (stage : Stage) (base : List ℕ) (n : ℕ) (partly : IsP
   ]
 
   -- ---- those that are as they are to be are passed over
-  not_true : (b : Bool) → not b ≡ false → b ≡ true
-  not_true true fails = refl
-  not_true false fails = absurd (cc)
-
   same_here : (m : ℕ) → is_changed op stage m ≡ false → slice_index op.words (place stage m) ≡ slice_index op.next (place stage m)
-  same_here m fails = eqb-true (slice_index op.words (place stage m)) (slice_index op.next (place stage m)) (not_true (slice_index op.words (place stage m) == slice_index op.next (place stage m)) fails)
+  same_here m fails = eqb-true (slice_index op.words (place stage m)) (slice_index op.next (place stage m)) (not-false (slice_index op.words (place stage m) == slice_index op.next (place stage m)) fails)
 
   pub passed_over : IsPartly op.guarded op.words op.next stage base (changed_from op stage n)
   passed_over =

@@ -1,7 +1,8 @@
 -- A run state does the event that the definitions give a caller.
-use Rattle.std.proofs.Common.{◌≡◌, ℕ, suc, ◌+◌, ◌*◌, ◌<◌, ◌≤◌, Option, None, Some, List, [], ◌∷◌, length, map, refl, ap, sym, ◌∙◌, subst, arith}
+use Rattle.std.proofs.Common.{◌≡◌, ℕ, suc, ◌+◌, ◌*◌, ◌<◌, ◌≤◌, Option, None, Some, List, [], ◌∷◌, length, refl, ap, sym, ◌∙◌, subst, arith}
 use Rattle.std.specs.Prelude.{slice_get}
 use Rattle.std.proofs.lemmas.Option.{slice_get_within}
+use Rattle.std.proofs.lemmas.List.{length-map}
 use Rattle.op_core.specs.declared.want.Want.{Want}
 use Rattle.image_layout.specs.Places.{Shape, words_of}
 use Rattle.image_layout.specs.Volatile.{all_words_of}
@@ -73,15 +74,11 @@ waiting_many : (shape : Shape) (n : ℕ) (scripts : List (List Call)) → length
 waiting_many shape n [] = refl
 waiting_many shape n (calls ∷ scripts) = ap suc (waiting_many shape (suc n) scripts)
 
-map_many : {A B : Type 0} (f : A → B) (xs : List A) → length (map f xs) ≡ length xs
-map_many f [] = refl
-map_many f (x ∷ xs) = ap suc (map_many f xs)
-
 callers_by : (t : Setup) (k : Keeper) (core : Core) → IsRunningBy t k core → length core.callers ≡ length t.scripts
 callers_by t (Restarting op) core r = ap length r.callers_are ∙ waiting_many t.shape 1 t.scripts
-callers_by t Open core r = sym (map_many (λ c. c.calls) core.callers) ∙ ap length r.scripts
-callers_by t (Closing op) core r = ap length r.0.callers_are ∙ sym (map_many (λ c. c.calls) r.0.before.callers) ∙ ap length r.0.was_open.scripts
-callers_by t Closed core r = ap length r.1.callers_are ∙ sym (map_many (λ c. c.calls) r.1.before.callers) ∙ ap length r.1.was_open.scripts
+callers_by t Open core r = sym (length-map core.callers (λ c. c.calls)) ∙ ap length r.scripts
+callers_by t (Closing op) core r = ap length r.0.callers_are ∙ sym (length-map r.0.before.callers (λ c. c.calls)) ∙ ap length r.0.was_open.scripts
+callers_by t Closed core r = ap length r.1.callers_are ∙ sym (length-map r.1.before.callers (λ c. c.calls)) ∙ ap length r.1.was_open.scripts
 
 pub callers_as_scripts : (t : Setup) (s : State) (run_state : RunState) → Stands t s run_state → length run_state.callers.items ≡ length t.scripts
 callers_as_scripts t s run_state st =

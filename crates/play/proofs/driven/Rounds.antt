@@ -1,6 +1,7 @@
 -- Rounds of a run state, the end of its calls, and the lines of a script.
 use Rattle.std.proofs.Common.{◌≡◌, ℕ, zero, suc, ◌+◌, ◌-◌, ◌<◌, ◌≤◌, Option, None, Some, Bool, true, false, List, [], ◌∷◌, length, drop, refl, ap, sym, ◌∙◌, subst, arith}
 use Rattle.std.specs.Prelude.{if◌then◌else◌, slice_get, slice_index_or, is_some}
+use Rattle.std.proofs.lemmas.List.{drop_all}
 use Rattle.map_model.specs.declared.call.Call.{Call}
 use Rattle.map_model.specs.Roomed.{Roomed}
 use Rattle.image_layout.specs.Places.{Shape}
@@ -29,12 +30,6 @@ round_step shape most [] i c s within = absurd (omega arith)
 round_step shape most (x ∷ callers) zero c s within = refl
 round_step shape most (x ∷ callers) (suc i) c s within = round_step shape most callers i c s (omega arith)
 
-drop_past : (callers : List Caller) (i : ℕ) → length callers ≤ i → drop i callers ≡ []
-drop_past [] zero over = refl
-drop_past [] (suc i) over = refl
-drop_past (x ∷ callers) zero over = absurd (omega arith)
-drop_past (x ∷ callers) (suc i) over = drop_past callers i (omega arith)
-
 pub record IsInRound (t : Setup) (s : State) (most done : ℕ) (run_state : RunState) : Type 0 where
   pub now : State
   pub stands : Stands t now run_state
@@ -62,7 +57,7 @@ pub round_ends : (t : Setup) (s : State) (most done : ℕ) (run_state : RunState
     → Stands t (round t.shape most 1 s.core.callers s) run_state
 round_ends t s most done run_state over within =
     subst (λ (u : State). Stands t u run_state)
-    (sym (within.rest ∙ ap (λ cs. round t.shape most (suc done) cs within.now) (drop_past s.core.callers done over))) within.stands
+    (sym (within.rest ∙ ap (λ cs. round t.shape most (suc done) cs within.now) (drop_all done s.core.callers over))) within.stands
 
 -- ---- rounds
 same_test : (shape : Shape) (most : ℕ) (o : Option Call) → is_some o ≡ has_call shape most o
@@ -221,13 +216,7 @@ lines_go t s most lines done d old new some within st =
           ∙ ap (λ (n : ℕ). lines_done t.shape most (drop n lines) (line_done t.shape most l within.now)) next;
     }
 
-lines_past : (lines : List Line) (i : ℕ) → length lines ≤ i → drop i lines ≡ []
-lines_past [] zero over = refl
-lines_past [] (suc i) over = refl
-lines_past (x ∷ lines) zero over = absurd (omega arith)
-lines_past (x ∷ lines) (suc i) over = lines_past lines i (omega arith)
-
 pub lines_end : (t : Setup) (s : State) (most : ℕ) (lines : List Line) (done : ℕ) (run_state : RunState) → length lines ≤ done
     → IsInLines t s most lines done run_state → Stands t (lines_done t.shape most lines s) run_state
 lines_end t s most lines done run_state over within =
-    subst (λ (u : State). Stands t u run_state) (sym (within.rest ∙ ap (λ ls. lines_done t.shape most ls within.now) (lines_past lines done over))) within.stands
+    subst (λ (u : State). Stands t u run_state) (sym (within.rest ∙ ap (λ ls. lines_done t.shape most ls within.now) (drop_all done lines over))) within.stands

@@ -3,6 +3,7 @@ use Rattle.std.proofs.Common.{◌≡◌, ℕ, zero, suc, ◌+◌, ◌≤◌, ◌
 use Rattle.std.specs.Prelude.{slice_index}
 use Rattle.std.specs.List.{range_with_len}
 use Rattle.std.proofs.lemmas.Bool.{cases_Bool}
+use Rattle.std.proofs.lemmas.List.FromFn.{length-map-range_with_len}
 use Rattle.image_layout.specs.Places.{words_of}
 use Rattle.trace.specs.Events.{Words, Trace, value}
 use Rattle.trace.specs.Settling.{IsSettledValue}
@@ -92,9 +93,5 @@ by_one word [] (y ∷ ys) same = absurd (omega arith)
 by_one word (x ∷ xs) [] same = absurd (omega arith)
 by_one word (x ∷ xs) (y ∷ ys) same = ap (λ zs. y ∷ zs) (by_one (word + 1) xs ys (omega arith))
 
-many_in_range : (f : Words) (a n : ℕ) → length (map f (range_with_len a n)) ≡ n
-many_in_range f a zero = refl
-many_in_range f a (suc n) = ap suc (many_in_range f (a + 1) n)
-
 pub newest_is : (f g : Words) (n : ℕ) → chosen 1 (map f (range_with_len 0 n)) (map g (range_with_len 0 n)) ≡ map g (range_with_len 0 n)
-newest_is f g n = by_one 0 (map f (range_with_len 0 n)) (map g (range_with_len 0 n)) (many_in_range f 0 n ∙ sym (many_in_range g 0 n))
+newest_is f g n = by_one 0 (map f (range_with_len 0 n)) (map g (range_with_len 0 n)) (length-map-range_with_len f 0 n ∙ sym (length-map-range_with_len g 0 n))

@@ -1,6 +1,6 @@
 -- The owner that is computed is the segment that owns the hash.
 use Rattle.std.proofs.Common.{◌≡◌, ◌==◌, ◌&&◌, ◌||◌, ℕ, zero, suc, ◌^◌, ◌<◌, ◌≤◌, ◌⊎◌, inl, inr, Bool, true, false, cond, Option, Some, None, refl, sym, ◌∙◌, ap, subst, arith}
-use Rattle.std.proofs.lemmas.Bool.{cases_Bool, cases_lt, eqb-true, eq-eqb, and_parts, and_from, or_cases, or_left, or_right, ltb-true, lt-ltb, true≢false}
+use Rattle.std.proofs.lemmas.Bool.{cases_lt, eqb-true, eq-eqb, and_parts, and_from, or_cases, or_left, or_right, ltb-true, lt-ltb, true≢false}
 use Rattle.std.specs.Prelude.{nat_lt, if◌then◌else◌}
 use Rattle.hash_word.specs.Hash.{top}
 use Rattle.segment_head.specs.HeadWord.{state_in, depth_in, pattern_in, normal, splitting}
@@ -8,12 +8,6 @@ use Rattle.sound_image.specs.Segments.{Frame, depth_at, IsLive, CoversHash, IsLi
 use Rattle.segment_table.specs.Claims.{Claims, IsSoundFrame}
 use Rattle.segment_table.proofs.frames.SoundFrames.{claimer_owns, owner_claims}
 use Rattle.segment_table.specs.Owner.{covers_live, deeper_of, owner_below, owner}
-
-not_less : (a b : ℕ) → b ≤ a → nat_lt a b ≡ false
-not_less a b most = elim (cases_Bool (nat_lt a b)) [ inl e ↦ absurd (less (ltb-true a b e)) | inr e ↦ e ]
-  where
-    less : a < b → ⊥
-    less l = omega (arith, l, most)
 
 module _ (frame : Frame) (h : ℕ) where
   test_live : (s : ℕ) → covers_live frame h s ≡ true → IsLive frame s × CoversHash frame s h

@@ -1,7 +1,7 @@
 -- Each outcome of a split has its cause, in the newest words and in what its attempt did.
 use Rattle.std.proofs.Common.{◌≡◌, ℕ, ◌+◌, ◌*◌, ◌<◌, Bool, true, false, None, Some, inl, inr, refl, sym, ap, ◌∙◌, subst, arith}
 use Rattle.std.specs.Prelude.{◌==◌, nat_lt, if◌then◌else◌}
-use Rattle.std.proofs.lemmas.Bool.{eqb-false}
+use Rattle.std.proofs.lemmas.Bool.{eqb-false, cond_both}
 use Rattle.std.proofs.lemmas.Option.{none-some, same_Some}
 use Rattle.op_core.specs.declared.want.Want.{Want}
 use Rattle.op_core.specs.declared.want.Want.TheVariants as want
@@ -39,7 +39,6 @@ use Rattle.split_op.specs.Steps.{last_slot, searched, wanted_in, next_in, wanted
 use Rattle.split_op.specs.Fits.{outcome_of, outcome_at, is_copied_end, hands_on_at, SuitsStep}
 use Rattle.split_op.specs.Remembers.{RemembersAt}
 use Rattle.split_op.specs.SplitPart.{split_part, segment_of}
-use Rattle.split_op.proofs.Cases.{choose}
 use Rattle.split_op.proofs.SplitIsPart.{open_search, open_look, open_put, same_outcome, put_asks}
 use Rattle.split_op.proofs.causes.Recalling.{recalls_next}
 
@@ -196,8 +195,8 @@ undecided_at s hands = absurd (cc)
 
 -- ---- it splits the same segment
 search_same : (op : SplitOp) (slot n : ℕ) → segment_of (searched op slot n) ≡ segment_of op
-search_same op slot n = choose (λ (o : SplitOp). segment_of o ≡ segment_of op) (state_in n == free) _ _ (λ _. refl)
-    (λ _. choose (λ (o : SplitOp). segment_of o ≡ segment_of op) (nat_lt slot (last_slot op.copied.whole.site.geometry)) _ _ (λ _. refl) (λ _. refl))
+search_same op slot n = cond_both (state_in n == free) _ _ (λ (o : SplitOp). segment_of o ≡ segment_of op) (λ _. refl)
+    (λ _. cond_both (nat_lt slot (last_slot op.copied.whole.site.geometry)) _ _ (λ (o : SplitOp). segment_of o ≡ segment_of op) (λ _. refl) (λ _. refl))
 
 same_at : (op : SplitOp) (s : SplitStep) (a : Ans) → segment_of (next_in op s a) ≡ segment_of op
 same_at op (Search slot) (Value head) = search_same op slot head

@@ -2,7 +2,7 @@
 use Rattle.std.proofs.Common.{◌≡◌, ◌≢◌, ℕ, ◌+◌, ◌-◌, ◌<◌, Bool, true, false, Option, None, Some, refl, sym, ap, subst}
 use Rattle.std.specs.Prelude.{◌==◌, nat_lt, if◌then◌else◌}
 use Rattle.image_layout.specs.Places.{segment_words, buckets}
-use Rattle.std.proofs.lemmas.Bool.{both_ways}
+use Rattle.std.proofs.lemmas.Bool.{both_ways, cond_both}
 use Rattle.std.proofs.lemmas.Option.{none-some}
 use Rattle.op_core.specs.declared.want.Want.{Want}
 use Rattle.op_core.specs.declared.want.Want.TheVariants as want
@@ -35,7 +35,6 @@ use Rattle.split_op.specs.Batches.{slot_word, after_empty, copied_from, due, aft
 use Rattle.split_op.specs.Steps.{last_slot, searched, finished, put_by, batch_after, stored, given_to, wanted_in, next_in}
 use Rattle.split_op.specs.Fits.{put_kind, kind_at, is_copied_end, hands_on_at, IsPutting, SuitsStep}
 use Rattle.split_op.specs.SplitPart.{is_new_batch, is_new_at, TakesFreeSlot, NewSlotStays}
-use Rattle.split_op.proofs.Cases.{choose}
 use Rattle.split_op.proofs.SplitIsPart.{passes}
 
 -- ---- batches before that store, and behind it
@@ -54,7 +53,7 @@ by_batch is None batch rounds now later = later
 module _ (op : SplitOp) where
   -- a batch that comes after one before is one before
   before_after : (batch : Batch) → IsBefore batch → IsBefore (after op.copied op.locks batch)
-  before_after (Empty k) b = choose IsBefore (nat_lt k segment_words) (Empty (after_empty op.locks k)) (Empty k) (λ _. (refl, refl)) (λ _. (refl, refl))
+  before_after (Empty k) b = cond_both (nat_lt k segment_words) (Empty (after_empty op.locks k)) (Empty k) IsBefore (λ _. (refl, refl)) (λ _. (refl, refl))
   before_after (Link s) b = (refl, refl)
   before_after (Mark s) b = (refl, refl)
   before_after (New s) b = absurd (let z : true ≡ false = b.1 in cc)
@@ -62,7 +61,7 @@ module _ (op : SplitOp) where
 
   behind_after : (batch : Batch) → IsBehind batch → IsBehind (after op.copied op.locks batch)
   behind_after (New s) b = (refl, refl)
-  behind_after (Copy k) b = choose IsBehind (nat_lt k segment_words) (Copy (copied_from op.copied.words (k + 1))) (Copy k) (λ _. (refl, refl)) (λ _. (refl, refl))
+  behind_after (Copy k) b = cond_both (nat_lt k segment_words) (Copy (copied_from op.copied.words (k + 1))) (Copy k) IsBehind (λ _. (refl, refl)) (λ _. (refl, refl))
   behind_after (Empty k) b = absurd (let z : false ≡ true = b.1 in cc)
   behind_after (Link s) b = absurd (let z : false ≡ true = b.1 in cc)
   behind_after (Mark s) b = absurd (let z : false ≡ true = b.1 in cc)
@@ -70,12 +69,12 @@ module _ (op : SplitOp) where
   module _ (batch : Batch) (rounds : Rounds) where
     before_stored : IsBefore batch → is_new_at (stored op batch rounds) ≡ false
     before_stored b =
-        let next = choose IsBefore (rounds_stores rounds (due op.copied op.locks batch)) (after op.copied op.locks batch) batch (λ _. before_after batch b) (λ _. b) in
+        let next = cond_both (rounds_stores rounds (due op.copied op.locks batch)) (after op.copied op.locks batch) batch IsBefore (λ _. before_after batch b) (λ _. b) in
         by_batch false _ (batch_after op batch rounds) _ next.0 next.1
 
     behind_stored : IsBehind batch → is_new_at (stored op batch rounds) ≡ true
     behind_stored b =
-        let next = choose IsBehind (rounds_stores rounds (due op.copied op.locks batch)) (after op.copied op.locks batch) batch (λ _. behind_after batch b) (λ _. b) in
+        let next = cond_both (rounds_stores rounds (due op.copied op.locks batch)) (after op.copied op.locks batch) batch IsBehind (λ _. behind_after batch b) (λ _. b) in
         by_batch true _ (batch_after op batch rounds) _ next.0 next.1
 
   -- ---- it stays new
@@ -118,11 +117,11 @@ module _ (site : Ground) (ground : IsGround site) (here : Site) (call : Call) (o
   take_old false n = refl
 
   search_old : (slot n : ℕ) → is_new_at (searched op slot n).step ≡ false
-  search_old slot n = choose (λ (o : SplitOp). is_new_at o.step ≡ false) (state_in n == free) _ _ (λ _. refl)
-      (λ _. choose (λ (o : SplitOp). is_new_at o.step ≡ false) (nat_lt slot (last_slot op.copied.whole.site.geometry)) _ _ (λ _. refl) (λ _. refl))
+  search_old slot n = cond_both (state_in n == free) _ _ (λ (o : SplitOp). is_new_at o.step ≡ false) (λ _. refl)
+      (λ _. cond_both (nat_lt slot (last_slot op.copied.whole.site.geometry)) _ _ (λ (o : SplitOp). is_new_at o.step ≡ false) (λ _. refl) (λ _. refl))
 
   look_old : (b : ℕ) → is_new_at (if nat_lt b (buckets - 1) then Look (b + 1) else Put (Empty 2) round.begun) ≡ false
-  look_old b = choose (λ (s : SplitStep). is_new_at s ≡ false) (nat_lt b (buckets - 1)) (Look (b + 1)) (Put (Empty 2) round.begun) (λ _. refl) (λ _. refl)
+  look_old b = cond_both (nat_lt b (buckets - 1)) (Look (b + 1)) (Put (Empty 2) round.begun) (λ (s : SplitStep). is_new_at s ≡ false) (λ _. refl) (λ _. refl)
 
   given_old : (more : Option Give) (end : SplitEnd) → is_copied_end end ≡ false → is_new_at (given_to more end) ≡ false
   given_old (Some more) end bare = refl

@@ -2,9 +2,8 @@
 use Rattle.std.proofs.Common.{◌≡◌, ℕ, zero, suc, ◌+◌, ◌-◌, ◌<◌, ◌≤◌, ◌⊎◌, Bool, true, false, List, inl, inr, refl, sym, ap, subst, ◌∙◌, arith}
 use Rattle.std.specs.Prelude.{if◌then◌else◌}
 use Rattle.image_layout.specs.Places.{segment_words}
-use Rattle.std.proofs.lemmas.Bool.{cases_lt}
+use Rattle.std.proofs.lemmas.Bool.{cases_lt, cond_both}
 use Rattle.split_op.specs.Batches.{is_copied, seek, copied_from}
-use Rattle.split_op.proofs.Cases.{choose}
 
 module _ (words : List ℕ) where
   pub seek_on : (n : ℕ) → n < segment_words → is_copied words n ≡ false → seek words n (segment_words - n) ≡ seek words (n + 1) (segment_words - (n + 1))
@@ -38,17 +37,17 @@ module _ (words : List ℕ) where
 
   pub found_by : (n i : ℕ) → i + n ≡ segment_words → IsFound (seek words i n)
   found_by zero i e = subst IsFound (sym (seek_none i)) (inr (omega arith))
-  found_by (suc n) i e = subst IsFound (sym (seek_one n i)) (choose IsFound (is_copied words i) i (seek words (i + 1) n) (λ is. inl (omega (arith, e), is)) (λ _. found_by n (i + 1) (omega (arith, e))))
+  found_by (suc n) i e = subst IsFound (sym (seek_one n i)) (cond_both (is_copied words i) i (seek words (i + 1) n) IsFound (λ is. inl (omega (arith, e), is)) (λ _. found_by n (i + 1) (omega (arith, e))))
 
   pub seek_from : (n i : ℕ) → i + n ≡ segment_words → i ≤ seek words i n
   seek_from zero i e = subst (λ (z : ℕ). i ≤ z) (sym (seek_none i)) (omega (arith, e))
   seek_from (suc n) i e = subst (λ (z : ℕ). i ≤ z) (sym (seek_one n i))
-      (choose (λ (z : ℕ). i ≤ z) (is_copied words i) i (seek words (i + 1) n) (λ _. omega arith) (λ _. let more = seek_from n (i + 1) (omega (arith, e)) in omega (arith, more)))
+      (cond_both (is_copied words i) i (seek words (i + 1) n) (λ (z : ℕ). i ≤ z) (λ _. omega arith) (λ _. let more = seek_from n (i + 1) (omega (arith, e)) in omega (arith, more)))
 
   pub none_by : (n i : ℕ) → i + n ≡ segment_words → (p : ℕ) → i ≤ p → p < seek words i n → is_copied words p ≡ false
   none_by zero i e p from to = absurd (let none = seek_none i in omega (arith, e, from, to, none))
   none_by (suc n) i e p from to =
-      choose (λ (z : ℕ). p < z → is_copied words p ≡ false) (is_copied words i) i (seek words (i + 1) n)
+      cond_both (is_copied words i) i (seek words (i + 1) n) (λ (z : ℕ). p < z → is_copied words p ≡ false)
       (λ _ low. absurd (omega (arith, from, low)))
       (λ is low. elim (cases_lt i p) [
         | inl more ↦ none_by n (i + 1) (omega (arith, e)) p (omega (arith, more)) low

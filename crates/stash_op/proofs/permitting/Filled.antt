@@ -1,8 +1,8 @@
 -- Where a note is put on an unused note slot, the notes of its side have it once more, and those of the other side stay; and where the
 -- count is raised, all of them stay.
 use Rattle.std.proofs.Common.{◌≡◌, ◌≢◌, ℕ, zero, suc, ◌+◌, ◌/◌, ◌%◌, ◌^◌, ◌<◌, Bool, true, false, None, Some, List, [], ◌∷◌, inl, inr, refl, sym, ap, ◌∙◌, subst, arith}
-use Rattle.std.specs.Prelude.{◌==◌, not, if◌then◌else◌}
-use Rattle.std.proofs.lemmas.Bool.{cases_eq, eqb-false, eq-eqb, ne_eqb}
+use Rattle.std.specs.Prelude.{◌==◌, if◌then◌else◌}
+use Rattle.std.proofs.lemmas.Bool.{cases_eq, eqb-false, eq-eqb, ne_eqb, not-true}
 use Rattle.std.proofs.lemmas.Option.{none-some, same_Some}
 use Rattle.bucket_meta.specs.Bucket.{note_used, note_member, note_index, note_finger, overflow_count}
 use Rattle.bucket_meta.specs.Notes.{OverflowNote, AreExact, notes_by}
@@ -15,12 +15,8 @@ use Rattle.world.proofs.holding.Preparing.{note_piece}
 bit_zero : (x : ℕ) → (x % 2 ^ 1 ≡ 1 → ⊥) → x % 2 ^ 1 ≡ 0
 bit_zero x n = omega (arith, n)
 
-not_true : (b : Bool) → not b ≡ true → b ≡ false
-not_true true e = absurd (let f : false ≡ true = e in cc)
-not_true false e = refl
-
 unused : (w1 i : ℕ) → is_unused w1 i ≡ true → note_used i w1 ≡ 0
-unused w1 i e = bit_zero (w1 / 2 ^ (28 + i)) (eqb-false (note_used i w1) 1 (not_true (note_used i w1 == 1) e))
+unused w1 i e = bit_zero (w1 / 2 ^ (28 + i)) (eqb-false (note_used i w1) 1 (not-true (note_used i w1 == 1) e))
 
 abbrev IsUnusedPlace : ℕ → ℕ → Type 0
 IsUnusedPlace w1 i = (note_used i w1 ≡ 0) × (i < 4)

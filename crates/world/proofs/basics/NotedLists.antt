@@ -1,8 +1,7 @@
 -- What a view's notes are after a step, note by note.
 use Rattle.std.proofs.Common.{◌≡◌, ◌⊎◌, ℕ, Bool, true, false, cond, ◌&&◌, eqb, List, [], ◌∷◌, inl, inr, refl, sym, ap, ◌∙◌, subst}
-use Rattle.std.proofs.lemmas.Bool.{cases_Bool, eqb-true}
+use Rattle.std.proofs.lemmas.Bool.{cases_Bool, eqb-true, and_parts}
 use Rattle.trace.specs.Events.{Words}
-use Rattle.map_model.proofs.Places.{and-parts}
 use Rattle.world.specs.Views.{Glance, Has}
 use Rattle.world.specs.Parts.{IsUnmoved}
 use Rattle.world.specs.Kinds.{with_noted, unmarked, marked, all_again}
@@ -45,7 +44,7 @@ marked_from lock x (n ∷ notes) o h = elim h [
 -- a note is unmoved where it is so with the mark
 marked_one : (words : Words) (lock : ℕ) (m : Glance) (b : Bool) → (eqb m.word lock && eqb m.value (words lock)) ≡ b
     → IsUnmoved words (cond b (record m { again = true }) m) → IsUnmoved words m
-marked_one words lock m true e u = let p = and-parts (eqb m.word lock) (eqb m.value (words lock)) e in
+marked_one words lock m true e u = let p = and_parts (eqb m.word lock) (eqb m.value (words lock)) e in
     inr (ap words (eqb-true m.word lock p.0) ∙ sym (eqb-true m.value (words lock) p.1))
 marked_one words lock m false e u = u
 
@@ -59,7 +58,7 @@ marked_to words lock (m ∷ notes) all n h = elim h [
 
 pub again_all : (words : Words) (notes : List Glance) → all_again notes ≡ true → (o : Glance) → Has o notes → IsUnmoved words o
 again_all words [] t o h = absurd h
-again_all words (m ∷ notes) t o h = let p = and-parts m.again (all_again notes) t in elim h [
+again_all words (m ∷ notes) t o h = let p = and_parts m.again (all_again notes) t in elim h [
   | inl e ↦ inl (ap (λ (z : Glance). z.again) e ∙ p.0)
   | inr r ↦ again_all words notes p.1 o r
 ]

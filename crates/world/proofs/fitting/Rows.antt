@@ -1,7 +1,7 @@
 -- Each row of a header keeps what the words are for all views to have their locks and areas.
 use Rattle.std.proofs.Common.{◌≡◌, ◌≢◌, ℕ, ◌+◌, ◌*◌, ◌<◌, Bool, true, false, eqb, List, set, inl, inr, refl, sym, ap, ◌∙◌, subst, arith}
 use Rattle.std.specs.Prelude.{not}
-use Rattle.std.proofs.lemmas.Bool.{cases_eq, eq-eqb, true≢false}
+use Rattle.std.proofs.lemmas.Bool.{cases_eq, eq-eqb, true≢false, not-true}
 use Rattle.trace.specs.Events.{Words, with_word}
 use Rattle.trace.proofs.Replaced.{replaced_same, replaced_other}
 use Rattle.segment_head.specs.HeadWord.{version_in, state_in, depth_in, pattern_in, free, splitting, HasLiveState}
@@ -22,13 +22,9 @@ use Rattle.world.proofs.fitting.Stored.{may_stays, lives_by}
 use Rattle.world.proofs.fitting.Others.{spare_others}
 
 -- ---- what is in the lists
-not_true : (b : Bool) → not b ≡ true → b ≡ false
-not_true true e = cc
-not_true false e = refl
-
 -- an area that a list without some had before
 pub but_before : (test : Area → Bool) (l : List Area) (a : Area) → Has a (all_but test l) → Has a l × (test a ≡ false)
-but_before test l a h = let q = filtered_has (λ b. not (test b)) l a h in (q.0, not_true (test a) q.1)
+but_before test l a h = let q = filtered_has (λ b. not (test b)) l a h in (q.0, not-true (test a) q.1)
 
 pub but_after : (test : Area → Bool) (l : List Area) (a : Area) → Has a l → test a ≡ false → Has a (all_but test l)
 but_after test l a h is = has_filtered (λ b. not (test b)) l a h (ap not is)

@@ -1,6 +1,6 @@
 -- Stores to words that are no headers, fences, and steps that leave all cores and what is loose keep locks and areas fitting.
 use Rattle.std.proofs.Common.{◌≡◌, ◌≢◌, ◌⊎◌, ℕ, ◌<◌, Bool, true, false, List, ◌∷◌, set, inl, inr, refl, sym, ap, ◌∙◌, subst}
-use Rattle.std.proofs.lemmas.Bool.{cases_Bool, cases_eq, ne_eqb, eqb-true}
+use Rattle.std.proofs.lemmas.Bool.{cases_Bool, cases_eq, ne_eqb, eqb-true, both_ways}
 use Rattle.trace.specs.Events.{Words, with_word}
 use Rattle.trace.proofs.Replaced.{replaced_other}
 use Rattle.segment_head.specs.HeadWord.{version_in, state_in, free, HasLiveState}
@@ -170,10 +170,6 @@ module _ (site : Ground) (words later : Words) (views : List View) (j : ℕ) (v 
     after : (a : Area) → test a ≡ false → Has a v.areas → Has a w.areas
     after = dropped_after site views v w test e
 
-    clash : (b : Bool) → b ≡ true → b ≡ false → ⊥
-    clash true p q = cc
-    clash false p q = cc
-
     segment_stays : (s : ℕ) → (test (Segment s) ≡ true → ⊥) → Has (Segment s) v.areas → Has (Segment s) w.areas
     segment_stays s k h = elim (cases_Bool (test (Segment s))) [ inl t ↦ absurd (k t) | inr n ↦ after (Segment s) n h ]
 
@@ -181,13 +177,13 @@ module _ (site : Ground) (words later : Words) (views : List View) (j : ℕ) (v 
     drop_fits = from_own (record {
       lock = locks_go;
       segment = λ s h. segment_goes s (before (Segment s) h).0;
-      stale = λ s h. let b = before (Stale s) h in stale_goes s b.0 (segment_stays s (λ t. clash (test (Stale s)) (hangs s t).0 b.1) (f.stale j v s at b.0).0);
+      stale = λ s h. let b = before (Stale s) h in stale_goes s b.0 (segment_stays s (λ t. both_ways (test (Stale s)) b.1 (hangs s t).0) (f.stale j v s at b.0).0);
       side = λ n h. let b = before (Side n) h in side_goes n b.0 (λ p. segment_stays p (λ t. (hangs p t).2 n b.0));
       free_slot = λ n h. let b = before (Free n) h in free_goes n b.0 (elim (cases_Bool (test Allocation)) [
-        | inl t ↦ absurd (clash (test (Free n)) (frees_too n t) b.1)
+        | inl t ↦ absurd (both_ways (test (Free n)) b.1 (frees_too n t))
         | inr k ↦ after Allocation k (f.free_slot j v n at b.0).0
       ]);
-      whole = λ s h. let b = before (Whole s) h in whole_goes s b.0 h (segment_stays s (λ t. clash (test (Whole s)) (hangs s t).1 b.1) (f.whole j v s at b.0).0);
+      whole = λ s h. let b = before (Whole s) h in whole_goes s b.0 h (segment_stays s (λ t. both_ways (test (Whole s)) b.1 (hangs s t).1) (f.whole j v s at b.0).0);
       splits = λ s c split h. elim (cases_Bool (test (Whole s))) [ inl t ↦ absurd (unsplit s t c split) | inr k ↦ after (Whole s) k h ];
       allocation = λ h. inl (before Allocation h).0;
       directory = λ h. inl (before Directory h).0;

@@ -1,7 +1,7 @@
 -- What a view holds after its areas are others, who holds a lock word, and what the lists of known words have.
-use Rattle.std.proofs.Common.{◌≡◌, ◌⊎◌, ℕ, ◌+◌, ◌*◌, ◌<◌, ◌&&◌, ◌||◌, Bool, true, false, List, [], ◌∷◌, inl, inr, refl, ap, ◌∙◌, subst, arith}
+use Rattle.std.proofs.Common.{◌≡◌, ◌⊎◌, ℕ, ◌+◌, ◌*◌, ◌<◌, ◌&&◌, ◌||◌, Bool, true, List, [], ◌∷◌, inl, inr, refl, ap, ◌∙◌, subst, arith}
 use Rattle.std.specs.Prelude.{◌==◌, not, nat_lt, nat_le}
-use Rattle.std.proofs.lemmas.Bool.{cases_Bool, eq-eqb, eqb-true, lt-ltb, le-leb}
+use Rattle.std.proofs.lemmas.Bool.{cases_Bool, eq-eqb, eqb-true, lt-ltb, le-leb, or_right}
 use Rattle.image_layout.specs.Places.{Shape, block, root_word, first_segment, head_at, bucket_at, buckets}
 use Rattle.frame_facts.specs.DeadSlots.{IsInSlot}
 use Rattle.world.specs.Ground.{IsLockWord, IsUnder}
@@ -105,10 +105,6 @@ module _ (shape : Shape) (n : ℕ) where
   pub out_of_slot_has : (s y : ℕ) (ps : List (ℕ × ℕ)) → Has (n, y) (out_of_slot shape s ps) → (IsInSlot shape s n → ⊥) × Has (n, y) ps
   out_of_slot_has s y ps h = let q = filtered_has (λ (p : ℕ × ℕ). not (is_in_slot shape s p.0)) ps (n, y) h in
       ((λ w. not_false (is_in_slot shape s n) q.1 (in_slot_test s w)), q.0)
-
-  or_right : (a b : Bool) → b ≡ true → (a || b) ≡ true
-  or_right true b e = refl
-  or_right false b e = e
 
   in_front_test : IsDirectoryWord shape n → ((n == root_word) || (nat_le block n && nat_lt n (first_segment shape))) ≡ true
   in_front_test (inl e) = ap (λ b. b || (nat_le block n && nat_lt n (first_segment shape))) (eq-eqb n root_word e)

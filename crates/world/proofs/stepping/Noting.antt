@@ -1,7 +1,6 @@
 -- What each note is after a step, by the note that it was; and that whatever agrees with more notes agrees with fewer.
 use Rattle.std.proofs.Common.{◌≡◌, ◌≢◌, ℕ, Bool, true, false, cond, ◌&&◌, eqb, List, [], ◌∷◌, inl, inr, refl, sym, ap, ◌∙◌}
-use Rattle.std.proofs.lemmas.Bool.{cases_Bool, eqb-true, eq-eqb, ne_eqb}
-use Rattle.map_model.proofs.Places.{and-parts}
+use Rattle.std.proofs.lemmas.Bool.{cases_Bool, eqb-true, eq-eqb, ne_eqb, and_parts}
 use Rattle.trace.specs.Events.{Words}
 use Rattle.world.specs.Ground.{Ground}
 use Rattle.world.specs.Views.{Glance, Has}
@@ -124,7 +123,7 @@ one_unmarked notes n h f = elim (cases_Bool (all_again notes)) [
   where
     marked_in : (notes : List Glance) → all_again notes ≡ true → (n : Glance) → Has n notes → n.again ≡ true
     marked_in [] t n h = absurd h
-    marked_in (m ∷ notes) t n h = let p = and-parts m.again (all_again notes) t in elim h [
+    marked_in (m ∷ notes) t n h = let p = and_parts m.again (all_again notes) t in elim h [
       | inl e ↦ ap (λ (z : Glance). z.again) e ∙ p.0
       | inr r ↦ marked_in notes p.1 n r
     ]

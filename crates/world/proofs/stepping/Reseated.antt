@@ -1,6 +1,6 @@
 -- Views that are cut in two or joined: all that a new view has comes from an old one, whose locks the new one has.
-use Rattle.std.proofs.Common.{◌≡◌, ◌≢◌, ◌⊎◌, ℕ, zero, suc, ◌+◌, ◌≤◌, max, Bool, true, false, cond, ◌||◌, eqb, List, [], ◌∷◌, ◌++◌, length, set, Option, None, Some, inl, inr, refl, sym, ap, ◌∙◌, subst, arith}
-use Rattle.std.proofs.lemmas.Bool.{cases_lt, eq-eqb, ne_eqb}
+use Rattle.std.proofs.Common.{◌≡◌, ◌≢◌, ◌⊎◌, ℕ, zero, suc, ◌+◌, ◌≤◌, max, true, cond, eqb, List, [], ◌∷◌, ◌++◌, length, set, Option, None, Some, inl, inr, refl, sym, ap, ◌∙◌, subst, arith}
+use Rattle.std.proofs.lemmas.Bool.{cases_lt, eq-eqb, ne_eqb, or_left, or_right}
 use Rattle.std.proofs.Math.Nat.{le-max_left, max-eq_left, max-eq_right}
 use Rattle.std.specs.Prelude.{filter}
 use mathlib.Core.Logic.{dite}
@@ -276,14 +276,6 @@ module _ {X : Type 0} where
   pub behind : (xs ys : List X) (x : X) → Has x ys → Has x (xs ++ ys)
   behind [] ys x h = h
   behind (z ∷ xs) ys x h = inr (behind xs ys x h)
-
-or_left : (a b : Bool) → a ≡ true → (a || b) ≡ true
-or_left true b is = refl
-or_left false b is = absurd (cc)
-
-or_right : (a b : Bool) → b ≡ true → (a || b) ≡ true
-or_right true b is = refl
-or_right false b is = is
 
 max_is : (a b : ℕ) → (max a b ≡ a) ⊎ (max a b ≡ b)
 max_is a b = elim (cases_lt a b) [ inl below ↦ inr (max-eq_right (omega (arith, below))) | inr above ↦ inl (max-eq_left above) ]

@@ -1,7 +1,7 @@
 -- What a reader's notes tell of all words that may be the newest: what a key has there, by the buckets that were read.
 use Rattle.std.proofs.Common.{◌≡◌, ◌⊎◌, ℕ, zero, suc, ◌+◌, ◌-◌, ◌<◌, ◌≤◌, Bool, true, false, None, Some, [], ◌∷◌, ◌++◌, length, inl, inr, refl, sym, ap, ◌∙◌, subst, arith}
-use Rattle.std.specs.Prelude.{◌==◌, ◌&&◌, ◌||◌, nat_lt, if◌then◌else◌}
-use Rattle.std.proofs.lemmas.Bool.{ltb-false}
+use Rattle.std.specs.Prelude.{◌==◌, ◌&&◌, nat_lt, if◌then◌else◌}
+use Rattle.std.proofs.lemmas.Bool.{ltb-false, or_parts}
 use Rattle.std.proofs.lemmas.Option.{none-some}
 use Rattle.hash_word.specs.Hash.{home_of, probing_of, finger_of}
 use Rattle.bucket_meta.specs.Bucket.{note_used, note_member, note_index, note_finger, overflow_count, record_slots}
@@ -61,10 +61,6 @@ module _ (shape : Shape) (m : Words) (table : IsTable shape m) (s k : ℕ) (segm
   has_some b x bucket e = let h = one_hit shape m s b k segment bucket x e in find_is shape m table s b h.0 k h.1 own ∙ h.2
 
 -- ---- a stash bucket without a note
-or_false : (a b : Bool) → (a || b) ≡ false → (a ≡ false) × (b ≡ false)
-or_false true b e = never (sym e)
-or_false false b e = (refl, e)
-
 piece_none : (u m side f n finger c : ℕ) → ((u == 1) && ((m == side) && ((n == c) && (f == finger)))) ≡ false
     → how_often (finger, c) (if (u == 1) && (m == side) then (f, n) ∷ [] else []) ≡ 0
 piece_none u m side f n finger c e = by (u == 1) (m == side) (n == c) (f == finger) refl refl e
@@ -82,9 +78,9 @@ piece_none u m side f n finger c e = by (u == 1) (m == side) (n == c) (f == fing
 
 pub unnamed : (w1 w3 side finger c : ℕ) → is_named w1 w3 side finger c ≡ false → how_often (finger, c) (notes_by w1 w3 side) ≡ 0
 unnamed w1 w3 side finger c e =
-    let a = or_false (is_note w1 w3 side finger c 0) _ e in
-    let b = or_false (is_note w1 w3 side finger c 1) _ a.1 in
-    let d = or_false (is_note w1 w3 side finger c 2) (is_note w1 w3 side finger c 3) b.1 in
+    let a = or_parts (is_note w1 w3 side finger c 0) _ e in
+    let b = or_parts (is_note w1 w3 side finger c 1) _ a.1 in
+    let d = or_parts (is_note w1 w3 side finger c 2) (is_note w1 w3 side finger c 3) b.1 in
     no_piece (how_often (finger, c)) (how_often-is_sum (finger, c)) (λ i. if (note_used i w1 == 1) && (note_member i w1 == side) then (note_finger i w1 w3, note_index i w1) ∷ [] else []) 4
     (λ i within. at i within a.0 b.0 d.0 d.1)
   where
@@ -100,8 +96,8 @@ unnamed w1 w3 side finger c e =
 pub unvisited : (shape : Shape) (m : Words) (s b c finger w1 w3 u1 u3 : ℕ) → m (bucket_at shape s b + 1) ≡ w1 → m (bucket_at shape s b + 3) ≡ w3
     → m (bucket_at shape s (probing_of b) + 1) ≡ u1 → m (bucket_at shape s (probing_of b) + 3) ≡ u3 → must_visit w1 w3 u1 u3 finger c ≡ false → IsUnnoted shape m s b finger c
 unvisited shape m s b c finger w1 w3 u1 u3 p1 p3 q1 q3 e =
-    let a = or_false (nat_lt 0 (overflow_count w1)) _ e in
-    let d = or_false (is_named w1 w3 0 finger c) (is_named u1 u3 1 finger c) a.1 in
+    let a = or_parts (nat_lt 0 (overflow_count w1)) _ e in
+    let d = or_parts (is_named w1 w3 0 finger c) (is_named u1 u3 1 finger c) a.1 in
     record {
       none = ap (λ w. how_often (finger, c) (notes_by w (m (bucket_at shape s b + 3)) 0 ++ notes_by (m (bucket_at shape s (probing_of b) + 1)) (m (bucket_at shape s (probing_of b) + 3)) 1)) p1
           ∙ ap (λ w. how_often (finger, c) (notes_by w1 w 0 ++ notes_by (m (bucket_at shape s (probing_of b) + 1)) (m (bucket_at shape s (probing_of b) + 3)) 1)) p3

@@ -1,7 +1,7 @@
 -- Where a note slot is freed, the notes of its side are without its note, and those of the other side stay.
 use Rattle.std.proofs.Common.{◌≡◌, ◌≢◌, ℕ, zero, suc, ◌-◌, ◌%◌, ◌^◌, ◌<◌, Bool, true, false, Option, None, Some, List, [], ◌∷◌, inl, inr, refl, sym, ap, ◌∙◌, subst, arith}
-use Rattle.std.specs.Prelude.{◌==◌, ◌&&◌, ◌||◌, if◌then◌else◌}
-use Rattle.std.proofs.lemmas.Bool.{cases_eq, eqb-true, eq-eqb, ne_eqb}
+use Rattle.std.specs.Prelude.{◌==◌, ◌||◌, if◌then◌else◌}
+use Rattle.std.proofs.lemmas.Bool.{cases_eq, eqb-true, eq-eqb, ne_eqb, and_parts}
 use Rattle.std.proofs.lemmas.Option.{none-some, same_Some}
 use Rattle.bucket_meta.specs.Bucket.{note_used, note_member, note_index, note_finger, overflow_count}
 use Rattle.bucket_meta.specs.Notes.{OverflowNote, notes_by}
@@ -19,15 +19,11 @@ pub record IsThere (w1 w3 side finger index i : ℕ) : Type 0 where
   pub is_finger : note_finger i w1 w3 ≡ finger
   pub low : i < 4
 
-and_true : (a b : Bool) → (a && b) ≡ true → (a ≡ true) × (b ≡ true)
-and_true true b e = (refl, e)
-and_true false b e = absurd (let f : false ≡ true = e in cc)
-
 there : (w1 w3 side finger index i : ℕ) → i < 4 → is_note w1 w3 side finger index i ≡ true → IsThere w1 w3 side finger index i
 there w1 w3 side finger index i low e =
-    let a = and_true (note_used i w1 == 1) _ e in
-    let b = and_true (note_member i w1 == side) _ a.1 in
-    let c = and_true (note_index i w1 == index) (note_finger i w1 w3 == finger) b.1 in
+    let a = and_parts (note_used i w1 == 1) _ e in
+    let b = and_parts (note_member i w1 == side) _ a.1 in
+    let c = and_parts (note_index i w1 == index) (note_finger i w1 w3 == finger) b.1 in
     record {
       used = eqb-true (note_used i w1) 1 a.0;
       member = eqb-true (note_member i w1) side b.0;

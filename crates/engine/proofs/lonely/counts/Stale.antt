@@ -2,7 +2,7 @@
 -- then.
 use Rattle.std.proofs.Common.{◌≡◌, ◌≢◌, ℕ, zero, suc, ◌%◌, ◌^◌, ◌<◌, ◌≤◌, inl, inr, Bool, true, false, List, refl, sym, ◌∙◌, ap, subst, arith}
 use Rattle.std.specs.Prelude.{◌==◌, ◌&&◌, not}
-use Rattle.std.proofs.lemmas.Bool.{cases_eq, eq-eqb, ne_eqb, eqb-true, eqb-false, or_cases, or_left, or_right}
+use Rattle.std.proofs.lemmas.Bool.{cases_eq, eq-eqb, ne_eqb, eqb-true, eqb-false, or_cases, or_left, or_right, and_parts, not-true, false_from_ne_true}
 use Rattle.op_core.specs.declared.want.Want.{Want}
 use Rattle.trace.specs.Events.{Words}
 use Rattle.segment_head.specs.HeadWord.{version_in, state_in, normal, splitting, is_live, HasLiveState}
@@ -31,11 +31,6 @@ use Rattle.engine.proofs.attempts.Seats.{IsSeated, seat_steps}
 use Rattle.engine.proofs.lonely.counts.Slots.{one_if}
 
 -- ---- the test of a stale header
-both : (x y : Bool) → (x && y) ≡ true → (x ≡ true) × (y ≡ true)
-both true true all = (refl, refl)
-both true false all = absurd (cc)
-both false y all = absurd (cc)
-
 pub live_state : (head : ℕ) → is_live head ≡ true → HasLiveState head
 live_state head live = elim (or_cases (state_in head == normal) (state_in head == splitting) live) [
   | inl e ↦ inl (eqb-true (state_in head) normal e)
@@ -46,12 +41,8 @@ live_test : (head : ℕ) → HasLiveState head → is_live head ≡ true
 live_test head (inl e) = or_left (state_in head == normal) (state_in head == splitting) (eq-eqb (state_in head) normal e)
 live_test head (inr e) = or_right (state_in head == normal) (state_in head == splitting) (eq-eqb (state_in head) splitting e)
 
-not_false : (t : Bool) → not t ≡ true → t ≡ false
-not_false true is = absurd (cc)
-not_false false is = refl
-
 old_by : (words : Words) (head : ℕ) → is_stale words head ≡ true → version_in head ≢ words state_word % 2 ^ 8
-old_by words head is = eqb-false (version_in head) (words state_word % 2 ^ 8) (not_false (version_in head == words state_word % 2 ^ 8) (both (is_live head) _ is).1)
+old_by words head is = eqb-false (version_in head) (words state_word % 2 ^ 8) (not-true (version_in head == words state_word % 2 ^ 8) (and_parts (is_live head) _ is).1)
 
 pub stale_test : (words : Words) (head : ℕ) → is_live head ≡ true → version_in head ≢ words state_word % 2 ^ 8 → is_stale words head ≡ true
 stale_test words head live old =
@@ -63,7 +54,7 @@ module _ (site : Ground) (words : Words) (same : words state_word % 2 ^ 8 ≡ ve
 
   pub slot_stale : s < site.shape.segments → is_stale words head ≡ true → IsStaleSlot site words s
   slot_stale within is = record {
-    live = record { slot = within; live = live_state head (both (is_live head) _ is).0 };
+    live = record { slot = within; live = live_state head (and_parts (is_live head) _ is).0 };
     old = λ current. old_by words head is (current ∙ sym same);
   }
 
@@ -157,11 +148,7 @@ module _ (laws : CallCauses) (stale : StaleLaws) (site : Ground) (words : Words)
       let new = stale.renewed site words views j seat.view s x j h seat.at may in
       let wants : wanted e ≡ wanted_of site.shape (of_structure (moves renews s x)) = step.wants ∙ ap (wanted_of site.shape) is in
       below_loses site.shape words later site.shape.segments s new.0.live.slot (stale_slot site words (version_now site words views h) s new.0)
-      (is_false (is_stale later (later (header_word site.shape s)))
+      (false_from_ne_true (is_stale later (later (header_word site.shape s)))
       (λ yes. (slot_stale site later same s new.0.live.slot yes).old
       (subst (λ (event : Want). version_in (words_after site.shape event j words (header_word site.shape s)) ≡ version_of site) (sym wants) new.1.current)))
       was_below
-    where
-      is_false : (t : Bool) → (t ≡ true → ⊥) → t ≡ false
-      is_false true never = absurd (never refl)
-      is_false false never = refl

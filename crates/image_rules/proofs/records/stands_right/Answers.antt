@@ -2,6 +2,7 @@
 use Rattle.std.proofs.Common.{◌≡◌, ◌≢◌, ℕ, ◌+◌, inl, inr, sym, ap, ◌∙◌, true, false, arith, slice_index}
 use Rattle.std.specs.Prelude.{◌==◌}
 use Rattle.std.proofs.lemmas.Bool.Decides.{nat_tests}
+use Rattle.std.proofs.lemmas.Bool.{eq-eqb}
 use Rattle.hash_word.specs.Hash.{home_of, probing_of, finger_of}
 use Rattle.bucket_meta.specs.Bucket.{finger, member}
 use Rattle.sound_image.specs.Records.{word_in, slot_hash}
@@ -14,9 +15,6 @@ is_one n test = grind (arith, nat_tests, test)
 
 is_other : (n : ℕ) → false ≡ (n == 1) → n ≢ 1
 is_other n test = grind (arith, nat_tests, test)
-
-test_passes : (a b : ℕ) → a ≡ b → (a == b) ≡ true
-test_passes a b same = grind (arith, nat_tests)
 
 pub returns-then-finger_of-finger : goal.returns-then-finger_of-finger
 returns-then-finger_of-finger c = (
@@ -51,5 +49,5 @@ returns-then-record_slot-own c =
         ];
         fingerprint = print;
       }),
-      (λ _. test_passes _ _ c.if-record_slot-own.true),
+      (λ _. eq-eqb _ _ c.if-record_slot-own.true),
     )

@@ -1,6 +1,7 @@
 -- Rule 5 is broken first at the first record of a second value.
 use Rattle.std.proofs.Common.{slice_index}
-use Rattle.image_rules.proofs.Answered.{if_none, if_some}
+use Rattle.std.proofs.lemmas.Option.{IfSome_then}
+use Rattle.image_rules.proofs.Answered.{if_none}
 use Rattle.image_rules.proofs.standing.KeyRules.{keys_have_one_value, first_of_two_values}
 use Rattle.image_rules.proofs.standing.SoundSegments.{standing_in}
 use Rattle.image_rules.proofs.rules.rule_five.Goals as goal
@@ -14,4 +15,4 @@ returns-clause-none c =
 
 pub returns-clause-some : goal.returns-clause-some
 returns-clause-some c =
-    if_some c.first_of_all.result (first_of_two_values c.args.geometry.now (slice_index c.args.words.now)) c.first_of_all.ensures.some
+    IfSome_then c.first_of_all.result c.first_of_all.ensures.some (first_of_two_values c.args.geometry.now (slice_index c.args.words.now))

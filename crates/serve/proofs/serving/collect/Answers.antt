@@ -1,15 +1,13 @@
 -- One job more is collected.
-use Rattle.std.proofs.Common.{◌≡◌, ◌∷◌, ◌++◌, [], ℕ, List, Some, rules, length, ap, sym, subst, ◌∙◌, append_assoc, length-append, arith}
+use Rattle.std.proofs.Common.{◌≡◌, ◌∷◌, ◌++◌, [], ℕ, List, rules, length, ap, sym, subst, ◌∙◌, append_assoc, length-append, arith}
 use Rattle.std.specs.Vec.Iter.{into_iter_items}
+use Rattle.std.proofs.lemmas.Option.{same_Some}
 use Rattle.atomic_table.specs.declared.shared.Seat.{Seat}
 use Rattle.shared_image.specs.Watch.{Watch}
 use Rattle.serve.specs.declared.job.Job.{Job}
 use Rattle.serve.specs.Jobs.{IsLeftJob, IsDoneJob}
 use Rattle.serve.proofs.Collected.{IsCollecting, goes_on, left_one, listing}
 use Rattle.serve.proofs.serving.collect.Goals as goal
-
-same_one : {X : Type 0} (a b : X) → Some a ≡ Some b → a ≡ b
-same_one a b is = cc
 
 pub loop-job-preserved : goal.loop-job-preserved
 loop-job-preserved c =
@@ -35,7 +33,7 @@ loop-job-preserved c =
           omega (arith, was, gone, short));
       so_far = subst (λ (ps : List (Seat ℕ Watch)). IsCollecting image (at.yielded ++ job ∷ []) (into_iter_items c.next.new.self) ps c.list_entries.new.lists) (sym c.push_reserved.ensures.items)
           (goes_on image at.yielded (into_iter_items c.next.new.self) job at.passes.items at.lists c.list_entries.new.lists pass so_far done c.in-Some-pass.is
-          (λ d. same_one d.token pass (sym d.is ∙ c.in-Some-pass.is))
+          (λ d. same_Some d.token pass (sym d.is ∙ c.in-Some-pass.is))
           (listing image at.yielded (into_iter_items c.next.new.self) job at.passes.items at.lists c.list_entries.new.lists _ _ so_far done c.as_slice.ensures.value
           (omega (arith, count, few, all, sum, len)) c.list_entries.ensures));
       room = search rules;

@@ -4,6 +4,7 @@ use Rattle.std.specs.Prelude.{All, ◌<◌}
 use Rattle.std.specs.List.{range_with_len}
 use Rattle.std.proofs.lemmas.List.{map-append}
 use Rattle.std.proofs.lemmas.List.FromFn.{map-range_with_len_more}
+use Rattle.std.proofs.lemmas.List.Elements.{All-push}
 use Rattle.map_model.specs.declared.call.Call.{Call}
 use Rattle.shared_image.specs.Engines.{IsWordCall}
 use Rattle.world.specs.Attempts.{HoldsOnly}
@@ -11,7 +12,6 @@ use Rattle.script_text.specs.Calls.{calls_of}
 use Rattle.shared_image.specs.Watch.{Watch}
 use Rattle.serve.specs.declared.job.Job.{Job}
 use Rattle.serve.specs.Jobs.{IsReadyJob}
-use Rattle.serve.proofs.Collected.{all_more_of}
 use Rattle.serve.proofs.Readied.{word_calls, fresh}
 use Rattle.serve.proofs.serving.jobs_of.Goals as goal
 
@@ -46,7 +46,7 @@ loop-before-preserved c =
     record {
       keeper = c.split_pass-pass.ensures.keeper;
       callers = omega (arith, was, now, low, said);
-      ready = subst (λ (js : List Job). All (IsReadyJob image) js) (sym items) (all_more_of (IsReadyJob image) at.jobs.items job at.invariant.ready ready);
+      ready = subst (λ (js : List Job). All (IsReadyJob image) js) (sym items) (All-push (IsReadyJob image) at.jobs.items job at.invariant.ready ready);
       calls = ap (map (λ (j : Job). j.calls.items)) items
           ∙ map-append (λ (j : Job). j.calls.items) at.jobs.items (job ∷ [])
           ∙ ap (λ (css : List (List Call)). css ++ job.calls.items ∷ []) at.invariant.calls

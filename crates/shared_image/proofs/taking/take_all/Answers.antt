@@ -1,15 +1,12 @@
 -- The keeper takes one pass after another.
-use Rattle.std.proofs.Common.{◌≡◌, ◌∷◌, [], ◌<◌, List, length, refl, sym, ap, subst, ◌∙◌, append_assoc, append-nil, arith}
+use Rattle.std.proofs.Common.{◌≡◌, ◌∷◌, [], ◌<◌, length, sym, ap, subst, ◌∙◌, append_assoc, append-nil, arith}
 use Rattle.std.specs.Vec.Iter.{into_iter_items}
+use Rattle.std.proofs.lemmas.List.{nil_from_length}
 use Rattle.vlock.specs.declared.knows.Watch.{Watch}
 use Rattle.vlock.specs.Seats.{both}
 use Rattle.shared_image.specs.Closed.{with_all}
 use Rattle.shared_image.proofs.TakenIn.{with_more, stands_with}
 use Rattle.shared_image.proofs.taking.take_all.Goals as goal
-
-nothing_left : {X : Type 0} (l : List X) → length l ≡ 0 → l ≡ []
-nothing_left [] h = refl
-nothing_left (x ∷ xs) h = absurd (omega arith)
 
 pub take_in-requires-clause-callers : goal.take_in-requires-clause-callers
 take_in-requires-clause-callers c =
@@ -35,6 +32,6 @@ pub returns-clause-taken : goal.returns-clause-taken
 returns-clause-taken c =
     let at = c.loop-pass in
     let none = c.in-None.ensures.steps in
-    let empty : into_iter_items at.pass-iterator ≡ [] = nothing_left _ (sym at.invariant.count ∙ none.0) in
+    let empty : into_iter_items at.pass-iterator ≡ [] = nil_from_length _ (sym at.invariant.count ∙ none.0) in
     let all = sym (append-nil at.yielded) ∙ rw empty at at.invariant.rest ∙ c.into_iter-pass-iterator.ensures.into_iter_gives.0 in
     at.invariant.taken ∙ ap (λ xs. with_all c.args.keeper.seat.me.0 xs) all

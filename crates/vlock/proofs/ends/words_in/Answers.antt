@@ -1,7 +1,8 @@
 use Rattle.std.proofs.Common.{◌≡◌, ◌≢◌, ◌∙◌, ℕ, get_or, set, sym, arith, subst, length-set, get_or-set_other, get_or-set_same}
+use Rattle.std.proofs.lemmas.Grind.{same_number_lists}
 use mathlib.Core.Logic.{dite}
 use native.Mathlib.Decide.{ℕ_discrete}
-use Rattle.vlock.proofs.Ended.{got, same_list}
+use Rattle.vlock.proofs.Ended.{got}
 use Rattle.vlock.proofs.ends.words_in.Goals as goal
 
 pub loop-i-preserved : goal.loop-i-preserved
@@ -21,4 +22,4 @@ returns c =
     let i = c.loop-i.invariant in
     let ok = c.args.closed.words.ok in
     let done = c.loop-i-test.false in
-    same_list c.loop-i.room.items c.args.closed.words.items (i.0 ∙ ok.0) (λ j h. i.1 j (omega arith))
+    same_number_lists c.loop-i.room.items c.args.closed.words.items (i.0 ∙ ok.0) (λ j h. i.1 j (omega arith))

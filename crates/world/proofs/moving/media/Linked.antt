@@ -1,7 +1,7 @@
 -- What the link of a stale segment and the slot that it names tell of whatever a cut may leave: that the segment has none of its 1-side, or all of it.
 use Rattle.std.proofs.Common.{◌≡◌, ℕ, suc, ◌+◌, ◌*◌, ◌-◌, ◌/◌, ◌^◌, ◌<◌, ◌≤◌, Bool, true, false, eqb, List, inl, inr, refl, sym, ap, ◌∙◌, subst, arith}
 use Rattle.std.specs.Prelude.{nat_lt, ◌&&◌}
-use Rattle.std.proofs.lemmas.Bool.{eq-eqb, eqb-true, lt-ltb, ltb-true, and_parts, or_cases, or_left, or_right, true≢false}
+use Rattle.std.proofs.lemmas.Bool.{eq-eqb, eqb-true, lt-ltb, ltb-true, and_parts, or_cases, or_left, or_right, true≢false, and_from}
 use Rattle.std.proofs.lemmas.Nat.{pow-add}
 use Rattle.trace.specs.Events.{Words}
 use Rattle.hash_word.specs.Hash.{top, Covers}
@@ -30,10 +30,6 @@ use Rattle.world.proofs.fitting.lasting.Readying.{ready_everywhere, ready_nowher
 use Rattle.world.proofs.moving.Known.{grounds, possible_now, own_leaves}
 
 -- ---- the test of a ready side
-both : (x y : Bool) → x ≡ true → y ≡ true → (x && y) ≡ true
-both true y e f = f
-both false y e f = e
-
 live_by_test : (head : ℕ) → is_live head ≡ true → HasLiveState head
 live_by_test head e = elim (or_cases (eqb (state_in head) normal) (eqb (state_in head) splitting) e) [
   | inl a ↦ inl (eqb-true (state_in head) normal a)
@@ -60,8 +56,8 @@ ready_by_test depth pattern head e =
     }
 
 test_of_ready : (depth pattern head : ℕ) → IsReadyHead depth pattern head → is_ready_side depth pattern head ≡ true
-test_of_ready depth pattern head r = both (is_live head) _ (test_of_live head r.live)
-    (both (nat_lt depth (depth_in head)) _ (lt-ltb depth (depth_in head) r.deeper) (eq-eqb (pattern_in head) ((2 * pattern + 1) * 2 ^ (depth_in head - depth - 1)) r.zeros))
+test_of_ready depth pattern head r = and_from (is_live head) _ (test_of_live head r.live)
+    (and_from (nat_lt depth (depth_in head)) _ (lt-ltb depth (depth_in head) r.deeper) (eq-eqb (pattern_in head) ((2 * pattern + 1) * 2 ^ (depth_in head - depth - 1)) r.zeros))
 
 -- ---- the first hash of a ready side
 powers : (w d e : ℕ) → d < e → e ≤ 64 → w * 2 ^ (e - d - 1) * 2 ^ (64 - e) ≡ w * 2 ^ (64 - suc d)
