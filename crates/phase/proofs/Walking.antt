@@ -1,9 +1,10 @@
 -- The way: what it wants is of its kind, who relies on what it loaded may take it, it keeps that, and leaves all else of the view as it was.
 use Rattle.std.proofs.Common.{◌≡◌, ℕ, ◌+◌, ◌^◌, ◌<◌, ◌≤◌, Bool, true, false, List, [], ◌∷◌, ◌++◌, Option, None, inl, inr, refl, sym, ap, ◌∙◌, subst, arith}
 use Rattle.std.specs.Prelude.{◌==◌, ◌&&◌, nat_lt, nat_le, if◌then◌else◌}
-use Rattle.std.proofs.lemmas.Bool.{eq-eqb, le-leb, lt-ltb, leb-true, ltb-false, leb-false, eqb-false, or_left, or_right, both_ways}
+use Rattle.std.proofs.lemmas.Bool.{le-leb, lt-ltb, leb-true, ltb-false, leb-false, eqb-false, both_ways}
 use Rattle.hash_word.specs.Hash.{index_of}
-use Rattle.segment_head.specs.HeadWord.{version_in, state_in, is_live, HasLiveState, normal, splitting}
+use Rattle.segment_head.specs.HeadWord.{version_in, is_live, HasLiveState}
+use Rattle.segment_head.proofs.Headers.{live_test}
 use Rattle.trace.specs.Events.{Words}
 use Rattle.image_layout.specs.Places.{Shape, IsShape, root_word, entry_at, head_at}
 use Rattle.sound_image.specs.Segments.{frame_of}
@@ -106,11 +107,6 @@ walk_few Power = omega arith
 walk_few Root = omega arith
 walk_few (Entry root) = omega arith
 walk_few (Head root segment) = omega arith
-
--- ---- a header that is live
-live_test : (head : ℕ) → HasLiveState head → is_live head ≡ true
-live_test head (inl is) = or_left (state_in head == normal) (state_in head == splitting) (eq-eqb (state_in head) normal is)
-live_test head (inr is) = or_right (state_in head == normal) (state_in head == splitting) (eq-eqb (state_in head) splitting is)
 
 module _ (site : Ground) (here : Site) (hash : ℕ) (same : here.geometry ≡ site.shape) where
   depth_is : here.geometry.depth ≡ site.shape.depth

@@ -1,10 +1,11 @@
 -- What the three loads of the way to a segment add up to.
 use Rattle.std.proofs.Common.{◌≡◌, inl, inr, ℕ, ◌+◌, ◌^◌, ◌<◌, ◌≤◌, Bool, true, false, Some, None, List, ◌∷◌, ◌++◌, refl, sym, ap, ◌∙◌, subst, arith}
 use Rattle.std.specs.Prelude.{◌==◌, ◌&&◌}
-use Rattle.std.proofs.lemmas.Bool.{eq-eqb, or_left, or_right}
+use Rattle.std.proofs.lemmas.Bool.{eq-eqb}
 use Rattle.std.specs.Cmp.Derive.{both_true}
 use Rattle.hash_word.specs.Hash.{index_of}
-use Rattle.segment_head.specs.HeadWord.{version_in, state_in, normal, splitting, is_live, HasLiveState}
+use Rattle.segment_head.specs.HeadWord.{version_in, normal, is_live, HasLiveState}
+use Rattle.segment_head.proofs.Headers.{live_test}
 use Rattle.trace.specs.Events.{Words}
 use Rattle.image_layout.specs.Places.{root_word, entry_at, head_at}
 use Rattle.way.specs.Ways.{is_leading}
@@ -55,11 +56,6 @@ owner_by site v s header hash within fits leads met =
       live = record { slot = within; live = inl head.normal; covers = head.covers };
       kept = λ ready inside. let split = ready.1.splits in let normal_is = head.normal in omega (arith, split, normal_is);
     })
-
--- ---- a header that is live
-live_test : (head : ℕ) → HasLiveState head → is_live head ≡ true
-live_test head (inl is) = or_left (state_in head == normal) (state_in head == splitting) (eq-eqb (state_in head) normal is)
-live_test head (inr is) = or_right (state_in head == normal) (state_in head == splitting) (eq-eqb (state_in head) splitting is)
 
 -- what a header tells is told beside what was known before
 behind_says : (t : Bool) (s head : ℕ) (facts : List Fact) (f : Fact) → Has f facts → Has f (says_current t s head ++ facts)

@@ -2,10 +2,11 @@
 -- then.
 use Rattle.std.proofs.Common.{◌≡◌, ◌≢◌, ℕ, zero, suc, ◌%◌, ◌^◌, ◌<◌, ◌≤◌, inl, inr, Bool, true, false, List, refl, sym, ◌∙◌, ap, subst, arith}
 use Rattle.std.specs.Prelude.{◌==◌, ◌&&◌, not}
-use Rattle.std.proofs.lemmas.Bool.{cases_eq, eq-eqb, ne_eqb, eqb-true, eqb-false, or_cases, or_left, or_right, and_parts, not-true, false_from_ne_true}
+use Rattle.std.proofs.lemmas.Bool.{cases_eq, ne_eqb, eqb-false, and_parts, not-true, false_from_ne_true}
 use Rattle.op_core.specs.declared.want.Want.{Want}
 use Rattle.trace.specs.Events.{Words}
-use Rattle.segment_head.specs.HeadWord.{version_in, state_in, normal, splitting, is_live, HasLiveState}
+use Rattle.segment_head.specs.HeadWord.{version_in, is_live}
+use Rattle.segment_head.proofs.Headers.{live_test, live_by_test}
 use Rattle.image_layout.specs.Places.{Shape, state_word}
 use Rattle.map_model.specs.declared.call.Call.{Call}
 use Rattle.world.specs.declared.site.Site.{Site}
@@ -31,16 +32,6 @@ use Rattle.engine.proofs.attempts.Seats.{IsSeated, seat_steps}
 use Rattle.engine.proofs.lonely.counts.Slots.{one_if}
 
 -- ---- the test of a stale header
-pub live_state : (head : ℕ) → is_live head ≡ true → HasLiveState head
-live_state head live = elim (or_cases (state_in head == normal) (state_in head == splitting) live) [
-  | inl e ↦ inl (eqb-true (state_in head) normal e)
-  | inr e ↦ inr (eqb-true (state_in head) splitting e)
-]
-
-live_test : (head : ℕ) → HasLiveState head → is_live head ≡ true
-live_test head (inl e) = or_left (state_in head == normal) (state_in head == splitting) (eq-eqb (state_in head) normal e)
-live_test head (inr e) = or_right (state_in head == normal) (state_in head == splitting) (eq-eqb (state_in head) splitting e)
-
 old_by : (words : Words) (head : ℕ) → is_stale words head ≡ true → version_in head ≢ words state_word % 2 ^ 8
 old_by words head is = eqb-false (version_in head) (words state_word % 2 ^ 8) (not-true (version_in head == words state_word % 2 ^ 8) (and_parts (is_live head) _ is).1)
 
@@ -54,7 +45,7 @@ module _ (site : Ground) (words : Words) (same : words state_word % 2 ^ 8 ≡ ve
 
   pub slot_stale : s < site.shape.segments → is_stale words head ≡ true → IsStaleSlot site words s
   slot_stale within is = record {
-    live = record { slot = within; live = live_state head (and_parts (is_live head) _ is).0 };
+    live = record { slot = within; live = live_by_test head (and_parts (is_live head) _ is).0 };
     old = λ current. old_by words head is (current ∙ sym same);
   }
 

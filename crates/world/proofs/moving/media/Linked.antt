@@ -1,11 +1,12 @@
 -- What the link of a stale segment and the slot that it names tell of whatever a cut may leave: that the segment has none of its 1-side, or all of it.
 use Rattle.std.proofs.Common.{◌≡◌, ℕ, suc, ◌+◌, ◌*◌, ◌-◌, ◌/◌, ◌^◌, ◌<◌, ◌≤◌, Bool, true, false, eqb, List, inl, inr, refl, sym, ap, ◌∙◌, subst, arith}
 use Rattle.std.specs.Prelude.{nat_lt, ◌&&◌}
-use Rattle.std.proofs.lemmas.Bool.{eq-eqb, eqb-true, lt-ltb, ltb-true, and_parts, or_cases, or_left, or_right, true≢false, and_from}
+use Rattle.std.proofs.lemmas.Bool.{eq-eqb, eqb-true, lt-ltb, ltb-true, and_parts, true≢false, and_from}
 use Rattle.std.proofs.lemmas.Nat.{pow-add}
 use Rattle.trace.specs.Events.{Words}
 use Rattle.hash_word.specs.Hash.{top, Covers}
-use Rattle.segment_head.specs.HeadWord.{state_in, depth_in, pattern_in, normal, splitting, is_live, HasLiveState}
+use Rattle.segment_head.specs.HeadWord.{state_in, depth_in, pattern_in, is_live, HasLiveState}
+use Rattle.segment_head.proofs.Headers.{live_test, live_by_test}
 use Rattle.sound_image.specs.Segments.{frame_of, depth_at, pattern_at, IsReadySide, HasReadySide}
 use Rattle.frame_facts.proofs.frames.Regions.{fewer}
 use Rattle.frame_facts.proofs.frames.SoundFrames.{live_low}
@@ -30,16 +31,6 @@ use Rattle.world.proofs.fitting.lasting.Readying.{ready_everywhere, ready_nowher
 use Rattle.world.proofs.moving.Known.{grounds, possible_now, own_leaves}
 
 -- ---- the test of a ready side
-live_by_test : (head : ℕ) → is_live head ≡ true → HasLiveState head
-live_by_test head e = elim (or_cases (eqb (state_in head) normal) (eqb (state_in head) splitting) e) [
-  | inl a ↦ inl (eqb-true (state_in head) normal a)
-  | inr a ↦ inr (eqb-true (state_in head) splitting a)
-]
-
-test_of_live : (head : ℕ) → HasLiveState head → is_live head ≡ true
-test_of_live head (inl e) = or_left (eqb (state_in head) normal) (eqb (state_in head) splitting) (eq-eqb (state_in head) normal e)
-test_of_live head (inr e) = or_right (eqb (state_in head) normal) (eqb (state_in head) splitting) (eq-eqb (state_in head) splitting e)
-
 -- a header is that of a ready side of a segment of this depth and pattern
 record IsReadyHead (depth pattern head : ℕ) : Type 0 where
   live : HasLiveState head
@@ -56,7 +47,7 @@ ready_by_test depth pattern head e =
     }
 
 test_of_ready : (depth pattern head : ℕ) → IsReadyHead depth pattern head → is_ready_side depth pattern head ≡ true
-test_of_ready depth pattern head r = and_from (is_live head) _ (test_of_live head r.live)
+test_of_ready depth pattern head r = and_from (is_live head) _ (live_test head r.live)
     (and_from (nat_lt depth (depth_in head)) _ (lt-ltb depth (depth_in head) r.deeper) (eq-eqb (pattern_in head) ((2 * pattern + 1) * 2 ^ (depth_in head - depth - 1)) r.zeros))
 
 -- ---- the first hash of a ready side
