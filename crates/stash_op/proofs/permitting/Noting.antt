@@ -319,17 +319,17 @@ module _ (site : Ground) (kept : Kept) (is : IsIn site kept) (seen : Seen) (v : 
       mark_may = subst (λ i. May site (mark_kind kept seen (has_finger seen n) i n.mark) v) (sym mark_place) (mark_may_by (has_finger seen n) refl)
 
     -- ---- the word of its fingerprint
-    abbrev fingers_place : ℕ
-    fingers_place = bucket_at site.shape s c + 3
+    abbrev fingers_word : ℕ
+    fingers_word = bucket_at site.shape s c + 3
 
-    fingers_place : lock_of kept (note_place n.bucket) + 3 ≡ fingers_place
+    fingers_place : lock_of kept (note_place n.bucket) + 3 ≡ fingers_word
     fingers_place = ap (λ l. l + 3) (note_at n.bucket)
 
-    fingers_core : n.fingers % 2 ^ 48 ≡ w1 fingers_place % 2 ^ 48
+    fingers_core : n.fingers % 2 ^ 48 ≡ w1 fingers_word % 2 ^ 48
     fingers_core = un.records ∙ ap (λ z. z % 2 ^ 48) (sym (three_stays n.bucket n.mark f))
         ∙ ap (λ z. z % 2 ^ 48) (sym (three_here site.shape s b near n.bucket w1 (with_one n.bucket n.mark f) marked_four))
 
-    fingered_four : HasFour site.shape s b near (with_word w1 fingers_place n.fingers) (with_three n.bucket n.fingers (with_one n.bucket n.mark f))
+    fingered_four : HasFour site.shape s b near (with_word w1 fingers_word n.fingers) (with_three n.bucket n.fingers (with_one n.bucket n.mark f))
     fingered_four = store_three site.shape s b near n.bucket w1 (with_one n.bucket n.mark f) n.fingers marked_four
 
     module _ (knows : Knows (IsHere kept seen) w1 v) where
@@ -339,7 +339,7 @@ module _ (site : Ground) (kept : Kept) (is : IsIn site kept) (seen : Seen) (v : 
       fingers_may : May site (note_kind kept seen Fingers n) v
       fingers_may = subst (λ i. May site (repays i n.fingers (owed kept seen)) v) (sym fingers_place)
           ((may_repay site v).last (owed kept seen) c 3 n.fingers w1 fingers_touch
-          (λ stashed exact. exact_after (with_three n.bucket n.fingers (with_one n.bucket n.mark f)) (with_word w1 fingers_place n.fingers) fingered_four un.both stashed exact))
+          (λ stashed exact. exact_after (with_three n.bucket n.fingers (with_one n.bucket n.mark f)) (with_word w1 fingers_word n.fingers) fingered_four un.both stashed exact))
 
     -- the words of each store
     marked_is : marked kept seen ≡ w1
@@ -366,7 +366,7 @@ module _ (site : Ground) (kept : Kept) (is : IsIn site kept) (seen : Seen) (v : 
     pub fingers_same_core : core_of site.shape (lock_of kept (note_place n.bucket) + 3) (marked kept seen (lock_of kept (note_place n.bucket) + 3)) ≡ core_of site.shape (lock_of kept (note_place n.bucket) + 3) n.fingers
     fingers_same_core = subst (λ (w : Words). core_of site.shape (lock_of kept (note_place n.bucket) + 3) (w (lock_of kept (note_place n.bucket) + 3)) ≡ core_of site.shape (lock_of kept (note_place n.bucket) + 3) n.fingers) (sym marked_is)
         (subst (λ i. core_of site.shape i (w1 i) ≡ core_of site.shape i n.fingers) (sym fingers_place)
-        (core_in site.shape s c 3 (w1 fingers_place) at.within c_low (omega arith) ∙ sym fingers_core ∙ sym (core_in site.shape s c 3 n.fingers at.within c_low (omega arith))))
+        (core_in site.shape s c 3 (w1 fingers_word) at.within c_low (omega arith) ∙ sym fingers_core ∙ sym (core_in site.shape s c 3 n.fingers at.within c_low (omega arith))))
 
     -- and leaves the record in the stash
     pub hit_stays : (w : Words) (m x r k : ℕ) → m < 32 → Hit site.shape w s away r k → Hit site.shape (with_word w (lock_of kept (note_place n.bucket) + m) x) s away r k
