@@ -27,7 +27,7 @@ use Rattle.phase.proofs.asking.Asked.{few}
 use Rattle.read_op.specs.Places.{free_at}
 use Rattle.read_op.specs.Steps.{backed_to, relook_first, relook_second, relook_next, relooked, busy, moved, end_of, lock_of}
 use Rattle.read_op.specs.Fits.{IsIn, is_asked, Watched, at_head, at_bucket, watched_word, watched_value, is_watched, rank, leads, IsChecked, suits_in, EntersAnswer}
-use Rattle.world.proofs.stepping.Noting.{never, marked_one, marked_to, marked_from, mark_place, mark_value, mark_here, mark_there, mark_unlike, all_marked, one_unmarked}
+use Rattle.world.proofs.stepping.Noting.{never, marked_one, marked_to, marked_from, mark_word, mark_value, mark_here, mark_there, mark_unlike, all_marked, one_unmarked}
 use Rattle.read_op.proofs.Places.{watched_apart, cases_watched}
 
 -- ---- numbers
@@ -78,14 +78,14 @@ module _ (site : Ground) (task : Task) (is : IsIn site task) (s : Seen) (there :
         ] in (
           f.0,
           f.1,
-          ap (λ (z : Glance). z.word) b.2 ∙ mark_place (watched_word task s w) n b.0 ∙ f.2,
+          ap (λ (z : Glance). z.word) b.2 ∙ mark_word (watched_word task s w) n b.0 ∙ f.2,
           ap (λ (z : Glance). z.value) b.2 ∙ mark_value (watched_word task s w) n b.0 ∙ f.3,
           ap (λ (z : Glance). z.again) b.2 ∙ again,
         );
     to = λ o asked. (let t = c.to o asked in (
       marked_one (watched_word task s w) n t.0,
       marked_to (watched_word task s w) n notes t.0 t.1,
-      mark_place (watched_word task s w) n t.0 ∙ t.2,
+      mark_word (watched_word task s w) n t.0 ∙ t.2,
       mark_value (watched_word task s w) n t.0 ∙ t.3,
     ));
   }

@@ -89,8 +89,8 @@ module _ (lock x : ℕ) (n : Glance) where
   mark_word_by true = refl
   mark_word_by false = refl
 
-  pub mark_place : (marked_one lock x n).word ≡ n.word
-  mark_place = mark_word_by (eqb n.word lock && eqb n.value x)
+  pub mark_word : (marked_one lock x n).word ≡ n.word
+  mark_word = mark_word_by (eqb n.word lock && eqb n.value x)
 
   mark_value_by : (b : Bool) → (cond b (record n { again = true }) n).value ≡ n.value
   mark_value_by true = refl
