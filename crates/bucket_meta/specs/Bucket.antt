@@ -141,9 +141,9 @@ note_fingers_from = fingerprint_bits * rest_fingers
 abbrev pub lower_notes : ℕ
 lower_notes = 2
 
--- how many bits of w3 these fingerprints have: lower_notes * fingerprint_bits
+-- how many bits of w3 these fingerprints have
 abbrev pub note_fingers_bits : ℕ
-note_fingers_bits = 16
+note_fingers_bits = lower_notes * fingerprint_bits
 
 -- from which bit of w1 on the fingerprint of note slot 3 stands, behind that of note slot 2
 abbrev pub last_finger_from : ℕ
@@ -156,6 +156,13 @@ note_used i w1 = bit (note_used_from + i) w1
 -- 1 where this bucket is the probing bucket of the record that the note tells of
 abbrev pub note_member : ℕ → ℕ → ℕ
 note_member i w1 = bit (note_member_from + i) w1
+
+-- the side of a note is what this bit says: that of a record of which this bucket is the home, and that of one of which it is the probing bucket
+abbrev pub home_side : ℕ
+home_side = 0
+
+abbrev pub probing_side : ℕ
+probing_side = 1
 
 -- which of the two stash buckets the note names
 abbrev pub note_index : ℕ → ℕ → ℕ
@@ -171,13 +178,13 @@ note_finger i w1 w3 =
 abbrev pub overflow_count : ℕ → ℕ
 overflow_count w1 = bits count_from count_bits w1
 
--- from which bit of w1 on no field has a bit: last_finger_from + fingerprint_bits
+-- from which bit of w1 on no field has a bit, behind the fingerprint of note slot 3
 abbrev pub spare_from : ℕ
-spare_from = 61
+spare_from = last_finger_from + fingerprint_bits
 
--- how many bits these are, up to the word's last: 64 - spare_from
+-- how many bits these are, up to the word's last
 abbrev pub spare_bits : ℕ
-spare_bits = 3
+spare_bits = 64 - spare_from
 
 -- the bits of w1 that no field has
 abbrev pub spare_part : ℕ → ℕ

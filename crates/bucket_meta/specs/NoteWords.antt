@@ -37,9 +37,8 @@ freed_fingers w3 i =
 abbrev pub lowered_count : ℕ → ℕ
 lowered_count w1 = w1 - 2 ^ count_from
 
--- words x1 and x3 have note slot i free, and say of the other places, of the count and of the record slots what w1 and w3 say
-pub record FreesPlace (w1 w3 x1 x3 i : ℕ) : Type 0 where
-  pub free : note_used i x1 ≡ 0
+-- words x1 and x3 say of the places other than i, of the count and of the record slots what w1 and w3 say
+pub record KeepsOtherPlaces (w1 w3 x1 x3 i : ℕ) : Type 0 where
   pub used : (j : ℕ) → j < note_slots → j ≢ i → note_used j x1 ≡ note_used j w1
   pub members : (j : ℕ) → j < note_slots → j ≢ i → note_member j x1 ≡ note_member j w1
   pub indexes : (j : ℕ) → j < note_slots → j ≢ i → note_index j x1 ≡ note_index j w1
@@ -47,6 +46,11 @@ pub record FreesPlace (w1 w3 x1 x3 i : ℕ) : Type 0 where
   pub count : overflow_count x1 ≡ overflow_count w1
   pub slots : slots_part x1 ≡ slots_part w1
   pub records : slot_fingers_part x3 ≡ slot_fingers_part w3
+
+-- they have note slot i free, and say of the others what w1 and w3 say
+pub record FreesPlace (w1 w3 x1 x3 i : ℕ) : Type 0 where
+  pub free : note_used i x1 ≡ 0
+  pub others : KeepsOtherPlaces w1 w3 x1 x3 i
 
 -- ---- a note that is put in
 -- no note stands on note slot i
@@ -88,16 +92,6 @@ noted_fingers w3 i finger =
 -- the metadata word with one record more that stands in the stash without a note
 abbrev pub raised_count : ℕ → ℕ
 raised_count w1 = (w1 + 2 ^ count_from) % 2 ^ 64
-
--- words x1 and x3 say of the places other than i, of the count and of the record slots what w1 and w3 say
-pub record KeepsOtherPlaces (w1 w3 x1 x3 i : ℕ) : Type 0 where
-  pub used : (j : ℕ) → j < note_slots → j ≢ i → note_used j x1 ≡ note_used j w1
-  pub members : (j : ℕ) → j < note_slots → j ≢ i → note_member j x1 ≡ note_member j w1
-  pub indexes : (j : ℕ) → j < note_slots → j ≢ i → note_index j x1 ≡ note_index j w1
-  pub fingers : (j : ℕ) → j < note_slots → j ≢ i → note_finger j x1 x3 ≡ note_finger j w1 w3
-  pub count : overflow_count x1 ≡ overflow_count w1
-  pub slots : slots_part x1 ≡ slots_part w1
-  pub records : slot_fingers_part x3 ≡ slot_fingers_part w3
 
 -- they have note slot i used for a note of this side and stash bucket, and say of the others what w1 and w3 say
 pub record FillsPlace (w1 w3 x1 x3 i side index : ℕ) : Type 0 where

@@ -20,8 +20,8 @@ pub record IsNoteOn (w1 side i : ℕ) : Type 0 where
   pub used : note_used i w1 ≡ 1
   pub on_side : note_member i w1 ≡ side
 
--- the notes on the four note slots of a bucket that are its own home's (side 0), or those of the home that has
--- it as its probing bucket (side 1), where each place is used or not, is of a side, and has a fingerprint and an index
+-- the notes on the four note slots of a bucket that are its own home's (`home_side`), or those of the home that has
+-- it as its probing bucket (`probing_side`), where each place is used or not, is of a side, and has a fingerprint and an index
 abbrev pub notes_on : (used side_of finger_on index_on : ℕ → ℕ) → ℕ → List OverflowNote
 notes_on used side_of finger_on index_on side =
     flat_map (λ i. if (used i == 1) && (side_of i == side) then (finger_on i, index_on i) ∷ [] else []) (numbers_below note_slots)

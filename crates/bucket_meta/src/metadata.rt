@@ -2,11 +2,12 @@
 
 ghost use Rattle.std.specs.Prelude.{◌≡◌, ◌≢◌, ℕ, ◌+◌, ◌*◌, ◌^◌, ◌<◌, ◌≤◌, ◌↔◌, IfSome, IsNone, length, slice_index, slice_set, count_ones, if◌then◌else◌};
 ghost use Rattle.word_bits.specs.Bits.{bits, bit};
-ghost use Rattle.bucket_meta.specs.Bucket.{record_slots, note_slots, count_bits, spare_part};
+ghost use Rattle.hash_word.specs.Hash.{fingerprint_bits};
+ghost use Rattle.bucket_meta.specs.Bucket.{record_slots, note_slots, fingers_of_word, count_bits, spare_part};
 
 use crate::words::{
-    COUNT_BITS, COUNT_FROM, LAST_FINGER_FROM, NOTE_INDEX_FROM, NOTE_MEMBER_FROM, NOTE_SET_BITS,
-    NOTE_SLOTS, NOTE_USED_FROM, SET_BITS, SLOTS, UPPER_FINGERS_FROM,
+    COUNT_BITS, COUNT_FROM, FINGERS_OF_WORD, LAST_FINGER_FROM, NOTE_INDEX_FROM, NOTE_MEMBER_FROM,
+    NOTE_SET_BITS, NOTE_SLOTS, NOTE_USED_FROM, SET_BITS, SLOTS, UPPER_FINGERS_FROM,
 };
 use hash_word::FINGERPRINT_BITS;
 use word_bits::{bits_of, with_bits};
@@ -43,9 +44,9 @@ pub struct Meta {
     pub ghost four: { length ofps ≡ note_slots },
 }
 
-/// The word that eight bytes make, the first one lowest.
-fn word_of(bytes: [u8; 8]) -> u64
-    ensures { (i : ℕ) → i < 8 → bits (8 * i) 8 result ≡ slice_index bytes i }
+/// The word that eight fingerprints make, the first one lowest.
+fn word_of(bytes: [u8; FINGERS_OF_WORD as usize]) -> u64
+    ensures { (i : ℕ) → i < fingers_of_word → bits (fingerprint_bits * i) fingerprint_bits result ≡ slice_index bytes i }
 {
     u64::from_le_bytes(bytes)
 }

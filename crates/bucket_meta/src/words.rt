@@ -36,7 +36,13 @@ pub const NOTE_USED_FROM: u32 = MARKS_BITS;
 /// From which bit of it on a bit of each note slot says whether this bucket is the probing bucket of the note's record.
 pub const NOTE_MEMBER_FROM: u32 = NOTE_USED_FROM + NOTE_SET_BITS;
 
-/// From which bit of it on a bit of each note slot says which stash bucket the note names.
+/// The side of a note, as this bit says it: that of a record of which the bucket is the home.
+pub const HOME_SIDE: u8 = 0;
+
+/// That of a record of which it is the probing bucket.
+pub const PROBING_SIDE: u8 = 1;
+
+/// From which bit of the metadata word on a bit of each note slot says which stash bucket the note names.
 pub const NOTE_INDEX_FROM: u32 = NOTE_MEMBER_FROM + NOTE_SET_BITS;
 
 /// From which bit of it on the count of records without a note stands.
@@ -291,8 +297,8 @@ pub fn is_note_of_member(w1: u64, note_slot: u8) -> bool
     is_set(w1, NOTE_MEMBER_FROM + u32::from(note_slot))
 }
 
-/// Whether a note slot holds a note of this side: 0 for records whose home this bucket is, 1 for those whose probing bucket
-/// it is.
+/// Whether a note slot holds a note of this side: [`HOME_SIDE`] for records whose home this bucket is, [`PROBING_SIDE`] for those whose
+/// probing bucket it is.
 pub fn is_note_on(w1: u64, note_slot: u8, side: u64) -> bool
     requires { note_slot < note_slots }
     ensures { IsTrue result ↔ IsNoteOn w1 side note_slot }
@@ -344,7 +350,7 @@ pub fn has_no_note(w1: u64) -> bool
     bits_of(w1, NOTE_USED_FROM, u32::from(NOTE_SLOTS)) == 0
 }
 
-/// 1 where the note on a note slot is of a record whose probing bucket this is, else 0.
+/// The side of the note on a note slot.
 fn note_side_of(w1: u64, place: u8) -> u8
     requires { place < note_slots }
     ensures { result ≡ note_member place w1 }
@@ -379,8 +385,8 @@ pub fn must_visit(w1: u64, w3: u64, u1: u64, u3: u64, finger: u8, index: u8) -> 
     ensures { result ≡ must_visit w1 w3 u1 u3 finger index }
 {
     overflow_count_of(w1) > 0
-        || is_named(w1, w3, 0, finger, index)
-        || is_named(u1, u3, 1, finger, index)
+        || is_named(w1, w3, HOME_SIDE, finger, index)
+        || is_named(u1, u3, PROBING_SIDE, finger, index)
 }
 
 /// The lowest note slot with a note of this side, fingerprint and stash bucket.
@@ -490,8 +496,8 @@ fn with_note_finger(w1: u64, place: u8, finger: u8) -> u64
     }
 }
 
-/// The metadata word with a note put on a note slot: of this side, 0 for a record whose home this bucket is and 1 for one whose
-/// probing bucket it is, of this fingerprint and this stash bucket, 0 or 1. All that the note slot had is overwritten.
+/// The metadata word with a note put on a note slot: of this side, [`HOME_SIDE`] for a record whose home this bucket is and [`PROBING_SIDE`]
+/// for one whose probing bucket it is, of this fingerprint and this stash bucket, 0 or 1. All that the note slot had is overwritten.
 pub fn noted_mark(w1: u64, place: u8, side: u8, finger: u8, index: u8) -> u64
     ensures { result ≡ noted_mark w1 place side finger index }
 {

@@ -1,19 +1,14 @@
 -- A table by its records: each stands where it is looked for, and a key that stands twice has one value.
-use Rattle.std.specs.Prelude.{◌≡◌, ℕ, ◌+◌, ◌≤◌, Some, ◌⊎◌}
-use Rattle.hash_word.specs.Hash.{home_of, finger_of, probing_of}
+use Rattle.std.specs.Prelude.{◌≡◌, ℕ, ◌+◌, Some}
+use Rattle.hash_word.specs.Hash.{finger_of}
 use Rattle.bucket_meta.specs.Bucket.{mark_place, member}
 use Rattle.trace.specs.Events.{Words}
-use Rattle.image_layout.specs.Places.{Shape, bucket_at, homes}
+use Rattle.image_layout.specs.Places.{Shape, bucket_at}
+use Rattle.image_layout.specs.Standing.{StandsAt}
 use Rattle.segment_table.specs.Records.{key_hash}
 use Rattle.bucket_words.specs.Buckets.{value_in, finger_in}
 use Rattle.bucket_words.specs.Owners.{owner_of}
 use Rattle.bucket_words.specs.Hits.{Hit}
-
--- a record of key k with this membership bit may stand in bucket b: in its home without the bit, in its probing bucket with
--- it, or in the stash
-abbrev pub StandsAt : Shape → ℕ → ℕ → ℕ → Type 0
-StandsAt shape b k bit =
-    ((b ≡ home_of (key_hash shape k)) × (bit ≡ 0)) ⊎ ((b ≡ probing_of (home_of (key_hash shape k))) × (bit ≡ 1)) ⊎ (homes ≤ b)
 
 module _ (shape : Shape) (word : Words) where
   -- slot r of bucket b of segment s is one where a record of key k may stand, and has its fingerprint

@@ -7,6 +7,7 @@ ghost use Rattle.bucket_meta.specs.Bucket.{mark_place, fingers_place, rest_place
 ghost use Rattle.bucket_meta.specs.Marks.{SameButSlot};
 ghost use Rattle.hash_word.specs.Hash.{home_of, probing_of};
 ghost use Rattle.image_layout.specs.Places.{Shape, IsShape, bucket_at, key_at, value_at, words_of, block, homes, stash_buckets, buckets};
+ghost use Rattle.image_layout.specs.Standing.{StandsAt};
 ghost use Rattle.segment_table.specs.Rules.{RecordsStandRight, KeysHaveOneValue};
 ghost use Rattle.segment_table.specs.Records.{key_hash, HasAt};
 ghost use Rattle.segment_table.specs.Claims.{HasSoundFrame};
@@ -15,7 +16,7 @@ ghost use Rattle.bucket_words.specs.Slots.{SameSlot};
 ghost use Rattle.bucket_words.specs.Core.{core_of, core, SameCoresIn};
 ghost use Rattle.bucket_words.specs.Owners.{HasStructure, owner_of, home_at, SameOwners};
 ghost use Rattle.bucket_words.specs.Hits.{Hit, HasNone, HasNoneIn, HasOnly, find};
-ghost use Rattle.bucket_words.specs.Standing.{StandsAt, IsTable};
+ghost use Rattle.bucket_words.specs.Standing.{IsTable};
 ghost use Rattle.bucket_words.specs.TableChanges.{KeepsTable, ChangesKey, OnlyNewHit, IsReadyAt, ChangesSlot, IsLeft, KeepsOrLeaves, IsVacated, KeepsOrVacates};
 
 /// Which segment owns a hash depends on the structure alone, which no store to a bucket changes; and the owner is one of the

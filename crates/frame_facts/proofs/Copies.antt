@@ -2,12 +2,13 @@
 use Rattle.std.proofs.Common.{◌≡◌, ℕ, ◌<◌, Some, sym, subst, ◌∙◌}
 use Rattle.trace.specs.Events.{Words}
 use Rattle.image_layout.specs.Places.{Shape}
+use Rattle.image_layout.specs.Standing.{StandsAt}
 use Rattle.bucket_words.specs.Segments.{frame_of, InOneSide}
 use Rattle.bucket_words.specs.Records.{key_hash}
 use Rattle.bucket_words.specs.Pairs.{Holds, IsCopied}
 use Rattle.bucket_words.specs.Owners.{owner_of}
 use Rattle.bucket_words.specs.Hits.{Hit}
-use Rattle.bucket_words.specs.Standing.{StandsAt, IsTable}
+use Rattle.bucket_words.specs.Standing.{IsTable}
 use Rattle.frame_facts.specs.Copies.{HasCopies, IsSlotCopy}
 use Rattle.frame_facts.proofs.Records.{holds_of, hit_of}
 

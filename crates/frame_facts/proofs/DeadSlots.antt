@@ -4,6 +4,7 @@ use Rattle.image_layout.specs.Bucket.{record_slots}
 use Rattle.trace.specs.Events.{Words, with_word}
 use Rattle.trace.proofs.Replaced.{replaced_other}
 use Rattle.image_layout.specs.Places.{Shape, first_segment, root_word, head_at, bucket_at, buckets}
+use Rattle.image_layout.specs.Standing.{StandsAt}
 use Rattle.image_layout.proofs.Areas.{entry_before}
 use Rattle.bucket_words.specs.Segments.{frame_of, IsLive}
 use Rattle.bucket_words.specs.Records.{key_hash}
@@ -13,7 +14,7 @@ use Rattle.bucket_words.specs.Buckets.{value_in}
 use Rattle.bucket_words.specs.Slots.{SameSlot}
 use Rattle.bucket_words.specs.Owners.{SameOwners, owner_of}
 use Rattle.bucket_words.specs.Hits.{Hit}
-use Rattle.bucket_words.specs.Standing.{StandsAt, IsTable}
+use Rattle.bucket_words.specs.Standing.{IsTable}
 use Rattle.bucket_words.specs.TableChanges.{KeepsTable}
 use Rattle.bucket_words.proofs.Slots.{same_words}
 use Rattle.bucket_words.proofs.segments.Finding.{find_alike_any}

@@ -5,6 +5,7 @@ use Rattle.image_layout.specs.Bucket.{record_slots}
 use Rattle.trace.specs.Events.{Words, with_word}
 use Rattle.trace.proofs.Replaced.{replaced_other}
 use Rattle.image_layout.specs.Places.{Shape, IsShape, bucket_at, buckets, words_of}
+use Rattle.image_layout.specs.Standing.{StandsAt}
 use Rattle.bucket_words.specs.Segments.{frame_of, InOneSide}
 use Rattle.bucket_words.specs.Records.{key_hash}
 use Rattle.bucket_words.specs.Claims.{HasSoundFrame}
@@ -15,7 +16,7 @@ use Rattle.bucket_words.specs.Buckets.{value_in}
 use Rattle.bucket_words.specs.Slots.{SameSlot}
 use Rattle.bucket_words.specs.Owners.{IsStructure, owner_of}
 use Rattle.bucket_words.specs.Hits.{Hit, find}
-use Rattle.bucket_words.specs.Standing.{StandsAt, IsRight, IsTable}
+use Rattle.bucket_words.specs.Standing.{IsRight, IsTable}
 use Rattle.bucket_words.specs.TableChanges.{KeepsTable}
 use Rattle.bucket_words.proofs.Slots.{same_words}
 use Rattle.bucket_words.proofs.segments.Places.{not_structure, owner_within}

@@ -2,6 +2,7 @@ pub mod Places
 pub mod Faults
 pub mod Parts
 pub mod Keys
+pub mod Standing
 pub mod Volatile
 pub mod StateWord
 pub use Rattle.bucket_meta.specs.Bucket

@@ -116,6 +116,10 @@ state_word = 16
 abbrev pub entry_at : ℕ → ℕ → ℕ
 entry_at e i = block + 2 ^ e - 1 + i
 
+-- two to the power of one more than the greatest depth, written out: the areas of the largest image have one entry less
+abbrev pub most_power : ℕ
+most_power = 131072
+
 -- the first segment begins at the next whole block behind the areas
 abbrev pub first_segment : Shape → ℕ
 first_segment shape = (block + 2 ^ (shape.depth + 1) - 1 + (block - 1)) / block * block
@@ -138,11 +142,15 @@ header_word shape s = head_at shape s + header_number
 abbrev pub link_word : Shape → ℕ → ℕ
 link_word shape s = head_at shape s + link_number
 
+-- where the segments of the largest image begin, written out
+abbrev pub first_segment_of_largest : ℕ
+first_segment_of_largest = 131104
+
 -- how many words the image has
 abbrev pub words_of : Shape → ℕ
 words_of shape = head_at shape shape.segments
 
--- how many words an image has at most
+-- how many words an image has at most, written out
 abbrev pub most_words : ℕ
 most_words = 35258400
 

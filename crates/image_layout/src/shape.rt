@@ -2,7 +2,7 @@
 
 ghost use Rattle.std.specs.Prelude.{◌≡◌, ◌<◌, ◌≤◌, ◌+◌, ◌*◌, ◌%◌, ◌^◌, IfOk, IfErr};
 ghost use Rattle.image_layout.specs.Volatile.{counter_word, power_word, allocation_guard, directory_guard, segment_guard, all_words_of, guards_from};
-ghost use Rattle.image_layout.specs.Places.{IsShape, first_segment, words_of, entry_at, head_at, bucket_at, block, homes, stash_buckets, buckets, segment_words, most_words, most_segments, most_depth, most_kind};
+ghost use Rattle.image_layout.specs.Places.{IsShape, first_segment, words_of, entry_at, head_at, bucket_at, block, homes, stash_buckets, buckets, segment_words, most_power, first_segment_of_largest, most_words, most_segments, most_depth, most_kind};
 
 use bucket_meta::words::{BUCKET_WORDS, SLOTS};
 use hash_word::{HOMES, MOST_DEPTH};
@@ -61,6 +61,10 @@ pub const MOST_WORDS: u64 = FIRST_SEGMENT_OF_LARGEST + SEGMENT_WORDS * MOST_SEGM
 pub const MOST_KIND: u64 = 1;
 /// How many words behind the commit counter the power word stands.
 const POWER: u64 = 1;
+/// How many words behind it the guard of free slots for segments stands.
+const ALLOCATION: u64 = 2;
+/// How many words behind it the guard of the directory stands.
+const DIRECTORY: u64 = 3;
 /// How many words stand between those of the image and the guards of segments.
 const GUARDS_FROM: u64 = 4;
 
@@ -97,7 +101,7 @@ pub fn power_of_two(e: u64) -> u64
     requires { e ≤ most_depth + 1 }
     ensures is { result ≡ 2 ^ e }
     ensures some { 1 ≤ result }
-    ensures most { result ≤ 131072 }
+    ensures most { result ≤ most_power }
 {
     1 << e
 }
@@ -186,7 +190,7 @@ impl Geometry {
     /// The word where the segments begin: the next multiple of 32 behind the directory's areas.
     fn first_segment(&self) -> u64
         ensures is { result ≡ first_segment self.now }
-        ensures most { result ≤ 131104 }
+        ensures most { result ≤ first_segment_of_largest }
     {
         (BLOCK + power_of_two(self.depth + 1) - 1).next_multiple_of(BLOCK)
     }
@@ -199,7 +203,7 @@ impl Geometry {
         ensures from { block ≤ result }
         ensures within { result < first_segment self.now }
         ensures below { result < words_of self.now }
-        ensures most { result < 131104 }
+        ensures most { result < first_segment_of_largest }
     {
         let _ = &self.depth;
         BLOCK + power_of_two(e) - 1 + i
@@ -262,7 +266,7 @@ impl Geometry {
         ensures is { result ≡ allocation_guard self.now }
         ensures most { result ≤ most_words + 2 }
     {
-        self.words() + 2
+        self.words() + ALLOCATION
     }
 
     /// The word of the guard of the directory.
@@ -270,7 +274,7 @@ impl Geometry {
         ensures is { result ≡ directory_guard self.now }
         ensures most { result ≤ most_words + 3 }
     {
-        self.words() + 3
+        self.words() + DIRECTORY
     }
 
     /// The word of the guard of the segment in this slot.

@@ -1,8 +1,8 @@
 -- The hashes of an image by leaves: the leaves are the places of a directory of the greatest depth, and segments cover
 -- whole leaves, since none is deeper.
-use Rattle.std.specs.Prelude.{◌≡◌, ℕ, ◌+◌, ◌-◌, ◌*◌, ◌^◌, ◌<◌, ◌≤◌, ◌⊎◌, List, slice_index}
+use Rattle.std.specs.Prelude.{◌≡◌, ℕ, ◌+◌, ◌-◌, ◌*◌, ◌^◌, ◌<◌, ◌≤◌, List, slice_index}
 use Rattle.hash_word.specs.Hash.{index_of}
-use Rattle.sound_image.specs.Segments.{Frame, depth_at, pattern_at, IsLive, CoversHash, IsLiveFor, Owns, InOneSide, HasReadySide}
+use Rattle.sound_image.specs.Segments.{Frame, depth_at, pattern_at, IsLive, IsLiveFor}
 use Rattle.sound_image.specs.Directory.{SharesWell}
 use Rattle.segment_head.specs.declared.prefix.Prefix.{Prefix}
 
@@ -44,11 +44,6 @@ module _ (frame : Frame) where
   pub record AreSeen (greatest limit : ℕ) (nodes : List ℕ) : Type 0 where
     pub each : (t : ℕ) → t < limit → IsLive frame t → slice_index nodes (2 ^ depth_at frame t + pattern_at frame t) ≡ 1
     pub alone : (d p : ℕ) → d ≤ greatest → p < 2 ^ d → slice_index nodes (2 ^ d + p) ≡ 1 → HasPrefix limit d p
-
-  -- a segment owns what it covers, but for its 1-side where that has a ready side
-  pub record OwnsItsPart (s : ℕ) : Type 0 where
-    pub owns_or_splits_off : (h : ℕ) → h < 2 ^ 64 → CoversHash frame s h → Owns frame s h ⊎ (HasReadySide frame s × InOneSide frame s h)
-    pub gave_away : HasReadySide frame s → (h : ℕ) → h < 2 ^ 64 → InOneSide frame s h → Owns frame s h → ⊥
 
   -- live segments in slots below a limit are among the others as rule 2 wants them
   abbrev pub ShareWellBelow : ℕ → Type 0

@@ -3,13 +3,13 @@
 //! depth. One pass over the segments finds the depth of the deepest one over each leaf, and with it who owns what.
 
 ghost use Rattle.std.specs.Prelude.{◌≡◌, ◌≢◌, ℕ, ◌+◌, ◌-◌, ◌*◌, ◌/◌, ◌^◌, ◌<◌, ◌≤◌, ◌↔◌, IfOk, IfSome, IfNone, IsTrue, length, slice_index, slice_set};
-ghost use Rattle.image_layout.specs.Places.{words_of, root_word, entry_at, most_depth};
+ghost use Rattle.image_layout.specs.Places.{words_of, root_word, entry_at, most_power, most_depth};
 ghost use Rattle.sound_image.specs.Segments.{frame_of, IsLive};
-ghost use Rattle.sound_image.specs.Directory.{SharesWell};
+ghost use Rattle.sound_image.specs.Directory.{OwnsItsPart, SharesWell};
 ghost use Rattle.sound_image.specs.Rules.{HashesAreOwned};
 ghost use Rattle.image_rules.specs.Breach.{IsLeast};
 ghost use Rattle.image_rules.specs.Divided.{IsNumbered};
-ghost use Rattle.image_rules.specs.Leaves.{IsUnder, AreRaised, AreDeepest, AreSeen, HasTwin, OwnsItsPart, ShareWellBelow, IsFirstAtFault};
+ghost use Rattle.image_rules.specs.Leaves.{IsUnder, AreRaised, AreDeepest, AreSeen, HasTwin, ShareWellBelow, IsFirstAtFault};
 
 use crate::heads::{is_live, prefix_of, ready_side};
 use image_layout::{Geometry, HEADER, ROOT_WORD};
@@ -22,7 +22,7 @@ pub(crate) fn power(bits: u8) -> usize
     requires { bits ≤ most_depth + 1 }
     ensures is { result ≡ 2 ^ bits }
     ensures some { 1 ≤ result }
-    ensures most { result ≤ 131072 }
+    ensures most { result ≤ most_power }
 {
     1 << bits
 }

@@ -10,10 +10,16 @@ ghost use Rattle.image_rules.specs.Slots.{IsRecordSlot};
 use crate::record_slot::{RecordSlot, bucket_word, is_empty, is_taken};
 use crate::records::hash_in;
 use bucket_meta::words::{
-    MARK_PLACE, NOTE_SLOTS, REST_PLACE, SLOTS, has_no_note, is_note_on, note_finger_of,
+    self, MARK_PLACE, NOTE_SLOTS, REST_PLACE, SLOTS, has_no_note, is_note_on, note_finger_of,
     note_index_of, overflow_count_of,
 };
 use image_layout::{Geometry, HOMES, SECOND_STASH};
+
+/// The side of the notes that a bucket keeps of its own home.
+const HOME_SIDE: u64 = words::HOME_SIDE as u64;
+
+/// The side of those that it keeps of the home that has it as its probing bucket.
+const PROBING_SIDE: u64 = words::PROBING_SIDE as u64;
 
 /// An overflow note, or a record in the stash: its fingerprint, and its stash bucket.
 #[derive(Clone, Copy)]
@@ -171,13 +177,13 @@ fn count_notes(
     let own = count_on(
         meta_in(geometry, words, s, b, MARK_PLACE),
         meta_in(geometry, words, s, b, REST_PLACE),
-        0,
+        HOME_SIDE,
         sought,
     );
     let others = count_on(
         meta_in(geometry, words, s, beside, MARK_PLACE),
         meta_in(geometry, words, s, beside, REST_PLACE),
-        1,
+        PROBING_SIDE,
         sought,
     );
     own + others
@@ -286,8 +292,8 @@ pub(crate) fn has_exact_notes(geometry: &Geometry, words: &[u64], s: u64, b: u8)
     if unnoted + noted != count_stashed(geometry, words, s, b, None) {
         return false;
     }
-    if !are_named(geometry, words, s, b, b, 0) {
+    if !are_named(geometry, words, s, b, b, HOME_SIDE) {
         return false;
     }
-    are_named(geometry, words, s, b, hash_word::probing(b), 1)
+    are_named(geometry, words, s, b, hash_word::probing(b), PROBING_SIDE)
 }

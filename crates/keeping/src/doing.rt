@@ -8,8 +8,8 @@ ghost use Rattle.keeping.specs.Asked.{MayBeAsked, found_by};
 use op_core::{Ans, Want};
 use pm_trace::Device;
 
-/// Does the event that a caller wants, and answers it. A load is done before any other and by itself, since most events are loads, and what the
-/// others need is then got ready in a call of their own.
+/// Does the event that a caller wants, and answers it. A load is seen to here, since most events are loads, and what the others need is then got
+/// ready in a call of their own.
 #[inline]
 pub fn do_event(device: &mut Device, caller: u8, want: Want) -> Ans
     requires { MayBeAsked caller want device.old }

@@ -9,7 +9,7 @@ ghost use Rattle.sound_image.specs.Segments.{frame_of, IsClean};
 ghost use Rattle.session.specs.Left.{HasPairsOf};
 ghost use Rattle.restart_op.specs.Restart.{started_for};
 ghost use Rattle.restart_op.specs.Restarted.{HasStarted};
-ghost use Rattle.image_layout.specs.StateWord.{with_marker};
+ghost use Rattle.image_layout.specs.StateWord.{first_version, with_marker};
 ghost use Rattle.pm_trace.specs.Memory.{unfenced};
 ghost use Rattle.pm_trace.specs.TraceOf.{IsTraceOf};
 ghost use Rattle.keeping.specs.Kept.{IsTraced, image_of, marked_image, IsSettled, steps_for, swept_slots, IsRestartedFrom, IsClosedFrom};
@@ -40,7 +40,7 @@ pub fn restart<L: Ledger>(device: &mut Device, steps: &mut Steps<L>) -> Started
     requires settled { IsSettled device.old }
     requires fenced { unfenced 0 device.old ≡ 0 }
     ensures started { result ≡ started_for (slice_index device.old.newest state_word) }
-    ensures version { 1 ≤ result.version }
+    ensures version { first_version ≤ result.version }
     ensures steps { steps.new ≡ steps.old + 1 + swept_slots device.old.shape result }
     ensures words { HasStarted device.old.shape result (slice_index device.old.newest) (slice_index device.new.newest) }
     ensures pairs { (m : Map) → HasPairsOf device.old.shape (slice_index (image_of device.old)) m

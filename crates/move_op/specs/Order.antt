@@ -2,8 +2,7 @@
 use Rattle.std.specs.Prelude.{◌≡◌, ℕ, ◌<◌, ⊤, ◌⊎◌, Some, slice_index}
 use Rattle.bucket_meta.specs.Bucket.{allocated, member, record_slots, mark_place}
 use Rattle.bucket_meta.specs.Search.{lowest_free}
-use Rattle.bucket_meta.specs.Slots.{IsFull}
-use Rattle.part.specs.Room.{HasOnlyMembers}
+use Rattle.bucket_meta.specs.Slots.{IsFull, HasOnlyMembers}
 use Rattle.phase.specs.declared.kept.Kept.{Kept}
 use Rattle.phase.specs.Buckets.{words_in}
 use Rattle.move_op.specs.declared.step.Direction.{Direction}

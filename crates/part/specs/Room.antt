@@ -1,19 +1,11 @@
 -- Where no record can be moved to make room for another, by the first metadata words of four buckets; and where there is no room in a segment.
-use Rattle.std.specs.Prelude.{◌≡◌, ℕ, ◌+◌, ◌<◌, true, ◌⊎◌}
+use Rattle.std.specs.Prelude.{◌≡◌, ℕ, ◌+◌, true, ◌⊎◌}
 use Rattle.hash_word.specs.Hash.{home_of, probing_of, next_of, previous_of}
 use Rattle.trace.specs.Events.{Words}
 use Rattle.image_layout.specs.Places.{Shape, header_word, bucket_at, homes, second_stash}
 use Rattle.way.specs.Ways.{is_leading}
-use Rattle.bucket_meta.specs.Bucket.{allocated, member, record_slots, mark_place}
-use Rattle.bucket_meta.specs.Slots.{IsFull}
-
--- each record of a bucket stands there as in its probing bucket
-abbrev pub HasOnlyMembers : ℕ → Type 0
-HasOnlyMembers w1 = (slot : ℕ) → slot < record_slots → allocated slot w1 ≡ 1 → member slot w1 ≡ 1
-
--- none of them does
-abbrev pub HasNoMembers : ℕ → Type 0
-HasNoMembers w1 = (slot : ℕ) → slot < record_slots → allocated slot w1 ≡ 1 → member slot w1 ≡ 0
+use Rattle.bucket_meta.specs.Bucket.{mark_place}
+use Rattle.bucket_meta.specs.Slots.{IsFull, HasOnlyMembers, HasNoMembers}
 
 -- no record of the probing bucket is at home there, or the next bucket, to which it might move on, is full
 abbrev pub NothingMovesOn : ℕ → ℕ → Type 0

@@ -16,6 +16,11 @@ bucket_of hash Second = second_stash
 bucket_of hash Next = next_of (home_of hash)
 bucket_of hash Previous = previous_of (home_of hash)
 
+-- the number of a stash bucket among them; 0 for a bucket that is none
+abbrev pub stash_index : Role → ℕ
+stash_index Second = 1
+stash_index place = 0
+
 -- a third bucket: no key of this hash stands there, and room is made by it
 abbrev pub is_third : Role → Bool
 is_third Next = true

@@ -14,6 +14,9 @@ use trace::{LINE, line_of};
 /// The word of a bucket in which the key of its first record slot stands.
 const FIRST_KEY: u64 = words::FIRST_KEY as u64;
 
+/// How many words behind the key of a record its value stands.
+const VALUE_BEHIND_KEY: u64 = (words::FIRST_VALUE - words::FIRST_KEY) as u64;
+
 /// How many words a record has.
 const RECORD_WORDS: u64 = words::RECORD_WORDS as u64;
 
@@ -106,7 +109,7 @@ pub fn make_want(lock: u64, written: &Record, make: Make) -> Want
     let published = word_at(lock, written.published);
     match make {
         Make::Key => Want::Store(key, written.key),
-        Make::Value => Want::Store(key + 1, written.value),
+        Make::Value => Want::Store(key + VALUE_BEHIND_KEY, written.value),
         Make::Fingers => Want::Store(fingers, written.fingers),
         Make::FlushFingers => Want::Flush(line_of(fingers)),
         Make::FlushRecord => Want::Flush(line_of(key)),

@@ -2,7 +2,7 @@
 
 ghost use Rattle.std.specs.Prelude.{◌≡◌, ◌<◌, ◌≤◌};
 ghost use Rattle.image_layout.specs.Places.{buckets, most_words};
-ghost use Rattle.phase.specs.Places.{bucket_of, lock_word};
+ghost use Rattle.phase.specs.Places.{bucket_of, stash_index, lock_word};
 
 use hash_word::{home, next, previous, probing};
 use image_layout::{HOMES, SECOND_STASH};
@@ -42,7 +42,17 @@ pub fn bucket_of(place: Role, hash: u64) -> u8
     }
 }
 
-/// Its lock word, for a hash and the segment in a slot; the root's word where there is no such slot.
+/// The number of a stash bucket among them; 0 for a bucket that is none.
+pub fn stash_index(place: Role) -> u8
+    ensures { result ≡ stash_index place }
+{
+    match place {
+        Role::Second => 1,
+        Role::Home | Role::Probing | Role::First | Role::Next | Role::Previous => 0,
+    }
+}
+
+/// The lock word of a bucket, for a hash and the segment in a slot; the root's word where there is no such slot.
 pub fn lock_word(site: &Site, hash: u64, segment: u64, place: Role) -> u64
     ensures is { result ≡ lock_word site.now hash segment place }
     ensures most { result ≤ most_words }

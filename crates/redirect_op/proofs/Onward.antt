@@ -5,6 +5,7 @@ use Rattle.std.proofs.lemmas.Bool.{cases_lt, lt-ltb, le-ltb, le-leb, lt-leb}
 use Rattle.std.proofs.lemmas.Option.{none-some}
 use Rattle.trace.specs.Events.{Words}
 use Rattle.op_core.specs.declared.want.Want.{Want}
+use Rattle.hash_word.specs.Hash.{first_hash_of}
 use Rattle.segment_head.specs.HeadWord.{depth_in, pattern_in, state_in}
 use Rattle.image_layout.specs.Places.{Shape, block, root_word, entry_at, first_segment, most_depth}
 use Rattle.image_layout.proofs.Areas.{entry_before}
@@ -16,7 +17,6 @@ use Rattle.map_model.specs.declared.call.Call.{Call}
 use Rattle.world.specs.declared.site.Site.{Site}
 use Rattle.world.specs.Ground.{Ground, IsGround}
 use Rattle.world.specs.Views.{View, Has, IsLoose}
-use Rattle.world.specs.Kinds.{first_of_region}
 use Rattle.world.specs.areas.Areas.{header_word, link_word}
 use Rattle.world.specs.areas.Kinds.{reads, finds_entry, finds_begin, view_then}
 use Rattle.world.specs.areas.Asking.{MayBeNewest}
@@ -227,7 +227,7 @@ module _ (site : Ground) (ground : IsGround site) (here : Site) (call : Call) (o
     head_view = view_then shape (finds_begin slot) n v
 
     abbrev begin : ℕ
-    begin = first_of_region (depth_in n) (pattern_in n)
+    begin = first_hash_of (depth_in n) (pattern_in n)
 
     header_found : n ≡ words (header_word shape slot)
     header_found = found ∙ ap words (head_is (shape_of op) shape slot c.below.rooted.guarding.here_is.shape (new.says (Lives slot) lives).slot)
@@ -256,11 +256,11 @@ module _ (site : Ground) (ground : IsGround site) (here : Site) (call : Call) (o
     by_headers P p = subst (λ x. P gs.head x) header_there (subst (λ z. P z (words (header_word shape (words (entry_at (words root_word) index))))) stale_now p)
 
     leads_past : depth_in n ≤ depth_in gs.head → begin ≤ first_of gs
-    leads_past = by_headers (λ z x. depth_in x ≤ depth_in z → first_of_region (depth_in x) (pattern_in x) ≤ first_of_region (depth_in z) (pattern_in z))
+    leads_past = by_headers (λ z x. depth_in x ≤ depth_in z → first_hash_of (depth_in x) (pattern_in x) ≤ first_hash_of (depth_in z) (pattern_in z))
         (begins_before shape.depth ground.shape.depth frame new.structure.sound gs.segment index c.below.rooted.guarding.old.within stale_lives entry_there)
 
     leads_behind : depth_in gs.head < depth_in n → first_of gs < begin
-    leads_behind = by_headers (λ z x. depth_in z < depth_in x → first_of_region (depth_in z) (pattern_in z) < first_of_region (depth_in x) (pattern_in x))
+    leads_behind = by_headers (λ z x. depth_in z < depth_in x → first_hash_of (depth_in z) (pattern_in z) < first_hash_of (depth_in x) (pattern_in x))
         (begins_behind shape.depth ground.shape.depth frame new.structure.sound gs.segment index c.below.rooted.guarding.old.within stale_lives entry_there)
 
     keeps_head : GoesOn site (λ i. ⊤) v head_view

@@ -4,6 +4,7 @@ use Rattle.std.specs.Prelude.{⊤}
 use Rattle.std.proofs.lemmas.Option.{none-some, same_Some}
 use Rattle.op_core.specs.declared.want.Want.{Want}
 use Rattle.op_core.specs.declared.want.Want.TheVariants as want
+use Rattle.hash_word.specs.Hash.{first_hash_of}
 use Rattle.segment_head.specs.HeadWord.{depth_in, pattern_in}
 use Rattle.image_layout.specs.Places.{Shape, block, root_word, entry_at, first_segment, words_of}
 use Rattle.image_layout.proofs.Areas.{entry_before}
@@ -12,7 +13,7 @@ use Rattle.world.specs.declared.site.Site.{Site}
 use Rattle.world.specs.Ground.{Ground, IsGround}
 use Rattle.world.specs.Views.{View, Has, IsLoose}
 use Rattle.world.specs.Wants.{answer_to}
-use Rattle.world.specs.Kinds.{flushes, first_of_region, view_after}
+use Rattle.world.specs.Kinds.{flushes, view_after}
 use Rattle.world.specs.areas.Areas.{IsDirectoryWord}
 use Rattle.world.specs.areas.Kinds.{sets, settles, view_then}
 use Rattle.world.specs.areas.Asking.{MayAt}
@@ -165,7 +166,7 @@ module _ (site : Ground) (ground : IsGround site) (here : Site) (call : Call) (o
       side_behind : LeadsBehind site here g op.root index entered
       side_behind = (
         rooted.guarding.side,
-        first_of_region (side_depth_in g.head) (side_pattern_in g.head),
+        first_hash_of (side_depth_in g.head) (side_pattern_in g.head),
         record { named = inl (ap (λ i. (i, rooted.guarding.side)) (sym entry_here) ∙ ap (λ x. (w, x)) (sym side_here)); begins = rooted.guarding.ready.begins },
         side_later (depth_in g.head) (pattern_in g.head) (let a = rooted.deeper in let b = rooted.within in let c = ground.shape.depth in omega (arith, a, b, c)),
       )

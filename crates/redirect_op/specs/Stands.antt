@@ -1,6 +1,7 @@
 -- How the redirecting of entries fits the world: the kind of each event, and how the view of its caller stands in each step.
 use Rattle.std.specs.Prelude.{◌≡◌, ◌≢◌, ℕ, ◌^◌, ◌<◌, ◌≤◌, ◌⊎◌, ⊤, None, Some, List, [], ◌∷◌}
 use Rattle.trace.specs.Events.{HasLine}
+use Rattle.hash_word.specs.Hash.{first_hash_of}
 use Rattle.segment_head.specs.HeadWord.{depth_in, pattern_in}
 use Rattle.image_layout.specs.Places.{root_word, entry_at, words_of}
 use Rattle.frame_facts.specs.Facts.{Fact, Lives, Lacks, Deep, Begins}
@@ -8,7 +9,7 @@ use Rattle.map_model.specs.declared.call.Call.{Call}
 use Rattle.world.specs.declared.site.Site.{Site}
 use Rattle.world.specs.Ground.{Ground}
 use Rattle.world.specs.Views.{View, Has, IsLoose}
-use Rattle.world.specs.Kinds.{peeks, first_of_region}
+use Rattle.world.specs.Kinds.{peeks}
 use Rattle.world.specs.Attempts.{HoldsOnly}
 use Rattle.world.specs.areas.Areas.{Area, Directory, IsDirectoryWord, header_word}
 use Rattle.world.specs.areas.Kinds.{of_segment, of_directory, takes, gives, reads, finds_entry, finds_begin, settles}
@@ -58,7 +59,7 @@ IsBack ends.Guarded = ⊥
 
 -- the first hash of the stale segment
 abbrev pub first_of : Guarded → ℕ
-first_of g = first_of_region (depth_in g.head) (pattern_in g.head)
+first_of g = first_hash_of (depth_in g.head) (pattern_in g.head)
 
 module _ (site : Ground) (here : Site) (g : Guarded) where
   -- the guard of the directory is held beside that of the stale segment

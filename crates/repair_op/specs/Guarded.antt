@@ -9,7 +9,7 @@ use Rattle.world.specs.declared.site.Site.{Site}
 use Rattle.world.specs.Ground.{Ground, version_of}
 use Rattle.world.specs.Views.{View, Has}
 use Rattle.world.specs.areas.Areas.{Segment, Stale, header_word, link_word}
-use Rattle.world.specs.Kinds.{first_of_region}
+use Rattle.world.specs.Kinds.{first_hash_of}
 use Rattle.world.specs.areas.Repairing.{side_depth_in, side_pattern_in, HasStale}
 use Rattle.phase.specs.Giving.{IsQuiet}
 use Rattle.repair_op.specs.declared.guarded.Guarded.{Guarded}
@@ -48,7 +48,7 @@ module _ (site : Ground) (g : Guarded) where
     pub splits : state_in g.head ≡ splitting
     pub slot : side < site.shape.segments
     pub linked : Has (link_word site.shape g.segment, link_to side) v.known
-    pub begins : Has (Begins side (first_of_region (side_depth_in g.head) (side_pattern_in g.head))) v.facts
+    pub begins : Has (Begins side (first_hash_of (side_depth_in g.head) (side_pattern_in g.head))) v.facts
     pub lacks : Has (Lacks g.segment (side_depth_in g.head) (side_pattern_in g.head)) v.facts
 
   -- WHAT IT IS IN THE MIDDLE OF: nothing, or a split that has a ready side

@@ -12,7 +12,7 @@ use Rattle.segment_head.specs.HeadWord.{depth_in, pattern_in}
 use Rattle.image_layout.specs.Places.{Shape, bucket_at, homes, buckets}
 use Rattle.sound_image.specs.Records.{key_hash, word_in, slot_key}
 use Rattle.sound_image.specs.Records as image
-use Rattle.whole_segment.specs.Notes.{stashed_of}
+use Rattle.image_layout.specs.Standing.{stashed_of}
 use Rattle.bucket_words.specs.Buckets.{IsTaken, key_in}
 use Rattle.bucket_words.specs.Hits.{Hit}
 use Rattle.world.specs.Ground.{Ground}

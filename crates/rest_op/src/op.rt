@@ -1,8 +1,7 @@
 //! The machine, its steps, and how it ends.
 
-ghost use Rattle.std.specs.Prelude.{◌≡◌, ◌<◌, ◌≤◌, ◌↔◌, IsTrue};
+ghost use Rattle.std.specs.Prelude.{◌≡◌, ◌<◌, ◌≤◌};
 ghost use Rattle.image_layout.specs.Places.{buckets, note_words};
-ghost use Rattle.op_core.specs.declared.want.Want.TheVariants as want;
 ghost use Rattle.rest_op.specs.Steps.{is_cleared, clear_from, note_old, note_value, is_noted, note_from, note_word, due, clearing, noting, locks_from, given_to, cleared, begun, begun_in, wanted, taken, end_of};
 
 use crate::heads::rest_head;
@@ -83,7 +82,7 @@ impl RestOp {
         ensures { result ≡ is_cleared self.now bucket }
     {
         self.cleared[usize::from(bucket)]
-            != self.whole.buckets[BUCKET_WORDS * usize::from(bucket) + 1]
+            != self.whole.buckets[BUCKET_WORDS * usize::from(bucket) + MARK_PLACE]
     }
 
     /// The first such bucket from a number on; the number of all buckets where there is none.
@@ -187,7 +186,12 @@ impl RestOp {
     fn note_word(&self, number: u8) -> u64
         ensures { result ≡ note_word self.now number }
     {
-        self.whole.lock(number / 2 % HOMES) + if number % 2 == 0 { 1 } else { 3 }
+        self.whole.lock(number / 2 % HOMES)
+            + if number % 2 == 0 {
+                MARK_PLACE as u64
+            } else {
+                REST_PLACE as u64
+            }
     }
 
     /// The step in which a word of the notes is stored; where all are, the segment is opened.
@@ -202,13 +206,6 @@ impl RestOp {
     }
 
     // ---- the machine
-
-    /// Whether it wants nothing more.
-    pub fn wants_nothing(&self) -> bool
-        ensures { IsTrue result ↔ (wanted self.now ≡ want.Done) }
-    {
-        want_of(self) == Want::Done
-    }
 
     /// How it ended.
     pub fn end(&self) -> RestEnd

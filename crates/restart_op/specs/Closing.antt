@@ -23,7 +23,7 @@ use Rattle.world.specs.Attempts.{OwesNothing}
 use Rattle.restart_op.specs.declared.close.CloseStep.{CloseStep}
 use Rattle.restart_op.specs.declared.close.CloseStep.TheVariants.{Flush, Fence, Load, Store, FlushState, FenceState, Ended}
 use Rattle.restart_op.specs.declared.close.CloseOp.{CloseOp}
-use Rattle.restart_op.specs.Course.{Course, after_events, fences_of}
+use Rattle.restart_op.specs.Course.{Course, course_from, fences_of}
 use Rattle.restart_op.specs.Close.{lines_of, begun, wanted, taken}
 use Rattle.restart_op.specs.AtRest.{IsOpenStructure}
 use Rattle.restart_op.specs.Restarted.{site_of, world_of}
@@ -31,7 +31,7 @@ use Rattle.restart_op.specs.Restarted.{site_of, world_of}
 -- ---- a close and its events
 -- so many events of a close, over these words and after this trace
 abbrev pub close_after : (shape : Shape) → Words → Trace → ℕ → Course wanted taken shape
-close_after shape words trace n = after_events wanted taken shape n (record { words = words; trace = trace; op = begun shape })
+close_after shape words trace n = course_from wanted taken shape (begun shape) words trace n
 
 -- how many events all of it takes: each line's flush, a fence for each eight of them, and four for the state word
 abbrev pub events_of : Shape → ℕ

@@ -30,3 +30,7 @@ module _ {M : Type 0} (wanted : M → Want) (taken : M → Ans → M) (shape : S
   abbrev pub after_events : ℕ → Course → Course
   after_events zero c = c
   after_events (suc n) c = next (after_events n c)
+
+  -- after n events of a machine that begins so, over these words and after this trace
+  abbrev pub course_from : M → Words → Trace → ℕ → Course
+  course_from begun words trace n = after_events n (record { words = words; trace = trace; op = begun })

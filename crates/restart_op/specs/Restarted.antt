@@ -6,7 +6,7 @@ use Rattle.trace.specs.Events.{Words, Trace, HasLine, most_unfenced}
 use Rattle.trace.specs.Progress.{pending}
 use Rattle.trace.specs.Media.{IsPossible}
 use Rattle.image_layout.specs.Places.{Shape, IsShape, state_word, words_of, front_words}
-use Rattle.image_layout.specs.StateWord.{last_image_version}
+use Rattle.image_layout.specs.StateWord.{first_version, last_image_version}
 use Rattle.image_layout.specs.Volatile.{all_words_of}
 use Rattle.map_model.specs.Map.{Map}
 use Rattle.sound_image.specs.Image.{IsSoundImage}
@@ -26,12 +26,12 @@ use Rattle.restart_op.specs.declared.restart.RestartStep.{RestartStep}
 use Rattle.restart_op.specs.declared.restart.RestartStep.TheVariants.{Load, Ended}
 use Rattle.restart_op.specs.Restart.{started_for, begun, wanted, taken}
 use Rattle.restart_op.specs.Budget.{events_of_restart, left_in}
-use Rattle.restart_op.specs.Course.{Course, after_events}
+use Rattle.restart_op.specs.Course.{Course, course_from}
 use Rattle.restart_op.specs.AtRest.{IsCurrent, IsAtRest, IsOpenStructure, HasOwnRecords}
 
 -- a restart over these words and after this trace, after so many of its events
 abbrev pub restart_after : (shape : Shape) → Words → Trace → ℕ → Course wanted taken shape
-restart_after shape words trace n = after_events wanted taken shape n (record { words = words; trace = trace; op = begun shape })
+restart_after shape words trace n = course_from wanted taken shape (begun shape) words trace n
 
 -- a restart of an image with these words
 abbrev pub restarted : (shape : Shape) → List ℕ → ℕ → Course wanted taken shape
@@ -90,7 +90,7 @@ pub record IsStarted (shape : Shape) (words : List ℕ) : Type 0 where
   pub ended : (restarted_wholly shape words).op.step ≡ Ended (started_for (slice_index words state_word))
   pub wants_no_more : wanted (restarted_wholly shape words).op ≡ Done
   pub left : HasStarted shape (started_for (slice_index words state_word)) (slice_index words) (words_at_end shape words)
-  pub some : 1 ≤ (started_for (slice_index words state_word)).version
+  pub some : first_version ≤ (started_for (slice_index words state_word)).version
   pub fits : (started_for (slice_index words state_word)).version ≤ last_image_version
 
 abbrev pub EndsStarted : Type 0

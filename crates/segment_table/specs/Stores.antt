@@ -4,7 +4,7 @@ use Rattle.trace.specs.Events.{with_word}
 use Rattle.hash_word.specs.Hash.{index_of}
 use Rattle.segment_head.specs.HeadWord.{version_in, state_in, depth_in, pattern_in, free, normal, splitting, fresh, link_to}
 use Rattle.sound_image.specs.Places.{Shape, root_word, state_word, entry_at, header_word, link_word}
-use Rattle.sound_image.specs.StateWord.{image_version_in}
+use Rattle.sound_image.specs.StateWord.{first_version, image_version_in}
 use Rattle.sound_image.specs.Segments.{ImageWords, Frame, frame_of, image_version, state_at, depth_at, pattern_at, InOneSide, IsReadySide, HasReadySide}
 use Rattle.segment_table.specs.Claims.{Claims, named_for, IsSoundFrame}
 use Rattle.segment_table.specs.Media.{IsSteady}
@@ -128,7 +128,7 @@ module _ (frame : Frame) where
 
   -- THE STATE WORD of the image: its version is not 0, and no version byte is above it
   pub record Opens (x : ℕ) : Type 0 where
-    pub some : 1 ≤ image_version_in x
+    pub some : first_version ≤ image_version_in x
     pub past : (s : ℕ) → s < frame.segments → version_in (frame.header s) ≤ image_version_in x
 
 module _ (shape : Shape) (word : ImageWords) where

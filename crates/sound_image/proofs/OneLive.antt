@@ -42,8 +42,7 @@ module _ (frame : Frame) (f : IsOneLive frame) where
       record {
         not_deep = omega (arith, f.no_depth);
         alone = λ t below. absurd (omega (arith, below));
-        owns_or_splits_off = λ h fits covers. inl (owns_each h fits);
-        gave_away = λ side. absurd (not_splitting side);
+        part = record { owns_or_splits_off = λ h fits covers. inl (owns_each h fits); gave_away = λ side. absurd (not_splitting side) };
       }
 
   pub shares_well : (s : ℕ) → s < frame.segments → IsLive frame s → SharesWell frame s

@@ -1,7 +1,7 @@
 -- When two images agree but for locks and overflow parts: for the lock words of buckets, and for what their metadata
 -- say of notes and of counts.
 use Rattle.std.specs.Prelude.{◌≡◌, ℕ, ◌+◌, ◌<◌, ◌⊎◌}
-use Rattle.image_layout.specs.Bucket.{mark_place, rest_place, slots_part, slot_fingers_part}
+use Rattle.image_layout.specs.Bucket.{lock_place, mark_place, rest_place, slots_part, slot_fingers_part}
 use Rattle.image_layout.specs.Places.{Shape, bucket_at, buckets}
 use Rattle.sound_image.specs.Segments.{ImageWords}
 
@@ -13,7 +13,7 @@ module _ (shape : Shape) where
     pub part : ℕ
     pub segment : s < shape.segments
     pub bucket : b < buckets
-    pub which : (part ≡ 0) ⊎ (part ≡ 1) ⊎ (part ≡ 3)
+    pub which : (part ≡ lock_place) ⊎ (part ≡ mark_place) ⊎ (part ≡ rest_place)
     pub place : i ≡ bucket_at shape s b + part
 
   -- every other word is the same; of word 1 of a bucket the bits that say which slots are allocated and which records

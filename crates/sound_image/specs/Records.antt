@@ -1,11 +1,11 @@
 -- The records of an image, its pairs, and its overflow notes.
-use Rattle.std.specs.Prelude.{◌≡◌, ℕ, ◌+◌, ◌<◌, ◌==◌, ◌&&◌, Option, None, Some, List, [], ◌∷◌, ◌++◌, if◌then◌else◌}
-use Rattle.std.specs.List.{flat_map}
-use Rattle.hash_word.specs.Hash.{home_of, finger_of, probing_of}
+use Rattle.std.specs.Prelude.{◌≡◌, ℕ, ◌+◌, ◌<◌, Option, None, Some, List, ◌++◌}
+use Rattle.hash_word.specs.Hash.{probing_of}
 pub use Rattle.image_layout.specs.Keys.{key_hash}
-use Rattle.image_layout.specs.Notes.{OverflowNote, numbers_below, notes_on, AreExact}
-use Rattle.image_layout.specs.Bucket.{mark_place, rest_place, allocated, note_used, note_member, note_index, note_finger, overflow_count, record_slots}
-use Rattle.image_layout.specs.Places.{Shape, homes, buckets, bucket_at, key_at, value_at}
+use Rattle.image_layout.specs.Notes.{OverflowNote, notes_by, AreExact}
+use Rattle.image_layout.specs.Bucket.{mark_place, rest_place, allocated, overflow_count, record_slots, home_side, probing_side}
+use Rattle.image_layout.specs.Places.{Shape, buckets, bucket_at, key_at, value_at}
+use Rattle.image_layout.specs.Standing as standing
 use Rattle.sound_image.specs.Segments.{ImageWords, frame_of, Owns}
 
 module _ (shape : Shape) (word : ImageWords) where
@@ -50,26 +50,19 @@ module _ (shape : Shape) (word : ImageWords) where
   HasAt k (Some v) = HasPair k v
 
   -- OVERFLOW NOTES of a home bucket
-  -- the notes in bucket b of records that have it as their home (side 0) or as their probing bucket (side 1)
+  -- the notes in bucket b of records that have it as their home (`home_side`) or as their probing bucket (`probing_side`)
   abbrev pub notes_in : ℕ → ℕ → ℕ → List OverflowNote
-  notes_in s b side =
-      notes_on (λ i. note_used i (word_in s b mark_place)) (λ i. note_member i (word_in s b mark_place)) (λ i. note_finger i (word_in s b mark_place) (word_in s b rest_place))
-      (λ i. note_index i (word_in s b mark_place)) side
+  notes_in s b side = notes_by (word_in s b mark_place) (word_in s b rest_place) side
 
   abbrev pub notes_of : ℕ → ℕ → List OverflowNote
-  notes_of s b = notes_in s b 0 ++ notes_in s (probing_of b) 1
+  notes_of s b = notes_in s b home_side ++ notes_in s (probing_of b) probing_side
 
-  -- the records of home b in stash bucket k
+  -- the records of home b in stash bucket k, and in both
   abbrev pub stashed_in : ℕ → ℕ → ℕ → List OverflowNote
-  stashed_in s b k =
-      flat_map
-      (λ r. if (allocated r (word_in s (homes + k) mark_place) == 1) && (home_of (slot_hash s (homes + k) r) == b)
-      then (finger_of (slot_hash s (homes + k) r), k) ∷ []
-      else [])
-      (numbers_below record_slots)
+  stashed_in s b k = standing.stashed_in (λ c. word_in s c mark_place) (slot_key s) (key_hash shape) b k
 
   abbrev pub stashed_of : ℕ → ℕ → List OverflowNote
-  stashed_of s b = stashed_in s b 0 ++ stashed_in s b 1
+  stashed_of s b = standing.stashed_of (λ c. word_in s c mark_place) (slot_key s) (key_hash shape) b
 
   -- the notes and the count of home b are exact for its records in the stash
   abbrev pub HasExactNotes : ℕ → ℕ → Type 0

@@ -1,10 +1,11 @@
 -- The seven rules of a sound image, each said of single words: a rule says something of the words that it names,
 -- and nothing of others. So the word at which a rule is broken first is one word.
-use Rattle.std.specs.Prelude.{◌≡◌, ◌≢◌, ℕ, ◌+◌, ◌^◌, ◌<◌, ◌≤◌, ◌⊎◌}
-use Rattle.hash_word.specs.Hash.{home_of, finger_of, probing_of}
+use Rattle.std.specs.Prelude.{◌≡◌, ◌≢◌, ℕ, ◌+◌, ◌^◌, ◌<◌}
+use Rattle.hash_word.specs.Hash.{finger_of}
 use Rattle.image_layout.specs.Bucket.{mark_place, fingers_place, rest_place, lock_bit, member, finger}
 use Rattle.segment_head.specs.HeadWord.{version_in, normal}
 use Rattle.image_layout.specs.Places.{Shape, homes, buckets, root_word, state_word, entry_at, header_word, link_word, bucket_at, key_at}
+use Rattle.image_layout.specs.Standing.{StandsAt}
 use Rattle.sound_image.specs.Segments.{ImageWords, Frame, frame_of, image_version, IsClean, state_at, IsLive, Owns}
 use Rattle.sound_image.specs.Directory.{RootInRange, VersionInRange, HeadInRange, LinkInRange, HasOwners, SharesWell, EntryLeads, VersionIsPast}
 use Rattle.sound_image.specs.Records.{word_in, slot_key, slot_value, slot_hash, HasRecord, HasOwnRecord, HasExactNotes}
@@ -15,10 +16,7 @@ module _ (shape : Shape) (word : ImageWords) where
 
   -- a record stands in its home bucket without the membership bit, in its probing bucket with it, or in the stash
   abbrev pub InItsBucket : ℕ → ℕ → ℕ → Type 0
-  InItsBucket s b r =
-      ((b ≡ home_of (slot_hash shape word s b r)) × (member r (word_in shape word s b mark_place) ≡ 0))
-      ⊎ ((b ≡ probing_of (home_of (slot_hash shape word s b r))) × (member r (word_in shape word s b mark_place) ≡ 1))
-      ⊎ (homes ≤ b)
+  InItsBucket s b r = StandsAt shape b (slot_key shape word s b r) (member r (word_in shape word s b mark_place))
 
   pub record StandsRight (s b r : ℕ) : Type 0 where
     pub bucket : InItsBucket s b r

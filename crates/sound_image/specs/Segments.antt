@@ -1,9 +1,10 @@
 -- Live segments, owners and ready sides, read from the headers and the directory of an image.
-use Rattle.std.specs.Prelude.{◌≡◌, ℕ, ◌+◌, ◌-◌, ◌*◌, ◌^◌, ◌<◌, ◌≤◌}
+use Rattle.std.specs.Prelude.{◌≡◌, ℕ, ◌+◌, ◌*◌, ◌<◌, ◌≤◌}
 use Rattle.hash_word.specs.Hash.{Covers}
 use Rattle.image_layout.specs.Places.{Shape, root_word, state_word, entry_at, header_word, link_word}
 use Rattle.image_layout.specs.StateWord.{image_version_in, IsMarked}
 use Rattle.segment_head.specs.HeadWord.{state_in, depth_in, pattern_in, splitting, HasLiveState, link_to}
+use Rattle.segment_head.specs.Prefixes.{one_side_down_to}
 
 -- the words of an image, by their numbers
 abbrev pub ImageWords : Type 0
@@ -78,7 +79,7 @@ module _ (frame : Frame) where
     pub slot : n < frame.segments
     pub live : IsLive n
     pub deeper : depth_at s < depth_at n
-    pub zeros : pattern_at n ≡ (2 * pattern_at s + 1) * 2 ^ (depth_at n - depth_at s - 1)
+    pub zeros : pattern_at n ≡ one_side_down_to (depth_at n) (depth_at s) (pattern_at s)
 
   abbrev pub HasReadySide : ℕ → Type 0
   HasReadySide s = (n : ℕ) × IsReadySide s n

@@ -1,6 +1,6 @@
 -- WHAT A SPLIT STORES, one store after another: to empty a slot, to link it, the two headers, and the copies.
 use Rattle.std.specs.Prelude.{ℕ, zero, suc, ◌+◌, ◌-◌, ◌*◌, ◌/◌, ◌%◌, ◌^◌, nat_lt, ◌==◌, ◌&&◌, ◌||◌, not, Bool, true, false, Option, None, Some, List, slice_index, if◌then◌else◌}
-use Rattle.bucket_meta.specs.Bucket.{first_key, lock_bit, without_lock, record_words}
+use Rattle.bucket_meta.specs.Bucket.{lock_place, mark_place, rest_place, first_key, lock_bit, without_lock, record_words}
 use Rattle.bucket_meta.specs.Search.{is_taken}
 use Rattle.segment_head.specs.HeadWord.{link_to}
 use Rattle.image_layout.specs.Places.{Shape, root_word, head_at, segment_words, buckets, block, header_number, link_number}
@@ -16,24 +16,24 @@ slot_word shape slot number = if nat_lt slot shape.segments then head_at shape s
 -- ---- a slot is emptied
 -- what a word is emptied to: a lock word to the free value of its version, and another to 0
 abbrev pub empty_value : List ℕ → ℕ → ℕ
-empty_value locks number = if nat_lt number block || nat_lt 0 (number % block) then 0 else without_lock (slice_index locks (number / block - 1))
+empty_value locks number = if nat_lt number block || nat_lt lock_place (number % block) then 0 else without_lock (slice_index locks (number / block - 1))
 
 -- the first word of a bucket that is emptied: its lock word where that is not free
 abbrev pub first_of : List ℕ → ℕ → ℕ
-first_of locks bucket = if nat_lt bucket buckets then (if lock_bit (slice_index locks bucket) == 0 then block * bucket + (block + 1) else block * bucket + block) else segment_words
+first_of locks bucket = if nat_lt bucket buckets then (if lock_bit (slice_index locks bucket) == 0 then block * bucket + (block + mark_place) else block * bucket + block) else segment_words
 
 -- the word that is emptied after one
 abbrev pub after_empty : List ℕ → ℕ → ℕ
-after_empty locks number = if not (nat_lt number block) && nat_lt (number % block) (first_key - 1) then number + 1 else first_of locks (number / block)
+after_empty locks number = if not (nat_lt number block) && nat_lt (number % block) rest_place then number + 1 else first_of locks (number / block)
 
 -- ---- records are copied
 -- word m of a bucket of the side is copied, by the word itself and the first metadata word of the bucket
 abbrev pub is_copied_at : ℕ → ℕ → ℕ → Bool
-is_copied_at m word mark = if m == 0 then false else if nat_lt m first_key then not (word == 0) else is_taken mark ((m - first_key) / record_words)
+is_copied_at m word mark = if m == lock_place then false else if nat_lt m first_key then not (word == 0) else is_taken mark ((m - first_key) / record_words)
 
 -- a word of the side is copied, by its number
 abbrev pub is_copied : List ℕ → ℕ → Bool
-is_copied words number = is_copied_at (number % block) (slice_index words (number - block)) (slice_index words (number - number % block - (block - 1)))
+is_copied words number = is_copied_at (number % block) (slice_index words (number - block)) (slice_index words (number - number % block - (block - mark_place)))
 
 -- the first one of n from a number on
 unfoldable pub seek : List ℕ → ℕ → ℕ → ℕ

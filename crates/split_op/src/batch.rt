@@ -38,8 +38,12 @@ pub(crate) const LINK_NUMBER: u16 = LINK as u16;
 pub const SLOT_WORDS: u16 = SEGMENT_WORDS as u16;
 /// The word of a bucket in which the key of its first record slot stands.
 pub(crate) const FIRST_KEY: u16 = words::FIRST_KEY as u16;
-/// The word before it, which is the last one of the metadata.
-const LAST_OF_METADATA: u16 = FIRST_KEY - 1;
+/// The words of a bucket before it, by their numbers in it: its lock word.
+pub(crate) const LOCK_PLACE: u16 = words::LOCK_PLACE as u16;
+/// Its metadata word.
+pub(crate) const MARK_PLACE: u16 = words::MARK_PLACE as u16;
+/// The last one of the metadata.
+const REST_PLACE: u16 = words::REST_PLACE as u16;
 /// How many words a record has.
 pub(crate) const RECORD_WORDS: u16 = words::RECORD_WORDS as u16;
 
@@ -77,7 +81,7 @@ fn empty_value(locks: &[u64; BUCKETS as usize], number: u16) -> u64
     requires { number < segment_words }
     ensures { result ≡ empty_value locks.now number }
 {
-    if number < BLOCK_WORDS || number % BLOCK_WORDS > 0 {
+    if number < BLOCK_WORDS || number % BLOCK_WORDS > LOCK_PLACE {
         0
     } else {
         without_lock(locks[usize::from(number / BLOCK_WORDS - 1)])
@@ -93,7 +97,7 @@ fn first_of(locks: &[u64; BUCKETS as usize], bucket: u16) -> u16
     } else if is_locked(locks[usize::from(bucket)]) {
         BLOCK_WORDS * bucket + BLOCK_WORDS
     } else {
-        BLOCK_WORDS * bucket + BLOCK_WORDS + 1
+        BLOCK_WORDS * bucket + BLOCK_WORDS + MARK_PLACE
     }
 }
 
@@ -102,7 +106,7 @@ fn after_empty(locks: &[u64; BUCKETS as usize], number: u16) -> u16
     requires { number < segment_words }
     ensures { result ≡ after_empty locks.now number }
 {
-    if number >= BLOCK_WORDS && number % BLOCK_WORDS < LAST_OF_METADATA {
+    if number >= BLOCK_WORDS && number % BLOCK_WORDS < REST_PLACE {
         number + 1
     } else {
         first_of(locks, number / BLOCK_WORDS)

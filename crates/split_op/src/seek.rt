@@ -4,7 +4,7 @@ ghost use Rattle.std.specs.Prelude.{◌≡◌, ◌<◌, ◌≤◌, slice_index};
 ghost use Rattle.image_layout.specs.Places.{segment_words};
 ghost use Rattle.split_op.specs.Batches.{is_copied, copied_from};
 
-use crate::batch::{FIRST_KEY, RECORD_WORDS, SLOT_WORDS};
+use crate::batch::{FIRST_KEY, LOCK_PLACE, MARK_PLACE, RECORD_WORDS, SLOT_WORDS};
 use bucket_meta::words::is_taken;
 use image_layout::{BLOCK_WORDS, WORDS_OF_BUCKETS};
 
@@ -15,13 +15,13 @@ pub(crate) fn is_copied(words: &[u64; WORDS_OF_BUCKETS as usize], number: u16) -
     ensures { result ≡ is_copied words.now number }
 {
     let place = number % BLOCK_WORDS;
-    if place == 0 {
+    if place == LOCK_PLACE {
         false
     } else if place < FIRST_KEY {
         words[usize::from(number.saturating_sub(BLOCK_WORDS))] != 0
     } else {
         is_taken(
-            words[usize::from((number - place).saturating_sub(BLOCK_WORDS - 1))],
+            words[usize::from((number - place).saturating_sub(BLOCK_WORDS - MARK_PLACE))],
             ((place - FIRST_KEY) / RECORD_WORDS) as u8,
         )
     }

@@ -2,20 +2,20 @@
 use Rattle.std.specs.Prelude.{ℕ, ◌+◌, ◌-◌, ◌^◌, ◌<◌, List, ◌++◌, slice_index}
 use Rattle.bucket_meta.specs.declared.metadata.Meta.{Meta}
 use Rattle.word_bits.specs.Bits.{bit}
-use Rattle.bucket_meta.specs.Bucket.{count_bits}
+use Rattle.bucket_meta.specs.Bucket.{count_bits, home_side, probing_side}
 use Rattle.bucket_meta.specs.Notes.{OverflowNote, how_often, notes_on, AreExact}
 
 -- the greatest number that a bucket's count can hold
 abbrev pub greatest_count : ℕ
 greatest_count = 2 ^ count_bits - 1
 
--- the notes of one side of a bucket: side 0 is of its own home, side 1 of the home that has it as its probing bucket
+-- the notes of one side of a bucket: `home_side` is of its own home, `probing_side` of the home that has it as its probing bucket
 abbrev pub notes_at : Meta → ℕ → List OverflowNote
 notes_at meta side = notes_on (λ i. bit i meta.used) (λ i. bit i meta.omember) (λ i. slice_index meta.ofps i) (λ i. bit i meta.oindex) side
 
 -- the notes of a home: those in its own bucket and those in its probing bucket
 abbrev pub notes_of : (home probe : Meta) → List OverflowNote
-notes_of home probe = notes_at home 0 ++ notes_at probe 1
+notes_of home probe = notes_at home home_side ++ notes_at probe probing_side
 
 -- the notes and the count of a home are exact for its records in the stash
 abbrev pub IsExactFor : (home probe : Meta) → List OverflowNote → Type 0

@@ -5,7 +5,7 @@ use Rattle.word_bits.specs.Bits.{bit}
 use Rattle.bucket_meta.specs.Bucket.{note_slots}
 use Rattle.bucket_meta.specs.Notes.{OverflowNote}
 
--- what a note slot holds: whether it is used, on which side its note is (0: of a record of this home, 1: of a
+-- what a note slot holds: whether it is used, on which side its note is (`home_side`: of a record of this home, `probing_side`: of a
 -- record whose probing bucket this is), and which stash bucket and fingerprint the note names
 pub record NoteSlot : Type 0 where
   pub used : ℕ

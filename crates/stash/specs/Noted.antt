@@ -1,6 +1,7 @@
 -- Records that are noted one after the other, each in the two buckets of its home.
 use Rattle.std.specs.Prelude.{◌≡◌, ◌≢◌, ℕ, ◌+◌, ◌<◌, List, [], ◌∷◌}
 use Rattle.bucket_meta.specs.declared.metadata.Meta.{Meta}
+use Rattle.bucket_meta.specs.Bucket.{home_side, probing_side}
 use Rattle.bucket_meta.specs.Notes.{OverflowNote}
 use Rattle.stash.specs.NoteSlots.{IsUnused, IsLowest, HoldsNowhere, NoteSlotBecomes, CountBecomes, filled_note_slot, IsBare}
 use Rattle.stash.specs.Segment.{Stashed, bucket, SameSlotsInAll}
@@ -10,8 +11,8 @@ use Rattle.image_layout.specs.Places.{homes}
 -- a home bucket and its probing bucket before and after a record is noted: the note takes the lowest unused note slot of
 -- the home bucket, else that of the probing bucket, else the home's count is one more
 pub record IsNotedIn (home probe home_after probe_after : Meta) (note : OverflowNote) : Type 0 where
-  pub in_home : (note_slot : ℕ) → IsLowest (IsUnused home) note_slot → NoteSlotBecomes home home_after note_slot (filled_note_slot 0 note) × (probe_after ≡ probe)
-  pub in_probe : HoldsNowhere (IsUnused home) → (note_slot : ℕ) → IsLowest (IsUnused probe) note_slot → NoteSlotBecomes probe probe_after note_slot (filled_note_slot 1 note) × (home_after ≡ home)
+  pub in_home : (note_slot : ℕ) → IsLowest (IsUnused home) note_slot → NoteSlotBecomes home home_after note_slot (filled_note_slot home_side note) × (probe_after ≡ probe)
+  pub in_probe : HoldsNowhere (IsUnused home) → (note_slot : ℕ) → IsLowest (IsUnused probe) note_slot → NoteSlotBecomes probe probe_after note_slot (filled_note_slot probing_side note) × (home_after ≡ home)
   pub counted : HoldsNowhere (IsUnused home) → HoldsNowhere (IsUnused probe) → CountBecomes home home_after (home.ocount + 1) × (probe_after ≡ probe)
 
 -- the 64 buckets before and after a record is noted in the two buckets of its home

@@ -2,6 +2,7 @@
 
 ghost use Rattle.std.specs.Prelude.{◌≡◌, ◌≢◌, ℕ, ◌+◌, ◌-◌, ◌^◌, ◌<◌, ◌↔◌, IsTrue, List, ◌∷◌, Contains};
 ghost use Rattle.word_bits.specs.Bits.{bit};
+ghost use Rattle.bucket_meta.specs.Bucket.{home_side, probing_side};
 ghost use Rattle.bucket_meta.specs.Notes.{OverflowNote, how_often};
 ghost use Rattle.stash.specs.Exact.{greatest_count, notes_at, notes_of, IsExactFor, IsNamed, IsNotedOrCounted};
 ghost use Rattle.image_layout.specs.Places.{stash_buckets};
@@ -9,12 +10,8 @@ ghost use Rattle.stash.specs.NoteSlots.{IsUnused, IsNoteAt, IsLowest, HoldsNowhe
 
 use crate::note_slots::{fill, free, note_slot_of, unused_note_slot};
 use bucket_meta::Meta;
+use bucket_meta::words::{HOME_SIDE, PROBING_SIDE};
 use image_layout::STASH_BUCKETS;
-
-/// The membership bit of a note in its home bucket.
-const OF_HOME: u8 = 0;
-/// The membership bit of a note in its probing bucket.
-const OF_PROBE: u8 = 1;
 
 /// The set of both stash buckets.
 const BOTH: u8 = (1 << STASH_BUCKETS) - 1;
@@ -29,27 +26,27 @@ pub fn note(home: &mut Meta, probe: &mut Meta, finger: u8, index: u8)
     requires room { home.old.ocount < greatest_count }
 
     ensures in_home { (note_slot : ℕ) → IsLowest (IsUnused home.old) note_slot
-        → NoteSlotBecomes home.old home.new note_slot (filled_note_slot 0 (finger, index)) × (probe.new ≡ probe.old) }
+        → NoteSlotBecomes home.old home.new note_slot (filled_note_slot home_side (finger, index)) × (probe.new ≡ probe.old) }
     ensures in_probe { HoldsNowhere (IsUnused home.old) → (note_slot : ℕ) → IsLowest (IsUnused probe.old) note_slot
-        → NoteSlotBecomes probe.old probe.new note_slot (filled_note_slot 1 (finger, index)) × (home.new ≡ home.old) }
+        → NoteSlotBecomes probe.old probe.new note_slot (filled_note_slot probing_side (finger, index)) × (home.new ≡ home.old) }
     ensures counted { HoldsNowhere (IsUnused home.old) → HoldsNowhere (IsUnused probe.old)
         → CountBecomes home.old home.new (home.old.ocount + 1) × (probe.new ≡ probe.old) }
     ensures exact { (stashed : List OverflowNote) → IsExactFor home.old probe.old stashed
         → IsExactFor home.new probe.new ((finger, index) ∷ stashed) }
 
     // What is said of other homes, and of the record slots, stays.
-    ensures home_before { notes_at home.new 1 ≡ notes_at home.old 1 }
-    ensures home_after { notes_at probe.new 0 ≡ notes_at probe.old 0 }
+    ensures home_before { notes_at home.new probing_side ≡ notes_at home.old probing_side }
+    ensures home_after { notes_at probe.new home_side ≡ notes_at probe.old home_side }
     ensures count_after { probe.new.ocount ≡ probe.old.ocount }
     ensures home_slots { SameSlots home.old home.new }
     ensures probe_slots { SameSlots probe.old probe.new }
 {
     if let Some(note_slot) = unused_note_slot(home) {
-        fill(home, note_slot, OF_HOME, finger, index);
+        fill(home, note_slot, HOME_SIDE, finger, index);
         return;
     }
     if let Some(note_slot) = unused_note_slot(probe) {
-        fill(probe, note_slot, OF_PROBE, finger, index);
+        fill(probe, note_slot, PROBING_SIDE, finger, index);
         return;
     }
     home.ocount += 1;
@@ -63,28 +60,28 @@ pub fn note(home: &mut Meta, probe: &mut Meta, finger: u8, index: u8)
 pub fn unnote(home: &mut Meta, probe: &mut Meta, finger: u8, index: u8)
     requires { IsNotedOrCounted home.old probe.old (finger, index) }
 
-    ensures in_home { (note_slot : ℕ) → IsLowest (IsNoteAt home.old 0 (finger, index)) note_slot
+    ensures in_home { (note_slot : ℕ) → IsLowest (IsNoteAt home.old home_side (finger, index)) note_slot
         → NoteSlotBecomes home.old home.new note_slot freed_note_slot × (probe.new ≡ probe.old) }
-    ensures in_probe { HoldsNowhere (IsNoteAt home.old 0 (finger, index))
-        → (note_slot : ℕ) → IsLowest (IsNoteAt probe.old 1 (finger, index)) note_slot
+    ensures in_probe { HoldsNowhere (IsNoteAt home.old home_side (finger, index))
+        → (note_slot : ℕ) → IsLowest (IsNoteAt probe.old probing_side (finger, index)) note_slot
         → NoteSlotBecomes probe.old probe.new note_slot freed_note_slot × (home.new ≡ home.old) }
-    ensures counted { HoldsNowhere (IsNoteAt home.old 0 (finger, index)) → HoldsNowhere (IsNoteAt probe.old 1 (finger, index))
+    ensures counted { HoldsNowhere (IsNoteAt home.old home_side (finger, index)) → HoldsNowhere (IsNoteAt probe.old probing_side (finger, index))
         → CountBecomes home.old home.new (home.old.ocount - 1) × (probe.new ≡ probe.old) }
     ensures exact { (rest : List OverflowNote) → IsExactFor home.old probe.old ((finger, index) ∷ rest)
         → IsExactFor home.new probe.new rest }
 
     // What is said of other homes, and of the record slots, stays.
-    ensures home_before { notes_at home.new 1 ≡ notes_at home.old 1 }
-    ensures home_after { notes_at probe.new 0 ≡ notes_at probe.old 0 }
+    ensures home_before { notes_at home.new probing_side ≡ notes_at home.old probing_side }
+    ensures home_after { notes_at probe.new home_side ≡ notes_at probe.old home_side }
     ensures count_after { probe.new.ocount ≡ probe.old.ocount }
     ensures home_slots { SameSlots home.old home.new }
     ensures probe_slots { SameSlots probe.old probe.new }
 {
-    if let Some(note_slot) = note_slot_of(home, OF_HOME, finger, index) {
+    if let Some(note_slot) = note_slot_of(home, HOME_SIDE, finger, index) {
         free(home, note_slot);
         return;
     }
-    if let Some(note_slot) = note_slot_of(probe, OF_PROBE, finger, index) {
+    if let Some(note_slot) = note_slot_of(probe, PROBING_SIDE, finger, index) {
         free(probe, note_slot);
         return;
     }
@@ -102,7 +99,7 @@ fn has_note(meta: &Meta, member: u8, finger: u8, index: u8) -> bool
 fn is_named(home: &Meta, probe: &Meta, finger: u8, index: u8) -> bool
     ensures { IsTrue result ↔ IsNamed home.now probe.now (finger, index) }
 {
-    has_note(home, OF_HOME, finger, index) || has_note(probe, OF_PROBE, finger, index)
+    has_note(home, HOME_SIDE, finger, index) || has_note(probe, PROBING_SIDE, finger, index)
 }
 
 /// 1 where a note of the home names this fingerprint and stash bucket `index`, else 0.

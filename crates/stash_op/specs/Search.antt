@@ -1,7 +1,7 @@
 -- What the loaded words say: where a stash bucket has a free slot, what is stored of the record, and what of its note.
 use Rattle.std.specs.Prelude.{◌==◌, ℕ, Bool, true, false, Option, None, Some, List, slice_index, if◌then◌else◌}
 use Rattle.hash_word.specs.Hash.{finger_of}
-use Rattle.bucket_meta.specs.Bucket.{mark_place, rest_place}
+use Rattle.bucket_meta.specs.Bucket.{mark_place, rest_place, home_side, probing_side}
 use Rattle.bucket_meta.specs.Search.{lowest_free}
 use Rattle.bucket_meta.specs.Marks.{inserted_mark, finger_place, with_finger}
 use Rattle.bucket_meta.specs.NoteWords.{unused_place, noted_mark, noted_fingers, raised_count}
@@ -10,6 +10,7 @@ use Rattle.phase.specs.declared.role.Role.TheVariants as place
 use Rattle.phase.specs.declared.kept.Buckets.{Buckets}
 use Rattle.phase.specs.declared.kept.Kept.{Kept}
 use Rattle.phase.specs.declared.make.Record.{Record}
+use Rattle.phase.specs.Places.{stash_index}
 use Rattle.phase.specs.Buckets.{words_in}
 use Rattle.phase.specs.Makes.{brought}
 use Rattle.stash_op.specs.declared.step.StashBucket.{StashBucket}
@@ -27,8 +28,7 @@ place_of Second = place.Second
 
 -- and its number among the stash buckets
 abbrev pub index_of : StashBucket → ℕ
-index_of First = 0
-index_of Second = 1
+index_of bucket = stash_index (place_of bucket)
 
 -- the bucket of a note among the buckets of a key
 abbrev pub note_place : NoteBucket → Role
@@ -37,8 +37,8 @@ note_place Probing = place.Probing
 
 -- and the side of the notes that it keeps of this home
 abbrev pub side_of : NoteBucket → ℕ
-side_of Home = 0
-side_of Probing = 1
+side_of Home = home_side
+side_of Probing = probing_side
 
 -- ---- the record
 -- the lowest free slot of a stash bucket

@@ -5,11 +5,11 @@ ghost use Rattle.stash_op.specs.Search.{place_of, index_of, note_place, side_of,
 
 use crate::step::{NoteBucket, NoteWords, Seen, StashBucket};
 use bucket_meta::words::{
-    BUCKET_WORDS, MARK_PLACE, REST_PLACE, finger_place, inserted_mark, lowest_free, noted_fingers,
-    noted_mark, raised_count, unused_place, with_finger,
+    BUCKET_WORDS, HOME_SIDE, MARK_PLACE, PROBING_SIDE, REST_PLACE, finger_place, inserted_mark,
+    lowest_free, noted_fingers, noted_mark, raised_count, unused_place, with_finger,
 };
 use hash_word::finger;
-use phase::{Buckets, Kept, Record, Role, brought};
+use phase::{Buckets, Kept, Record, Role, brought, stash_index};
 
 // ---- buckets
 
@@ -27,10 +27,7 @@ pub fn place_of(bucket: StashBucket) -> Role
 fn index_of(bucket: StashBucket) -> u8
     ensures { result ≡ index_of bucket }
 {
-    match bucket {
-        StashBucket::First => 0,
-        StashBucket::Second => 1,
-    }
+    stash_index(place_of(bucket))
 }
 
 /// The bucket of a note among the buckets of a key.
@@ -43,13 +40,13 @@ pub fn note_place(bucket: NoteBucket) -> Role
     }
 }
 
-/// The side of the notes that it keeps of this home: 0 in the home bucket, 1 in the probing bucket.
+/// The side of the notes that it keeps of this home.
 fn side_of(bucket: NoteBucket) -> u8
     ensures { result ≡ side_of bucket }
 {
     match bucket {
-        NoteBucket::Home => 0,
-        NoteBucket::Probing => 1,
+        NoteBucket::Home => HOME_SIDE,
+        NoteBucket::Probing => PROBING_SIDE,
     }
 }
 

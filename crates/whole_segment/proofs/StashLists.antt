@@ -8,7 +8,8 @@ use Rattle.bucket_meta.specs.Bucket.{allocated}
 use Rattle.bucket_meta.specs.Notes.{OverflowNote, numbers_below}
 use Rattle.stash.specs.Segment.{Stashed, of_home}
 use Rattle.stash.proofs.Buckets.{of_home-append}
-use Rattle.whole_segment.specs.Notes.{entry_of, entries_below, stash_entries, stashed_in, stashed_of}
+use Rattle.image_layout.specs.Standing.{stashed_in, stashed_of}
+use Rattle.whole_segment.specs.Notes.{entry_of, entries_below, stash_entries}
 
 alone : (entry : Stashed) (b : ℕ) → of_home (entry ∷ []) b ≡ cond (entry.0 == b) ((entry.1, entry.2) ∷ []) []
 alone entry b = elim (eqb_tells entry.0 b) [ inl same ↦ rw (same.0) refl | inr differs ↦ rw (differs.0) refl ]

@@ -12,7 +12,8 @@ use Rattle.stash.specs.Segment.{Stashed}
 use Rattle.whole_segment.specs.Slots.{set_below}
 use Rattle.whole_segment.specs.Records.{is_covered, covered_set}
 use Rattle.whole_segment.specs.Rebuilding.{no_overflow, all_noted, rebuilt}
-use Rattle.whole_segment.specs.Notes.{entry_of, entries_below, stash_entries, stashed_in, stashed_of}
+use Rattle.image_layout.specs.Standing.{stashed_in, stashed_of}
+use Rattle.whole_segment.specs.Notes.{entry_of, entries_below, stash_entries}
 
 -- lists of the numbers below another, by equal lists of each
 flat_same : {A : Type 0} (f g : ℕ → List A) (n : ℕ) → ((r : ℕ) → r < n → f r ≡ g r) → flat_map f (numbers_below n) ≡ flat_map g (numbers_below n)

@@ -2,7 +2,7 @@
 use Rattle.std.proofs.Common.{◌≡◌, ◌≢◌, ℕ, zero, suc, ◌+◌, ◌<◌, cond, bit_or, add-one, lit<, ◌⊎◌, ◌↔◌, Bool, true, false, not, ◌==◌, ◌&&◌, ◌||◌, refl, sym, ◌∙◌, subst, inl, inr, arith}
 use Rattle.std.proofs.lemmas.Bool.{cases_eq, eqb-true, eq-eqb}
 use Rattle.bucket_meta.specs.Bucket.{allocated, member}
-use Rattle.bucket_meta.specs.Slots.{IsFull}
+use Rattle.bucket_meta.specs.Slots.{IsFull, HasOnlyMembers, HasNoMembers}
 use Rattle.hash_word.specs.Hash.{probing_of, next_of, previous_of, top}
 use Rattle.word_bits.specs.Bits.{bit, mask}
 use Rattle.std.proofs.lemmas.Nat.Bits.{bit_at-lt, same_from_bits_below}
@@ -10,7 +10,7 @@ use Rattle.whole_segment.specs.Slots.{IsSetOf, set_below, set_of}
 use Rattle.whole_segment.specs.Records.{IsCovered, is_covered, covered_set}
 use Rattle.whole_segment.specs.Order.{bucket_at, slot_at, IsAt, is_at, is_below, StandsBefore, stands_before, own_home, own_position}
 use Rattle.whole_segment.specs.Mending.{IsSpoiled, is_spoiled, spoiled_set}
-use Rattle.whole_segment.specs.Room.{HasOnlyMembers, HasNoMembers, HasNoRoom, all_below, is_full, has_only_members, has_no_members, is_crowded, nothing_moves, has_no_room}
+use Rattle.whole_segment.specs.Room.{HasNoRoom, all_below, is_full, has_only_members, has_no_members, is_crowded, nothing_moves, has_no_room}
 use Rattle.whole_segment.proofs.marking.Sets.{IsSetBelow, none_yet, one_more, no_more, whole_set}
 
 -- a test that is true exactly where P holds

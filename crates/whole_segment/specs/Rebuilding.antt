@@ -2,6 +2,7 @@
 -- its home, else of its probing bucket, else in the count of its home; and words 1 and 3 of a bucket are made of that.
 use Rattle.std.specs.Prelude.{ℕ, ◌+◌, ◌==◌, Option, None, Some, List, [], ◌∷◌, if◌then◌else◌}
 use Rattle.hash_word.specs.Hash.{probing_of}
+use Rattle.bucket_meta.specs.Bucket.{home_side, probing_side}
 use Rattle.bucket_meta.specs.NoteWords.{first_made, third_made}
 use Rattle.stash.specs.NoteSlots.{NoteSlot, filled_note_slot, freed_note_slot}
 use Rattle.stash.specs.Segment.{Stashed}
@@ -38,8 +39,8 @@ changed all b o c = if c == b then o else all c
 
 -- ONE RECORD IS NOTED, by the note slots that are unused in its home and in its probing bucket
 abbrev pub noted_by : Option ℕ → Option ℕ → (ℕ → Overflow) → Stashed → ℕ → Overflow
-noted_by (Some k) other all entry = changed all entry.0 (with_note (all entry.0) k (filled_note_slot 0 (entry.1, entry.2)))
-noted_by None (Some k) all entry = changed all (probing_of entry.0) (with_note (all (probing_of entry.0)) k (filled_note_slot 1 (entry.1, entry.2)))
+noted_by (Some k) other all entry = changed all entry.0 (with_note (all entry.0) k (filled_note_slot home_side (entry.1, entry.2)))
+noted_by None (Some k) all entry = changed all (probing_of entry.0) (with_note (all (probing_of entry.0)) k (filled_note_slot probing_side (entry.1, entry.2)))
 noted_by None None all entry = changed all entry.0 (with_count (all entry.0))
 
 abbrev pub noted : (ℕ → Overflow) → Stashed → ℕ → Overflow

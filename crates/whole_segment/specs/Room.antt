@@ -1,17 +1,9 @@
 -- Where a segment has no room for a hash: its two buckets and the stash are full, and no record of the two can be moved.
-use Rattle.std.specs.Prelude.{◌≡◌, ℕ, zero, suc, ◌<◌, ◌⊎◌, Bool, true, not, ◌==◌, ◌&&◌, ◌||◌}
+use Rattle.std.specs.Prelude.{ℕ, zero, suc, ◌⊎◌, Bool, true, not, ◌==◌, ◌&&◌, ◌||◌}
 use Rattle.hash_word.specs.Hash.{probing_of, next_of, previous_of}
 use Rattle.bucket_meta.specs.Bucket.{allocated, member, record_slots}
-use Rattle.bucket_meta.specs.Slots.{IsFull}
+use Rattle.bucket_meta.specs.Slots.{IsFull, HasOnlyMembers, HasNoMembers}
 use Rattle.image_layout.specs.Places.{homes, second_stash}
-
--- each record of a bucket stands there as in its probing bucket, by the bucket's word 1
-abbrev pub HasOnlyMembers : ℕ → Type 0
-HasOnlyMembers w1 = (r : ℕ) → r < record_slots → allocated r w1 ≡ 1 → member r w1 ≡ 1
-
--- none of them does
-abbrev pub HasNoMembers : ℕ → Type 0
-HasNoMembers w1 = (r : ℕ) → r < record_slots → allocated r w1 ≡ 1 → member r w1 ≡ 0
 
 -- the two buckets of a home and both stash buckets are full, by word 1 of each bucket
 pub record IsCrowded (first : ℕ → ℕ) (home : ℕ) : Type 0 where

@@ -5,7 +5,8 @@ ghost use Rattle.bucket_meta.specs.Bucket.{mark_place, rest_place, record_slots}
 ghost use Rattle.bucket_meta.specs.Marks.{copied_mark, cleared_mark};
 ghost use Rattle.sound_image.specs.Segments.{ImageWords};
 ghost use Rattle.sound_image.specs.Records.{word_in, slot_key, key_hash, HasRecord};
-ghost use Rattle.whole_segment.specs.Notes.{stashed_of, HasExactNotes};
+ghost use Rattle.image_layout.specs.Standing.{stashed_of};
+ghost use Rattle.whole_segment.specs.Notes.{HasExactNotes};
 ghost use Rattle.whole_segment.specs.Slots.{IsSetOf, AreHalves};
 ghost use Rattle.image_layout.specs.Places.{Shape, buckets};
 ghost use Rattle.whole_segment.specs.Records.{Stands, IsCovered, covered_set, AreSides};

@@ -1,8 +1,7 @@
 //! Whether a segment has room for a hash.
 
 ghost use Rattle.std.specs.Prelude.{◌≡◌, ◌<◌, ◌⊎◌, ◌↔◌, IsTrue};
-ghost use Rattle.bucket_meta.specs.Slots.{IsFull};
-ghost use Rattle.whole_segment.specs.Room.{HasOnlyMembers, HasNoMembers};
+ghost use Rattle.bucket_meta.specs.Slots.{IsFull, HasOnlyMembers, HasNoMembers};
 ghost use Rattle.hash_word.specs.Hash.{home_of};
 ghost use Rattle.image_layout.specs.Places.{homes, buckets};
 

@@ -1,11 +1,12 @@
 -- What the holder of locks has to know of buckets to make a store there, said over the words that it knows.
 use Rattle.std.specs.Prelude.{◌≡◌, ◌≢◌, ◌≤◌, ℕ, ◌+◌, ◌<◌, ◌⊎◌, [], true, false, None, Some, List}
-use Rattle.bucket_meta.specs.Bucket.{mark_place, rest_place, allocated, member, overflow_count, record_slots, key_place, value_place, note_fingers_part}
+use Rattle.bucket_meta.specs.Bucket.{mark_place, rest_place, allocated, member, overflow_count, record_slots, key_place, value_place, home_side, probing_side, note_fingers_part}
 use Rattle.bucket_meta.specs.Notes.{AreExact}
 use Rattle.frame_facts.specs.Core.{core_of}
 use Rattle.hash_word.specs.Hash.{home_of, probing_of, finger_of}
 use Rattle.trace.specs.Events.{Words, with_word}
 use Rattle.image_layout.specs.Places.{Shape, bucket_at, value_at, block, homes, stash_buckets, buckets}
+use Rattle.image_layout.specs.Standing.{StandsAt}
 use Rattle.sound_image.specs.Records.{key_hash, word_in, notes_in, notes_of}
 use Rattle.map_model.specs.declared.call.Call.TheVariants.{Insert, Update, Remove}
 use Rattle.map_model.specs.declared.call.Call.{Call}
@@ -16,7 +17,6 @@ use Rattle.frame_facts.specs.Buckets.{IsTaken, value_in, finger_in}
 use Rattle.bucket_meta.specs.Marks.{SameButSlot, KeepsUpper}
 use Rattle.frame_facts.specs.HomeNotes.{IsUnnoted}
 use Rattle.frame_facts.specs.Hits.{Hit}
-use Rattle.frame_facts.specs.Standing.{StandsAt}
 use Rattle.frame_facts.specs.TableChanges.{IsReadyAt}
 use Rattle.world.specs.Ground.{Ground, IsUnder}
 use Rattle.world.specs.Views.{Move, Owed, View, Has, HasLock, IsLoose, IsFirm}
@@ -134,8 +134,8 @@ pub record MayTell (site : Ground) (v : View) : Type 0 where
 
 -- what a store to a metadata word of the home or the probing bucket of a home leaves of the notes of its two neighbours
 pub record KeepsNeighbours (shape : Shape) (word other : Words) (s b : ℕ) : Type 0 where
-  pub home_before : notes_in shape other s b 1 ≡ notes_in shape word s b 1
-  pub home_after : notes_in shape other s (probing_of b) 0 ≡ notes_in shape word s (probing_of b) 0
+  pub home_before : notes_in shape other s b probing_side ≡ notes_in shape word s b probing_side
+  pub home_after : notes_in shape other s (probing_of b) home_side ≡ notes_in shape word s (probing_of b) home_side
   pub count_after : overflow_count (word_in shape other s (probing_of b) mark_place) ≡ overflow_count (word_in shape word s (probing_of b) mark_place)
 
 -- such a store to word n of bucket c by one who owes a note

@@ -4,7 +4,7 @@ use Rattle.op_core.specs.declared.want.Want.{Want}
 use Rattle.op_core.specs.declared.want.Want.TheVariants.{Load, Store, Exchange, Flush, Fence, Draw, Power}
 use Rattle.trace.specs.Events.{line_of}
 use Rattle.bucket_meta.specs.Bucket.{lock_bit, locked}
-use Rattle.hash_word.specs.Hash.{first_hash_of}
+pub use Rattle.hash_word.specs.Hash.{first_hash_of}
 use Rattle.segment_head.specs.HeadWord.{version_in, depth_in, pattern_in, is_live}
 use Rattle.image_layout.specs.Places.{Shape, block, root_word, entry_at, header_word}
 use Rattle.image_layout.specs.Volatile.{counter_word, power_word}
@@ -223,13 +223,9 @@ with_draw call n v = record v {
   answer = None;
 }
 
--- the first hash of a region of this depth and pattern
-abbrev pub first_of_region : ℕ → ℕ → ℕ
-first_of_region depth pattern = first_hash_of depth pattern
-
 -- what a header tells who looks for a version: where it is live and has that version, it is current, and where its region begins
 abbrev pub says_current : Bool → ℕ → ℕ → List Fact
-says_current true s head = Current s ∷ Begins s (first_of_region (depth_in head) (pattern_in head)) ∷ []
+says_current true s head = Current s ∷ Begins s (first_hash_of (depth_in head) (pattern_in head)) ∷ []
 says_current false s head = []
 
 -- a view that met a header

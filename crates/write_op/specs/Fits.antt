@@ -22,6 +22,7 @@ use Rattle.phase.specs.declared.walk.Path.{Path}
 use Rattle.phase.specs.declared.make.Make.{Make}
 use Rattle.phase.specs.declared.make.Make.TheVariants.{FlushPublished, FencePublished}
 use Rattle.phase.specs.declared.held.Held.{Held}
+use Rattle.phase.specs.Places.{stash_index}
 use Rattle.phase.specs.Asked.{index, asked_by, IsAskedBefore, looked_by, loaded_by}
 use Rattle.phase.specs.AreWords.{AreWords}
 use Rattle.phase.specs.Keeps.{KeepsAll, HasNoThird}
@@ -50,7 +51,7 @@ use Rattle.write_op.specs.declared.step.Stage.{Stage}
 use Rattle.write_op.specs.declared.op.WriteOp.{WriteOp}
 use Rattle.part.specs.Outcomes.{Outcome, replied, again, stale, off}
 use Rattle.part.specs.Part.{IsKnownLive}
-use Rattle.write_op.specs.Search.{found, room_in, visits, record_at, stash_index, leaves_note, unnoted, has_finger}
+use Rattle.write_op.specs.Search.{found, room_in, visits, record_at, leaves_note, unnoted, has_finger}
 use Rattle.write_op.specs.Steps.{lock_of, kept_in}
 
 -- ---- the words of the buckets that are locked

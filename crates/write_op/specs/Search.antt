@@ -2,7 +2,7 @@
 -- stored of a record, and how the note of one is taken away that leaves the stash.
 use Rattle.std.specs.Prelude.{◌==◌, ℕ, Bool, true, false, Option, None, Some, List, slice_index, if◌then◌else◌}
 use Rattle.hash_word.specs.Hash.{finger_of}
-use Rattle.bucket_meta.specs.Bucket.{mark_place, rest_place, value_place}
+use Rattle.bucket_meta.specs.Bucket.{mark_place, rest_place, value_place, home_side, probing_side}
 use Rattle.bucket_meta.specs.Search.{lowest_with, lowest_free}
 use Rattle.bucket_meta.specs.Marks.{inserted_mark, member_mark, removed_mark, finger_place, with_finger}
 use Rattle.bucket_meta.specs.NoteWords.{note_place, freed_mark, freed_fingers, lowered_count}
@@ -16,6 +16,7 @@ use Rattle.phase.specs.declared.role.Role.{Role}
 use Rattle.phase.specs.declared.role.Role.TheVariants.{Home, Probing, First, Second}
 use Rattle.phase.specs.declared.kept.Buckets.{Buckets}
 use Rattle.phase.specs.declared.make.Record.{Record}
+use Rattle.phase.specs.Places.{stash_index}
 use Rattle.phase.specs.Buckets.{words_in}
 use Rattle.phase.specs.Makes.{brought}
 use Rattle.write_op.specs.declared.step.Task.{Task}
@@ -91,11 +92,6 @@ abbrev pub record_at : Task → Buckets → Spot → Record
 record_at task buckets spot = record_in task spot.place (words_in buckets spot.place) spot.slot
 
 -- ---- the note of a record that leaves the stash
--- a stash bucket, by its number among them
-abbrev pub stash_index : Role → ℕ
-stash_index Second = 1
-stash_index place = 0
-
 -- a remove from there leaves a note that is to be taken away
 abbrev pub leaves_note : Effect → Role → Bool
 leaves_note Remove First = true
@@ -110,8 +106,8 @@ freed_or place words None rest = rest
 -- the lowest note of it in the home bucket goes, else that in the probing bucket, and else one of those that are counted
 abbrev pub unnoted_by : List ℕ → List ℕ → ℕ → ℕ → NoteWords
 unnoted_by home probing finger index =
-    freed_or Home home (note_place (slice_index home mark_place) (slice_index home rest_place) 0 finger index)
-    (freed_or Probing probing (note_place (slice_index probing mark_place) (slice_index probing rest_place) 1 finger index)
+    freed_or Home home (note_place (slice_index home mark_place) (slice_index home rest_place) home_side finger index)
+    (freed_or Probing probing (note_place (slice_index probing mark_place) (slice_index probing rest_place) probing_side finger index)
     (record { place = Home; mark = lowered_count (slice_index home mark_place); fingers = slice_index home rest_place }))
 
 abbrev pub unnoted : ℕ → Seen → NoteWords

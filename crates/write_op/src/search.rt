@@ -4,19 +4,19 @@
 ghost use Rattle.std.specs.Prelude.{◌≡◌, ℕ, ◌<◌, IfSome, slice_index};
 ghost use Rattle.bucket_meta.specs.Bucket.{record_slots, mark_place, fingers_place, rest_place};
 ghost use Rattle.bucket_meta.specs.MetaWords.{IsMetaOf};
-ghost use Rattle.write_op.specs.Search.{spot_or, slot_in, found, room_in, visits, taken_mark, published_word, published_mark, record_in, record_at, stash_index, leaves_note, freed_or, unnoted_by, unnoted, has_finger};
+ghost use Rattle.write_op.specs.Search.{spot_or, slot_in, found, room_in, visits, taken_mark, published_word, published_mark, record_in, record_at, leaves_note, freed_or, unnoted_by, unnoted, has_finger};
 
 use crate::step::{Seen, Spot, Task};
 use balance::{Choice, choose};
 use bucket_meta::Meta;
 use bucket_meta::words::{
-    self, BUCKET_WORDS, FINGERS_PLACE, MARK_PLACE, REST_PLACE, finger_place, freed_fingers,
-    freed_mark, inserted_mark, lowered_count, lowest_free, lowest_with, member_mark, must_visit,
-    note_place, removed_mark, with_finger,
+    self, BUCKET_WORDS, FINGERS_PLACE, HOME_SIDE, MARK_PLACE, PROBING_SIDE, REST_PLACE,
+    finger_place, freed_fingers, freed_mark, inserted_mark, lowered_count, lowest_free,
+    lowest_with, member_mark, must_visit, note_place, removed_mark, with_finger,
 };
 use hash_word::finger;
 use map_model::Effect;
-use phase::{Buckets, Record, Role, brought};
+use phase::{Buckets, Record, Role, brought, stash_index};
 
 /// The word of a bucket in which the value of its first record slot stands.
 const FIRST_VALUE: u8 = words::FIRST_VALUE as u8;
@@ -177,16 +177,6 @@ pub struct NoteWords {
     pub fingers: u64,
 }
 
-/// The number of a stash bucket among them.
-fn stash_index(place: Role) -> u8
-    ensures { result ≡ stash_index place }
-{
-    match place {
-        Role::Second => 1,
-        Role::Home | Role::Probing | Role::First | Role::Next | Role::Previous => 0,
-    }
-}
-
 /// Whether a change in this bucket leaves a note that is to be taken away.
 pub fn leaves_note(effect: Effect, place: Role) -> bool
     ensures { result ≡ leaves_note effect place }
@@ -226,8 +216,14 @@ fn unnoted_by(
         mark: lowered_count(home[MARK_PLACE]),
         fingers: home[REST_PLACE],
     };
-    let in_probing = note_place(probing[MARK_PLACE], probing[REST_PLACE], 1, finger, index);
-    let in_home = note_place(home[MARK_PLACE], home[REST_PLACE], 0, finger, index);
+    let in_probing = note_place(
+        probing[MARK_PLACE],
+        probing[REST_PLACE],
+        PROBING_SIDE,
+        finger,
+        index,
+    );
+    let in_home = note_place(home[MARK_PLACE], home[REST_PLACE], HOME_SIDE, finger, index);
     let rest = freed_or(Role::Probing, probing, in_probing, counted);
     freed_or(Role::Home, home, in_home, rest)
 }

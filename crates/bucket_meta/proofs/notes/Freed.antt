@@ -161,13 +161,15 @@ module _ (w i : ℕ) (fits : w < 2 ^ 64) (low : i < 4) where
   pub frees_mark : (w3 : ℕ) → FreesPlace w w3 (freed_mark w i) w3 i
   frees_mark w3 = record {
     free = low_used (freed_mark w i) y low_part i low ∙ own_bit w fits i low;
-    used = λ j l n. low_used (freed_mark w i) y low_part j l ∙ other_bit w fits i (28 + j) low (omega (arith, l)) (λ e. n (omega (arith, e))) (λ e. omega (arith, e, l)) (λ e. omega (arith, e, l));
-    members = λ j l n. low_member (freed_mark w i) y low_part j l ∙ other_bit w fits i (32 + j) low (omega (arith, l)) (λ e. omega (arith, e, low)) (λ e. n (omega (arith, e))) (λ e. omega (arith, e, l));
-    indexes = λ j l n. low_index (freed_mark w i) y low_part j l ∙ other_bit w fits i (36 + j) low (omega (arith, l)) (λ e. omega (arith, e, low)) (λ e. omega (arith, e, low)) (λ e. n (omega (arith, e)));
-    fingers = λ j l n. fingers_by j w3 l n;
-    count = low_count (freed_mark w i) y low_part ∙ high_count y w (cleared_above w fits i low);
-    slots = low_slots (freed_mark w i) y low_part ∙ cleared_below w fits i low;
-    records = refl;
+    others = record {
+      used = λ j l n. low_used (freed_mark w i) y low_part j l ∙ other_bit w fits i (28 + j) low (omega (arith, l)) (λ e. n (omega (arith, e))) (λ e. omega (arith, e, l)) (λ e. omega (arith, e, l));
+      members = λ j l n. low_member (freed_mark w i) y low_part j l ∙ other_bit w fits i (32 + j) low (omega (arith, l)) (λ e. omega (arith, e, low)) (λ e. n (omega (arith, e))) (λ e. omega (arith, e, l));
+      indexes = λ j l n. low_index (freed_mark w i) y low_part j l ∙ other_bit w fits i (36 + j) low (omega (arith, l)) (λ e. omega (arith, e, low)) (λ e. omega (arith, e, low)) (λ e. n (omega (arith, e)));
+      fingers = λ j l n. fingers_by j w3 l n;
+      count = low_count (freed_mark w i) y low_part ∙ high_count y w (cleared_above w fits i low);
+      slots = low_slots (freed_mark w i) y low_part ∙ cleared_below w fits i low;
+      records = refl;
+    };
   }
 
 -- ---- the fingerprint of places 0 and 1
@@ -201,11 +203,13 @@ frees_place w1 w3 i fits low =
     let m = frees_mark w1 i fits low w3 in
     record {
       free = m.free;
-      used = m.used;
-      members = m.members;
-      indexes = m.indexes;
-      fingers = λ j l n. freed_finger w3 i j (freed_mark w1 i) low l n ∙ m.fingers j l n;
-      count = m.count;
-      slots = m.slots;
-      records = freed_records w3 i low;
+      others = record {
+        used = m.others.used;
+        members = m.others.members;
+        indexes = m.others.indexes;
+        fingers = λ j l n. freed_finger w3 i j (freed_mark w1 i) low l n ∙ m.others.fingers j l n;
+        count = m.others.count;
+        slots = m.others.slots;
+        records = freed_records w3 i low;
+      };
     }

@@ -3,11 +3,12 @@ use Rattle.std.proofs.Common.{◌≡◌, ℕ, ◌+◌, ◌-◌, ◌<◌, ◌≤�
 use Rattle.hash_word.specs.Hash.{home_of, probing_of}
 use Rattle.trace.specs.Events.{Words}
 use Rattle.image_layout.specs.Places.{Shape, homes, stash_buckets, buckets}
+use Rattle.image_layout.specs.Standing.{StandsAt}
 use Rattle.segment_table.specs.Records.{key_hash}
 use Rattle.bucket_words.specs.Core.{SameCoresIn}
 use Rattle.bucket_words.specs.Owners.{owner_of}
 use Rattle.bucket_words.specs.Hits.{HasNoneIn, find}
-use Rattle.bucket_words.specs.Standing.{IsTable, StandsAt}
+use Rattle.bucket_words.specs.Standing.{IsTable}
 use Rattle.bucket_words.proofs.segments.Places.{owner_within}
 use Rattle.bucket_words.proofs.segments.Finding.{find_alike}
 use Rattle.bucket_words.proofs.segments.Cores.{slots_of_cores, hit_of_cores}

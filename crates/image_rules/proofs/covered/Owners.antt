@@ -31,14 +31,14 @@ module _ (shape : Shape) (word : ImageWords) (i : IsDivided shape word) where
   shares s slot live = (i.hashes_owned (head_at shape s + 1)).head s slot refl live
 
   pub kept-Owns : (s h : ℕ) → s < shape.segments → h < 2 ^ 64 → IsLive frame s → CoversHash frame s h → (IsGivenAway frame s h → ⊥) → Owns frame s h
-  kept-Owns s h slot fits live covers kept = from ((shares s slot live).owns_or_splits_off h fits covers)
+  kept-Owns s h slot fits live covers kept = from ((shares s slot live).part.owns_or_splits_off h fits covers)
     where
       from : Owns frame s h ⊎ (HasReadySide frame s × InOneSide frame s h) → Owns frame s h
       from (inl owns) = owns
       from (inr gives) = absurd (kept (record { ready = gives.0; in_side = gives.1 }))
 
   pub Owns-kept : (s h : ℕ) → s < shape.segments → h < 2 ^ 64 → IsLive frame s → Owns frame s h → IsGivenAway frame s h → ⊥
-  Owns-kept s h slot fits live owns gives = (shares s slot live).gave_away gives.ready h fits gives.in_side owns
+  Owns-kept s h slot fits live owns gives = (shares s slot live).part.gave_away gives.ready h fits gives.in_side owns
 
 -- A READY SIDE is deeper than the segment, and no deeper than the image allows
 pub side_depth : (shape : Shape) (word : ImageWords) (i : IsNumbered shape word) (s n : ℕ) → IsReadySide (frame_of shape word) s n

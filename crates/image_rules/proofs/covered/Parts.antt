@@ -9,12 +9,12 @@ use Rattle.image_layout.specs.Places.{Shape, entry_at, head_at}
 use Rattle.image_layout.proofs.Areas.{entry_before}
 use Rattle.hash_word.specs.Hash.{top, Covers, index_of}
 use Rattle.sound_image.specs.Segments.{ImageWords, Frame, frame_of, depth_at, pattern_at, IsLive, CoversHash, IsLiveFor, Owns, InOneSide, HasReadySide}
-use Rattle.sound_image.specs.Directory.{HasOwners, SharesWell}
+use Rattle.sound_image.specs.Directory.{HasOwners, OwnsItsPart, SharesWell}
 use Rattle.sound_image.specs.Rules.{HashesAreOwned}
 use Rattle.segment_head.specs.declared.prefix.Prefix.{Prefix}
 use Rattle.image_rules.specs.Breach.{IsLeast}
 use Rattle.image_rules.specs.Divided.{IsNumbered, IsPrefixOf}
-use Rattle.image_rules.specs.Leaves.{IsUnder, AreDeepest, HasTwin, OwnsItsPart, ShareWellBelow, IsFirstAtFault}
+use Rattle.image_rules.specs.Leaves.{IsUnder, AreDeepest, HasTwin, ShareWellBelow, IsFirstAtFault}
 use Rattle.image_rules.proofs.covered.Tops.{top_of_top, one_fewer, covered_under, under_covered, under_below, leaf_hash, leaf_hash-index, leaf_hash-fits, index-below}
 
 module _ (frame : Frame) (greatest : ℕ) (most : greatest ≤ 16) (leaves : List ℕ) (are : AreDeepest frame greatest frame.segments leaves) where
@@ -196,15 +196,11 @@ module _ (frame : Frame) (s : ℕ) where
       record {
         not_deep = not_deep;
         alone = λ t less live depth pattern. first (record { t = t; below = less; live = live; same_depth = depth; same_pattern = pattern });
-        owns_or_splits_off = part.owns_or_splits_off;
-        gave_away = part.gave_away;
+        part = part;
       }
 
   pub SharesWell-first : SharesWell frame s → HasTwin frame s → ⊥
   SharesWell-first shares twin = shares.alone twin.t twin.below twin.live twin.same_depth twin.same_pattern
-
-  pub SharesWell-part : SharesWell frame s → OwnsItsPart frame s
-  SharesWell-part shares = record { owns_or_splits_off = shares.owns_or_splits_off; gave_away = shares.gave_away }
 
 -- THE LEAST WORD of rule 2
 module _ (shape : Shape) (word : ImageWords) (i : IsNumbered shape word) where

@@ -11,7 +11,7 @@ use Rattle.image_layout.specs.Places.{Shape, bucket_at, homes, buckets, block, w
 use Rattle.sound_image.specs.Records.{key_hash, word_in, slot_key}
 use Rattle.sound_image.specs.Records as image
 use Rattle.whole_segment.specs.Records.{Stands}
-use Rattle.whole_segment.specs.Notes.{stashed_of}
+use Rattle.image_layout.specs.Standing.{stashed_of}
 use Rattle.whole_segment.specs.Rebuilding.{first_with, third_with}
 use Rattle.whole_segment.proofs.Stashing.{stashed_same}
 use Rattle.whole_segment.proofs.rebuilding.Written.{made_keeps, made_notes}

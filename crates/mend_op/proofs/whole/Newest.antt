@@ -8,13 +8,13 @@ use Rattle.hash_word.specs.Hash.{Covers, home_of, probing_of}
 use Rattle.bucket_meta.specs.Bucket.{allocated}
 use Rattle.segment_head.specs.HeadWord.{state_in, depth_in, pattern_in, free, normal, splitting}
 use Rattle.image_layout.specs.Places.{bucket_at, homes, buckets, block, words_of_buckets, slots_of_key}
+use Rattle.image_layout.specs.Standing.{StandsAt}
 use Rattle.sound_image.specs.Segments.{frame_of}
 use Rattle.sound_image.specs.Records.{key_hash}
 use Rattle.whole_segment.specs.Order.{position_of}
 use Rattle.whole_segment.specs.Records.{Stands}
 use Rattle.bucket_words.specs.Hits.{Hit}
 use Rattle.bucket_words.specs.Owners.{owner_of}
-use Rattle.bucket_words.specs.Standing.{StandsAt}
 use Rattle.world.specs.Ground.{Ground, IsGround}
 use Rattle.world.specs.Views.{View, Has}
 use Rattle.world.specs.areas.Areas.{header_word}

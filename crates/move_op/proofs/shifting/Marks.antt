@@ -6,8 +6,8 @@ use Rattle.bucket_meta.specs.Marks.{SameButSlot}
 use Rattle.bucket_meta.proofs.Marks.{takes_slot, takes_slot_as_member}
 use Rattle.bucket_meta.proofs.fields.Uppers.{inserted_upper, member_upper, inserted_fits, member_fits}
 use Rattle.image_layout.specs.Places.{Shape}
+use Rattle.image_layout.specs.Standing.{StandsAt}
 use Rattle.sound_image.specs.Records.{key_hash}
-use Rattle.bucket_words.specs.Standing.{StandsAt}
 use Rattle.phase.specs.Places.{bucket_of}
 use Rattle.move_op.specs.declared.step.Direction.{Direction}
 use Rattle.move_op.specs.declared.step.Direction.TheVariants.{Forward, Backward}

@@ -5,9 +5,8 @@ use Rattle.std.proofs.lemmas.Nat.Bits.{bit_at-lt}
 use Rattle.std.proofs.lemmas.Option.{none-some}
 use Rattle.bucket_meta.specs.Bucket.{member}
 use Rattle.bucket_meta.specs.Search.{lowest_free}
-use Rattle.bucket_meta.specs.Slots.{IsFull}
+use Rattle.bucket_meta.specs.Slots.{IsFull, HasOnlyMembers, HasNoMembers}
 use Rattle.bucket_meta.proofs.Found.{none_free}
-use Rattle.part.specs.Room.{HasOnlyMembers, HasNoMembers}
 use Rattle.phase.specs.declared.kept.Kept.{Kept}
 use Rattle.phase.specs.Buckets.{words_in}
 use Rattle.move_op.specs.declared.step.Direction.{Direction}

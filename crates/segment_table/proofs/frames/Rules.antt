@@ -26,11 +26,11 @@ module _ (shape : Shape) (is_shape : IsShape shape) (word : ImageWords) where
     owns_claims : (s h : ℕ) → h < 2 ^ 64 → Owns frame s h → Claims frame s h
     owns_claims s h fits owns = record {
       live = owns.own;
-      kept = λ side inside. (shares s owns.own.slot owns.own.live).gave_away side h fits inside owns;
+      kept = λ side inside. (shares s owns.own.slot owns.own.live).part.gave_away side h fits inside owns;
     }
 
     claims_owns : (s h : ℕ) → h < 2 ^ 64 → Claims frame s h → Owns frame s h
-    claims_owns s h fits claims = elim ((shares s claims.live.slot claims.live.live).owns_or_splits_off h fits claims.live.covers) [
+    claims_owns s h fits claims = elim ((shares s claims.live.slot claims.live.live).part.owns_or_splits_off h fits claims.live.covers) [
       | inl owns ↦ owns
       | inr gave ↦ absurd (claims.kept gave.0 gave.1)
     ]
@@ -99,11 +99,13 @@ module _ (shape : Shape) (is_shape : IsShape shape) (word : ImageWords) where
     shares_back s slot live = record {
       not_deep = sound.not_deep s slot live;
       alone = λ t less live_t depth pattern. below t less (apart shape.depth is_shape.depth frame sound t s (omega (arith, less, slot)) live_t slot live depth pattern);
-      owns_or_splits_off = λ h fits covers. elim (claims_or_gave frame s h (record { slot = slot; live = live; covers = covers })) [
-        | inl claims ↦ inl (claimer_owns shape.depth is_shape.depth frame sound s h fits claims)
-        | inr gave ↦ inr gave
-      ];
-      gave_away = λ side h fits inside owns. (owner_claims shape.depth is_shape.depth frame sound s h fits owns).kept side inside;
+      part = record {
+        owns_or_splits_off = λ h fits covers. elim (claims_or_gave frame s h (record { slot = slot; live = live; covers = covers })) [
+          | inl claims ↦ inl (claimer_owns shape.depth is_shape.depth frame sound s h fits claims)
+          | inr gave ↦ inr gave
+        ];
+        gave_away = λ side h fits inside owns. (owner_claims shape.depth is_shape.depth frame sound s h fits owns).kept side inside;
+      };
     }
       where
         below : (t : ℕ) → t < s → t ≡ s → ⊥

@@ -17,7 +17,7 @@ use Rattle.bucket_words.specs.Buckets.{IsTaken, key_in}
 use Rattle.bucket_words.specs.Hits.{Hit}
 use Rattle.frame_facts.specs.Copies.{HasRecordOf, IsOfOneSide}
 use Rattle.map_model.specs.declared.call.Call.{Call}
-use Rattle.whole_segment.specs.Notes.{stashed_of}
+use Rattle.image_layout.specs.Standing.{stashed_of}
 use Rattle.world.specs.declared.site.Site.{Site}
 use Rattle.world.specs.Ground.{Ground, IsGround}
 use Rattle.world.specs.areas.Areas.{header_word}

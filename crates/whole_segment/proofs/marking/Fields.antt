@@ -2,10 +2,9 @@
 use Rattle.std.proofs.Common.{ℕ, ◌↔◌, sym, ◌∙◌}
 use Rattle.bucket_meta.specs.declared.metadata.Meta.{Meta}
 use Rattle.bucket_meta.specs.MetaWords.{IsMetaOf}
-use Rattle.bucket_meta.specs.Slots.{IsFull}
+use Rattle.bucket_meta.specs.Slots.{IsFull, HasOnlyMembers, HasNoMembers}
 use Rattle.bucket_meta.proofs.fields.FieldBits.{allocated_is, member_is}
 use Rattle.displace.specs.Members.{OnlyMembersBelow, NoMembersBelow}
-use Rattle.whole_segment.specs.Room.{HasOnlyMembers, HasNoMembers}
 
 module _ (m : Meta) (w1 w2 w3 : ℕ) (is : IsMetaOf m w1 w2 w3) where
   pub full_is : IsFull m.alloc ↔ IsFull w1

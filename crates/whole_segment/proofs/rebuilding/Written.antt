@@ -14,7 +14,8 @@ use Rattle.stash.specs.Segment.{Stashed}
 use Rattle.bucket_meta.proofs.Counts.{same_pieces}
 use Rattle.stash.proofs.Pieces.{piece}
 use Rattle.stash.proofs.Buckets.{of_home_at_most}
-use Rattle.whole_segment.specs.Notes.{entry_of, entries_below, stash_entries, stashed_of, HasExactNotes, KeepsRecords}
+use Rattle.image_layout.specs.Standing.{stashed_of}
+use Rattle.whole_segment.specs.Notes.{entry_of, entries_below, stash_entries, HasExactNotes, KeepsRecords}
 use Rattle.bucket_meta.specs.NoteWords.{four}
 use Rattle.whole_segment.specs.Rebuilding.{Overflow, no_overflow, first_with, third_with, rebuilt}
 use Rattle.whole_segment.proofs.StashLists.{entries_of_home}

@@ -1,14 +1,16 @@
 -- The kinds of step at the structure: guards, headers, links, the root, entries, and the words of slots that nobody else touches. For
 -- each: which event it is, and what the stepping view becomes. No kind of calls is among them.
-use Rattle.std.specs.Prelude.{◌==◌, ◌&&◌, ◌||◌, not, ℕ, suc, ◌+◌, ◌-◌, ◌*◌, ◌^◌, ◌<◌, nat_lt, nat_le, Bool, true, false, List, [], ◌∷◌, ◌++◌, filter, ⊤}
+use Rattle.std.specs.Prelude.{◌==◌, ◌&&◌, ◌||◌, not, ℕ, suc, ◌+◌, ◌*◌, ◌<◌, nat_lt, nat_le, Bool, true, false, List, [], ◌∷◌, ◌++◌, filter, ⊤}
 use Rattle.op_core.specs.declared.want.Want.{Want}
 use Rattle.op_core.specs.declared.want.Want.TheVariants.{Load, Store, Exchange, Fence}
+use Rattle.hash_word.specs.Hash.{first_hash_of}
 use Rattle.segment_head.specs.HeadWord.{version_in, state_in, depth_in, pattern_in, free, fresh, is_live}
+use Rattle.segment_head.specs.Prefixes.{one_side_down_to}
 use Rattle.image_layout.specs.Places.{Shape, block, root_word, first_segment, entry_at, head_at, segment_words}
 use Rattle.image_layout.specs.Volatile.{allocation_guard, directory_guard, segment_guard}
 use Rattle.frame_facts.specs.Facts.{Fact, Lives, Current, Rooted, Owns, Lacks, Deep, Begins, Used, Taken}
 use Rattle.world.specs.Views.{View}
-use Rattle.world.specs.Kinds.{with_store, without, first_of_region}
+use Rattle.world.specs.Kinds.{with_store, without}
 use Rattle.world.specs.areas.Areas.{Area, Segment, Stale, Side, Free, Whole, Allocation, Directory, header_word, link_word, all_but, is_side_at, is_of_segment, is_of_allocation, is_of_directory}
 pub use Rattle.world.specs.areas.Areas.{is_whole_at}
 use Rattle.world.specs.areas.Rows.{Row, goes_live, frees, renews, areas_by}
@@ -159,12 +161,12 @@ is_new_side depth pattern head = (state_in head == fresh) && ((depth_in head == 
 -- a header is that of a ready side of a segment of this depth and pattern: it is live and deeper, and its pattern is that of the 1-side, followed by zeros alone
 abbrev pub is_ready_side : ℕ → ℕ → ℕ → Bool
 is_ready_side depth pattern head =
-    is_live head && (nat_lt depth (depth_in head) && (pattern_in head == (2 * pattern + 1) * 2 ^ (depth_in head - depth - 1)))
+    is_live head && (nat_lt depth (depth_in head) && (pattern_in head == one_side_down_to (depth_in head) depth pattern))
 
 -- what the linked slot tells of a segment of this depth and pattern: with a ready side there, which begins where the 1-side does, the segment has
 -- none of its 1-side; else it has all of it
 abbrev pub told_by_side : Bool → ℕ → ℕ → ℕ → ℕ → List Fact
-told_by_side true p n depth pattern = Begins n (first_of_region (suc depth) (2 * pattern + 1)) ∷ Lacks p (suc depth) (2 * pattern + 1) ∷ []
+told_by_side true p n depth pattern = Begins n (first_hash_of (suc depth) (2 * pattern + 1)) ∷ Lacks p (suc depth) (2 * pattern + 1) ∷ []
 told_by_side false p n depth pattern = Owns p (suc depth) (2 * pattern + 1) ∷ []
 
 -- and what a link tells of it: that it has all of its 1-side, where no slot is linked
@@ -216,7 +218,7 @@ view_then shape (finds_link p depth pattern) n v = with_facts (told_by_link (n =
 view_then shape (finds_side p m depth pattern) n v =
     with_facts (told_by_side (is_ready_side depth pattern n) p m depth pattern) (with_area (is_new_side depth pattern n) (Side m) (header_word shape m) n v)
 view_then shape (finds_entry e i) n v = with_facts (Lives n ∷ []) (record v { known = (entry_at e i, n) ∷ v.known })
-view_then shape (finds_begin s) n v = with_facts (Begins s (first_of_region (depth_in n) (pattern_in n)) ∷ []) v
+view_then shape (finds_begin s) n v = with_facts (Begins s (first_hash_of (depth_in n) (pattern_in n)) ∷ []) v
 view_then shape (reads i) n v = record v { known = (i, n) ∷ v.known }
 view_then shape (sets i x) n v = with_store shape i n x v.planned v.moving v.owed v
 view_then shape (moves row s x) n v =

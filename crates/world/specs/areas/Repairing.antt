@@ -2,7 +2,7 @@
 -- side to it, to clear records and end that split, and to mend what is left and give the segment the image's version.
 use Rattle.std.specs.Prelude.{◌≡◌, ◌≢◌, ℕ, suc, ◌+◌, ◌*◌, ◌-◌, ◌/◌, ◌^◌, ◌<◌, ◌≤◌, ◌⊎◌, Bool, true, false, [], ◌∷◌}
 use Rattle.trace.specs.Events.{Words}
-use Rattle.hash_word.specs.Hash.{Covers}
+use Rattle.hash_word.specs.Hash.{first_hash_of, Covers}
 use Rattle.bucket_meta.specs.Bucket.{mark_place, lock_bit, record_slots, allocated, member}
 use Rattle.segment_head.specs.HeadWord.{version_in, state_in, depth_in, pattern_in, free, fresh, normal, splitting, link_to}
 pub use Rattle.segment_head.specs.SplitHeads.{side_depth_in, side_pattern_in}
@@ -16,7 +16,6 @@ use Rattle.frame_facts.specs.DeadSlots.{IsInSlot}
 use Rattle.world.specs.Ground.{Ground, version_of}
 use Rattle.world.specs.Views.{View, Has, IsLoose}
 use Rattle.world.specs.Holders.{KnowsWord}
-use Rattle.world.specs.Kinds.{first_of_region}
 use Rattle.world.specs.areas.Areas.{Segment, Stale, Side, Allocation, Directory, header_word, link_word}
 use Rattle.world.specs.areas.Rows.{HasNoSides, finishes, unmarks, frees, renews}
 use Rattle.world.specs.areas.Kinds.{sets, moves, settles}
@@ -76,7 +75,7 @@ pub record HasReadySideOf (site : Ground) (v : View) (s n g : ℕ) (word : Words
   pub into : IsSplittingInto site s word v n
   pub directory : Has Directory v.areas
   pub root : KnowsWord v root_word g
-  pub begins : Has (Begins n (first_of_region (side_depth_in (head_now site s word)) (side_pattern_in (head_now site s word)))) v.facts
+  pub begins : Has (Begins n (first_hash_of (side_depth_in (head_now site s word)) (side_pattern_in (head_now site s word)))) v.facts
   pub lacks : Has (lacks_side site s word) v.facts
 
 -- entry i is one of its 1-side, where the root is g deep
@@ -90,15 +89,15 @@ pub record MayRedirect (site : Ground) (v : View) : Type 0 where
   pub deeper : (s n g : ℕ) (word : Words) → HasReadySideOf site v s n g word → (words : Words) → MayBeNewest site v words → depth_in (head_now site s word) < g
   -- and its side begins behind its first hash
   pub later : (s n g : ℕ) (word : Words) → HasReadySideOf site v s n g word → (words : Words) → MayBeNewest site v words
-      → first_of_region (depth_in (head_now site s word)) (pattern_in (head_now site s word)) < first_of_region (side_depth_in (head_now site s word)) (side_pattern_in (head_now site s word))
+      → first_hash_of (depth_in (head_now site s word)) (pattern_in (head_now site s word)) < first_hash_of (side_depth_in (head_now site s word)) (side_pattern_in (head_now site s word))
   -- an entry that names a segment which begins no later than this one is to name the side
   pub enter : (s n g i t begin : ℕ) (word : Words) → HasReadySideOf site v s n g word → g ≤ site.shape.depth → IsEntryOfSide g (depth_in (head_now site s word)) (pattern_in (head_now site s word)) i
-      → KnowsWord v (entry_at g i) t → Has (Begins t begin) v.facts → begin ≤ first_of_region (depth_in (head_now site s word)) (pattern_in (head_now site s word))
+      → KnowsWord v (entry_at g i) t → Has (Begins t begin) v.facts → begin ≤ first_hash_of (depth_in (head_now site s word)) (pattern_in (head_now site s word))
       → MayAt site (sets (entry_at g i) n) v
   -- the fence after the last one: each of them is known to name a segment that begins behind this one's first hash
   pub settled : (s n g : ℕ) (word : Words) → HasReadySideOf site v s n g word
       → ((i : ℕ) → IsEntryOfSide g (depth_in (head_now site s word)) (pattern_in (head_now site s word)) i → (t : ℕ) × (begin : ℕ) × Has (entry_at g i, t) v.known
-      × ((y : ℕ) → Has (entry_at g i, y) v.dirty → ⊥) × Has (Begins t begin) v.facts × (first_of_region (depth_in (head_now site s word)) (pattern_in (head_now site s word)) < begin))
+      × ((y : ℕ) → Has (entry_at g i, y) v.dirty → ⊥) × Has (Begins t begin) v.facts × (first_hash_of (depth_in (head_now site s word)) (pattern_in (head_now site s word)) < begin))
       → MayAt site (settles (deep_side site s word ∷ lacks_side site s word ∷ [])) v
 
 -- ---- WHAT IS MENDED

@@ -24,6 +24,7 @@ use Rattle.world.specs.Wants.{word_of}
 use Rattle.part.specs.Asks.{IsWithin, PutsWord}
 use Rattle.phase.specs.declared.role.Role.{Role}
 use Rattle.phase.specs.declared.role.Role.TheVariants.{Home, Probing}
+use Rattle.phase.specs.Places.{stash_index}
 use Rattle.phase.specs.declared.walk.Walk.{Walk}
 use Rattle.phase.specs.declared.walk.Walk.TheVariants as walk
 use Rattle.phase.specs.declared.take.Take.{Take}
@@ -48,7 +49,7 @@ use Rattle.write_op.specs.declared.step.WriteStep.{WriteStep}
 use Rattle.write_op.specs.declared.step.WriteStep.TheVariants.{Way, Lock, Check, Fill, Count, Draw, Unnote, CountSpent, Give, Ended}
 use Rattle.write_op.specs.declared.step.WriteStep.TheVariants as step
 use Rattle.phase.proofs.Wanting.{number_of, take_small, give_small}
-use Rattle.write_op.specs.Search.{published_mark, taken_mark, stash_index, freed_or, unnoted}
+use Rattle.write_op.specs.Search.{published_mark, taken_mark, freed_or, unnoted}
 use Rattle.write_op.specs.Steps.{lock_of, note_wanted, wanted_in}
 use Rattle.phase.specs.AreWords.{AreWords}
 use Rattle.phase.proofs.Wording.{either_small}

@@ -59,7 +59,7 @@ module _ (f : Four) (finger index : ℕ) where
     x1 = freed_mark f.h1 i
 
     home_without : (x3 : ℕ) → FreesPlace f.h1 f.h3 x1 x3 i → IsWithout f note (record f { h1 = x1; h3 = x3 })
-    home_without x3 frees stashed exact = subst (λ c. AreExact (notes_by x1 x3 0 ++ notes_by f.p1 f.p3 1) c stashed) (sym frees.count)
+    home_without x3 frees stashed exact = subst (λ c. AreExact (notes_by x1 x3 0 ++ notes_by f.p1 f.p3 1) c stashed) (sym frees.others.count)
         (exact_without_note (notes_four f) (notes_by x1 x3 0 ++ notes_by f.p1 f.p3 1) (overflow_count f.h1) note stashed
         (more_left (notes_by f.h1 f.h3 0) (notes_by x1 x3 0) (notes_by f.p1 f.p3 1) note (one_less f.h1 f.h3 x1 x3 i frees t.low 0 finger index t)) exact)
 
@@ -71,8 +71,8 @@ module _ (f : Four) (finger index : ℕ) where
         let two = other_side f.h1 f.h3 x1 (freed_fingers f.h3 i) i b t.low 0 finger index t 1 apart in
         record {
           near = inl refl;
-          slots = m.slots;
-          records = b.records;
+          slots = m.others.slots;
+          records = b.others.records;
           first = record { before = one; after = refl; count = refl };
           second = record { before = two ∙ sym one; after = refl; count = refl };
           alone = λ same. home_without f.h3 m;
@@ -97,9 +97,9 @@ module _ (f : Four) (finger index : ℕ) where
         let two = other_side f.p1 f.p3 u1 (freed_fingers f.p3 i) i b t.low 1 finger index t 0 apart_back in
         record {
           near = inr refl;
-          slots = m.slots;
-          records = b.records;
-          first = record { before = refl; after = one; count = m.count };
+          slots = m.others.slots;
+          records = b.others.records;
+          first = record { before = refl; after = one; count = m.others.count };
           second = record { before = refl; after = two ∙ sym one; count = refl };
           alone = λ same. probing_without f.p3 m;
           both = probing_without (freed_fingers f.p3 i) b;

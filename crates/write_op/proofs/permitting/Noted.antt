@@ -68,10 +68,10 @@ module _ (w1 w3 x1 x3 i : ℕ) (f : FreesPlace w1 w3 x1 x3 i) (low : i < 4) wher
 
   others : (side j : ℕ) → j < 4 → j ≢ i → q side j ≡ p side j
   others side j l n =
-      ap (λ z. note_piece side z (note_member j x1) (note_finger j x1 x3) (note_index j x1)) (f.used j l n)
-      ∙ ap (λ z. note_piece side (note_used j w1) z (note_finger j x1 x3) (note_index j x1)) (f.members j l n)
-      ∙ ap (λ z. note_piece side (note_used j w1) (note_member j w1) z (note_index j x1)) (f.fingers j l n)
-      ∙ ap (λ z. note_piece side (note_used j w1) (note_member j w1) (note_finger j w1 w3) z) (f.indexes j l n)
+      ap (λ z. note_piece side z (note_member j x1) (note_finger j x1 x3) (note_index j x1)) (f.others.used j l n)
+      ∙ ap (λ z. note_piece side (note_used j w1) z (note_finger j x1 x3) (note_index j x1)) (f.others.members j l n)
+      ∙ ap (λ z. note_piece side (note_used j w1) (note_member j w1) z (note_index j x1)) (f.others.fingers j l n)
+      ∙ ap (λ z. note_piece side (note_used j w1) (note_member j w1) (note_finger j w1 w3) z) (f.others.indexes j l n)
 
   none_there : (side : ℕ) → q side i ≡ []
   none_there side = ap (λ z. note_piece side z (note_member i x1) (note_finger i x1 x3) (note_index i x1)) f.free

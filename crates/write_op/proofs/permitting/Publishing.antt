@@ -25,7 +25,7 @@ use Rattle.phase.specs.declared.role.Role.TheVariants.{Home, Probing, First, Sec
 use Rattle.phase.specs.declared.make.Record.{Record}
 use Rattle.phase.specs.declared.make.Make.{Make}
 use Rattle.phase.specs.declared.make.Make.TheVariants.{Publish}
-use Rattle.phase.specs.Places.{bucket_of}
+use Rattle.phase.specs.Places.{bucket_of, stash_index}
 use Rattle.phase.specs.Buckets.{words_in}
 use Rattle.phase.specs.Makes.{brought, published_at}
 use Rattle.phase.specs.Giving.{IsLocated, IsQuiet, IsOfHeld}
@@ -38,7 +38,7 @@ use Rattle.phase.proofs.locks.Storing.{prepares_record}
 use Rattle.phase.proofs.locks.Finding.{holders_find, prepared_nowhere}
 use Rattle.write_op.specs.declared.step.Task.{Task}
 use Rattle.write_op.specs.declared.step.Seen.{Seen}
-use Rattle.write_op.specs.Search.{taken_mark, published_word, published_mark, stash_index, leaves_note}
+use Rattle.write_op.specs.Search.{taken_mark, published_word, published_mark, leaves_note}
 use Rattle.write_op.specs.Steps.{lock_of}
 use Rattle.phase.specs.AreWords.{AreWords}
 use Rattle.write_op.specs.Fits.{loaded, prepared_by, prepared, owed, publish_by, publish_kind, HasAll, IsInserting, IsChosen, IsChanging, IsIn}

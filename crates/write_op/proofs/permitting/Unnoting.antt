@@ -21,7 +21,7 @@ use Rattle.world.specs.Holders.{KnowsBucket, KeepsNeighbours, TouchesNote}
 use Rattle.world.proofs.holding.Repaying.{may_repay}
 use Rattle.phase.specs.declared.role.Role.{Role}
 use Rattle.phase.specs.declared.role.Role.TheVariants.{Home, Probing, First, Second, Next, Previous}
-use Rattle.phase.specs.Places.{bucket_of}
+use Rattle.phase.specs.Places.{bucket_of, stash_index}
 use Rattle.phase.specs.Buckets.{words_in}
 use Rattle.phase.specs.Giving.{IsLocated, IsHeld, IsOfHeld}
 use Rattle.phase.specs.Making.{with_mark}
@@ -33,7 +33,7 @@ use Rattle.write_op.specs.declared.step.Task.{Task}
 use Rattle.write_op.specs.declared.step.Seen.{Seen}
 use Rattle.phase.specs.declared.note.NoteWord.{NoteWord}
 use Rattle.phase.specs.declared.note.NoteWord.TheVariants.{Mark, Fingers}
-use Rattle.write_op.specs.Search.{leaves_note, stash_index, unnoted, has_finger}
+use Rattle.write_op.specs.Search.{leaves_note, unnoted, has_finger}
 use Rattle.write_op.specs.Steps.{lock_of}
 use Rattle.phase.specs.AreWords.{AreWords}
 use Rattle.phase.proofs.Noting.{Four, notes_four, KeepsBeside}

@@ -4,13 +4,14 @@ use Rattle.std.proofs.lemmas.Bool.{cases_eq}
 use Rattle.bucket_meta.specs.Bucket.{allocated, member, finger, record_slots}
 use Rattle.trace.specs.Events.{Words, with_word}
 use Rattle.image_layout.specs.Places.{Shape, bucket_at, block, buckets}
+use Rattle.image_layout.specs.Standing.{StandsAt}
 use Rattle.segment_table.specs.Records.{key_hash}
 use Rattle.bucket_words.specs.Buckets.{IsTaken, key_in, value_in, finger_in}
 use Rattle.bucket_meta.specs.Marks.{SameButSlot}
 use Rattle.bucket_words.specs.Slots.{SameSlot}
 use Rattle.bucket_words.specs.Owners.{owner_of}
 use Rattle.bucket_words.specs.Hits.{Hit, HasOnly}
-use Rattle.bucket_words.specs.Standing.{IsTable, StandsAt}
+use Rattle.bucket_words.specs.Standing.{IsTable}
 use Rattle.bucket_words.specs.TableChanges.{KeepsTable, ChangesKey, IsReadyAt, OnlyNewHit, ChangesSlot}
 use Rattle.bucket_words.proofs.segments.Places.{other_word, this_word, owners_kept}
 use Rattle.bucket_words.proofs.segments.changes.OneSlot.{changed_table, elsewhere, now_taken, now_free, still, only_new}

@@ -5,11 +5,12 @@ use Rattle.std.proofs.lemmas.Option.{same_Some}
 use Rattle.bucket_meta.specs.Bucket.{record_slots}
 use Rattle.trace.specs.Events.{Words}
 use Rattle.image_layout.specs.Places.{Shape, bucket_at, buckets}
+use Rattle.image_layout.specs.Standing.{StandsAt}
 use Rattle.segment_table.specs.Records.{key_hash}
 use Rattle.bucket_words.specs.Buckets.{IsTaken, key_in, value_in}
 use Rattle.bucket_words.specs.Owners.{owner_of, SameOwners}
 use Rattle.bucket_words.specs.Hits.{Hit, find}
-use Rattle.bucket_words.specs.Standing.{IsTable, IsRight, StandsAt}
+use Rattle.bucket_words.specs.Standing.{IsTable, IsRight}
 use Rattle.bucket_words.specs.TableChanges.{OnlyNewHit, ChangesSlot}
 use Rattle.bucket_words.proofs.segments.Finding.{find_is, find_none, find_alike_any}
 

@@ -4,12 +4,13 @@ use Rattle.std.proofs.lemmas.Bool.{cases_eq}
 use Rattle.bucket_meta.specs.Bucket.{allocated, member, record_slots}
 use Rattle.trace.specs.Events.{Words, with_word}
 use Rattle.image_layout.specs.Places.{Shape, bucket_at, block, buckets}
+use Rattle.image_layout.specs.Standing.{StandsAt}
 use Rattle.segment_table.specs.Records.{key_hash}
 use Rattle.bucket_words.specs.Buckets.{key_in, value_in}
 use Rattle.bucket_words.specs.Slots.{SameSlot}
 use Rattle.bucket_words.specs.Owners.{SameOwners, owner_of}
 use Rattle.bucket_words.specs.Hits.{Hit}
-use Rattle.bucket_words.specs.Standing.{IsTable, StandsAt}
+use Rattle.bucket_words.specs.Standing.{IsTable}
 use Rattle.bucket_words.specs.TableChanges.{KeepsTable, IsVacated, KeepsOrVacates}
 use Rattle.bucket_words.proofs.segments.Places.{other_word, this_word, owners_kept}
 use Rattle.bucket_words.proofs.segments.Finding.{find_alike_any}

@@ -1,6 +1,7 @@
 -- An entry of the 1-side that names a segment which begins no later than the stale one is to name the ready side.
 use Rattle.std.proofs.Common.{◌≡◌, ℕ, suc, ◌+◌, ◌*◌, ◌≤◌, inl, sym, ap, subst, ◌∙◌}
 use Rattle.trace.specs.Events.{Words}
+use Rattle.hash_word.specs.Hash.{first_hash_of}
 use Rattle.segment_head.specs.HeadWord.{depth_in, pattern_in}
 use Rattle.image_layout.specs.Places.{Shape, root_word, entry_at}
 use Rattle.sound_image.specs.Segments.{frame_of, IsReadySide}
@@ -16,7 +17,6 @@ use Rattle.image_layout.proofs.Areas.{entry_before}
 use Rattle.world.specs.Ground.{Ground, IsGround, version_of, IsStructured}
 use Rattle.world.specs.Views.{View, Has}
 use Rattle.world.specs.Holders.{KnowsWord}
-use Rattle.world.specs.Kinds.{first_of_region}
 use Rattle.world.specs.areas.Areas.{header_word, link_word}
 use Rattle.world.specs.areas.Kinds.{sets}
 use Rattle.world.specs.areas.Asking.{MayBeNewest, MayStandBeside, MayAt, EndsNothing}
@@ -29,7 +29,7 @@ use Rattle.world.proofs.holders.repairing.Ready.{ready, small}
 
 module _ (site : Ground) (ground : IsGround site) (v : View) (s n g i t begin : ℕ) (word : Words) (has : HasReadySideOf site v s n g word)
     (entry : IsEntryOfSide g (depth_in (word (header_word site.shape s))) (pattern_in (word (header_word site.shape s))) i) (names : KnowsWord v (entry_at g i) t)
-    (begins : Has (Begins t begin) v.facts) (early : begin ≤ first_of_region (depth_in (word (header_word site.shape s))) (pattern_in (word (header_word site.shape s)))) where
+    (begins : Has (Begins t begin) v.facts) (early : begin ≤ first_hash_of (depth_in (word (header_word site.shape s))) (pattern_in (word (header_word site.shape s)))) where
   abbrev shape : Shape
   shape = site.shape
 
@@ -54,7 +54,7 @@ module _ (site : Ground) (ground : IsGround site) (v : View) (s n g i t begin : 
         let is = subst (λ (m : ℕ). IsLiveSlot (frame_of shape us) m × (first_hash (frame_of shape us) m ≡ begin)) (sym named_by_root) is_begin in
         names_side shape.depth ground.shape.depth (frame_of shape us) structure.sound s n i has.mine.slot is_ready in_side.index
         (stands_in_row (frame_of shape us) s (small site ground word us s n g has.mine.slot has.into.splits structure header link root none) i in_side) begin is.0 is.1
-        (subst (λ (z : ℕ). begin ≤ first_of_region (depth_in z) (pattern_in z)) (sym header) early)
+        (subst (λ (z : ℕ). begin ≤ first_hash_of (depth_in z) (pattern_in z)) (sym header) early)
 
   -- ---- in the newest words, and in a medium beside them
   names_now : (words : Words) → MayBeNewest site v words → NamesSide (frame_of shape words) s n i

@@ -1,6 +1,7 @@
 -- A stale segment that claims none of its 1-side has a ready side: the slot that it has linked.
 use Rattle.std.proofs.Common.{◌≡◌, ℕ, suc, ◌+◌, ◌*◌, ◌<◌, ◌≤◌, inr, sym, ap, subst, ◌∙◌, arith, add-one}
 use Rattle.trace.specs.Events.{Words}
+use Rattle.hash_word.specs.Hash.{first_hash_of}
 use Rattle.segment_head.specs.HeadWord.{state_in, depth_in, pattern_in, splitting}
 use Rattle.image_layout.specs.Places.{Shape, root_word}
 use Rattle.sound_image.specs.Segments.{Frame, frame_of, IsLive, IsReadySide, HasReadySide}
@@ -8,7 +9,6 @@ use Rattle.frame_facts.specs.Claims.{ClaimsNoOneSide}
 use Rattle.frame_facts.proofs.Claimers.{ready_claims_none}
 use Rattle.frame_facts.specs.Facts.{ClaimsNone}
 use Rattle.world.specs.Ground.{Ground, IsGround, IsStructured}
-use Rattle.world.specs.Kinds.{first_of_region}
 use Rattle.world.specs.areas.Areas.{header_word, link_word}
 use Rattle.world.specs.areas.Repairing.{side_depth_in, side_pattern_in}
 use Rattle.world.proofs.holders.repairing.SideEntries.{side_later}
@@ -53,7 +53,7 @@ module _ (site : Ground) (ground : IsGround site) (word us : Words) (s n g : ℕ
   small = omega (arith, structure.sound.root, ground.shape.depth)
 
   -- and its side begins behind its first hash
-  pub later : first_of_region (depth_in (word (header_word shape s))) (pattern_in (word (header_word shape s)))
-      < first_of_region (side_depth_in (word (header_word shape s))) (side_pattern_in (word (header_word shape s)))
+  pub later : first_hash_of (depth_in (word (header_word shape s))) (pattern_in (word (header_word shape s)))
+      < first_hash_of (side_depth_in (word (header_word shape s))) (side_pattern_in (word (header_word shape s)))
   later = side_later (depth_in (word (header_word shape s))) (pattern_in (word (header_word shape s)))
       (omega (arith, deeper, root, small))

@@ -1,7 +1,7 @@
 -- The fence after the last entry of a ready side: each names a segment that begins behind the stale one, so a deeper one.
 use Rattle.std.proofs.Common.{◌≡◌, ℕ, suc, ◌+◌, ◌*◌, ◌^◌, ◌<◌, ◌≤◌, [], ◌∷◌, inl, inr, sym, ap, subst, ◌∙◌, add-one}
 use Rattle.trace.specs.Events.{Words}
-use Rattle.hash_word.specs.Hash.{index_of}
+use Rattle.hash_word.specs.Hash.{index_of, first_hash_of}
 use Rattle.segment_head.specs.HeadWord.{depth_in, pattern_in}
 use Rattle.image_layout.specs.Places.{Shape, root_word, entry_at}
 use Rattle.sound_image.specs.Segments.{Frame, frame_of, depth_at, IsLive, InOneSide}
@@ -12,7 +12,6 @@ use Rattle.frame_facts.specs.Facts.{Fact, Begins, ClaimsNone, NamesDeeper, Holds
 use Rattle.world.specs.Ground.{Ground, IsGround, version_of, IsStructured}
 use Rattle.world.specs.Views.{View, Has}
 use Rattle.world.specs.Holders.{KnowsWord}
-use Rattle.world.specs.Kinds.{first_of_region}
 use Rattle.world.specs.areas.Areas.{header_word, link_word}
 use Rattle.world.specs.areas.Kinds.{settles}
 use Rattle.world.specs.areas.Asking.{MaySay, MayBeNewest, MayStandBeside, once_fenced, MayAt}
@@ -31,7 +30,7 @@ module _ (site : Ground) (ground : IsGround site) (word us : Words) (s n g : ℕ
     (structure : IsStructured site us) (header : us (header_word site.shape s) ≡ word (header_word site.shape s)) (link : us (link_word site.shape s) ≡ suc n) (root : us root_word ≡ g)
     (none : ClaimsNone (frame_of site.shape us) s (suc (depth_in (word (header_word site.shape s)))) (2 * pattern_in (word (header_word site.shape s)) + 1))
     (behind : (i : ℕ) → IsEntryOfSide g (depth_in (word (header_word site.shape s))) (pattern_in (word (header_word site.shape s))) i
-    → (begin : ℕ) × NamesAt (frame_of site.shape us) i begin × (first_of_region (depth_in (word (header_word site.shape s))) (pattern_in (word (header_word site.shape s))) < begin)) where
+    → (begin : ℕ) × NamesAt (frame_of site.shape us) i begin × (first_hash_of (depth_in (word (header_word site.shape s))) (pattern_in (word (header_word site.shape s))) < begin)) where
   abbrev frame : Frame
   frame = frame_of site.shape us
 
@@ -59,7 +58,7 @@ module _ (site : Ground) (ground : IsGround site) (word us : Words) (s n g : ℕ
       (subst (λ (z : ℕ). IsEntryOfSide (us root_word) (depth_in z) (pattern_in z) (index_of (us root_word) h)) header entry) in
       let b = behind (index_of (us root_word) h) known in
       behind_deeper site.shape.depth ground.shape.depth frame structure.sound s (named_for frame h) h has.mine.slot is_live inside (way_begins frame h (named_for frame h) (structure.sound.leads h fits))
-      (subst (λ (z : ℕ). first_hash frame s < z) (sym b.1) (subst (λ (z : ℕ). first_of_region (depth_in z) (pattern_in z) < b.0) (sym header) b.2))
+      (subst (λ (z : ℕ). first_hash frame s < z) (sym b.1) (subst (λ (z : ℕ). first_hash_of (depth_in z) (pattern_in z) < b.0) (sym header) b.2))
 
   pub deep : NamesDeeper frame (depth_in known_head) (suc (depth_in known_head)) (2 * pattern_in known_head + 1)
   deep = subst (λ (z : ℕ). NamesDeeper frame (depth_in z) (suc (depth_in z)) (2 * pattern_in z + 1)) header
@@ -69,7 +68,7 @@ module _ (site : Ground) (ground : IsGround site) (word us : Words) (s n g : ℕ
 module _ (site : Ground) (ground : IsGround site) (v : View) (s n g : ℕ) (word : Words) (has : HasReadySideOf site v s n g word)
     (named : (i : ℕ) → IsEntryOfSide g (depth_in (word (header_word site.shape s))) (pattern_in (word (header_word site.shape s))) i
     → (t : ℕ) × (begin : ℕ) × Has (entry_at g i, t) v.known × ((y : ℕ) → Has (entry_at g i, y) v.dirty → ⊥) × Has (Begins t begin) v.facts
-    × (first_of_region (depth_in (word (header_word site.shape s))) (pattern_in (word (header_word site.shape s))) < begin)) where
+    × (first_hash_of (depth_in (word (header_word site.shape s))) (pattern_in (word (header_word site.shape s))) < begin)) where
   abbrev shape : Shape
   shape = site.shape
 
@@ -85,7 +84,7 @@ module _ (site : Ground) (ground : IsGround site) (v : View) (s n g : ℕ) (word
     is_root = settled root_word g has.root
 
     behind : (i : ℕ) → IsEntryOfSide g (depth_in (word (header_word shape s))) (pattern_in (word (header_word shape s))) i
-        → (begin : ℕ) × NamesAt (frame_of shape medium) i begin × (first_of_region (depth_in (word (header_word shape s))) (pattern_in (word (header_word shape s))) < begin)
+        → (begin : ℕ) × NamesAt (frame_of shape medium) i begin × (first_hash_of (depth_in (word (header_word shape s))) (pattern_in (word (header_word shape s))) < begin)
     behind i entry =
         let e = named i entry in
         let is : medium (entry_at (medium root_word) i) ≡ e.0 = ap (λ (r : ℕ). medium (entry_at r i)) is_root ∙ known (entry_at g i) e.0 (fenced v (entry_at g i) e.0 e.2 e.3) in

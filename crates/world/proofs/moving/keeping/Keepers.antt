@@ -5,12 +5,13 @@ use Rattle.std.proofs.lemmas.Bool.{eq-eqb, false≢true, true≢false}
 use Rattle.trace.specs.Events.{Words, with_word, after}
 use Rattle.trace.specs.Events.Event.{loaded, exchanged}
 use Rattle.trace.proofs.Replaced.{replaced_other}
+use Rattle.hash_word.specs.Hash.{first_hash_of}
 use Rattle.segment_head.specs.HeadWord.{version_in, state_in, free, depth_in, pattern_in}
 use Rattle.image_layout.specs.Places.{Shape, words_of, bucket_at, buckets, entry_at}
 use Rattle.frame_facts.specs.Facts.{Fact, Lives, Current, Rooted, Owns, Lacks, Deep, Begins, Used, Taken}
 use Rattle.world.specs.Ground.{Ground, IsCurrentIn}
 use Rattle.world.specs.Views.{View, Has, At, HasLock}
-use Rattle.world.specs.Kinds.{without, first_of_region}
+use Rattle.world.specs.Kinds.{without}
 use Rattle.world.specs.Parts.{IsPinned}
 use Rattle.world.specs.Invariant.{Holds}
 use Rattle.world.specs.areas.Areas.{Area, Segment, Stale, Side, Free, Whole, Allocation, Directory, header_word, is_side_at, is_whole_at, all_but, link_word}
@@ -412,8 +413,8 @@ keep_sayers site (finds_entry e i) words views j v h at may =
     settled_says site words views j v h at (Lives (words (entry_at e i)) ∷ []) _ (plain_may site words views j v h at (Lives (words (entry_at e i))) tt) refl refl
 keep_sayers site (finds_begin s) words views j v h at may =
     let n = words (header_word site.shape s) in
-    settled_says site words views j v h at (Begins s (first_of_region (depth_in n) (pattern_in n)) ∷ []) _
-    (plain_may site words views j v h at (Begins s (first_of_region (depth_in n) (pattern_in n))) tt) refl refl
+    settled_says site words views j v h at (Begins s (first_hash_of (depth_in n) (pattern_in n)) ∷ []) _
+    (plain_may site words views j v h at (Begins s (first_hash_of (depth_in n) (pattern_in n))) tt) refl refl
 keep_sayers site (reads i) words views j v h at may = same_says site words views j v h at _ (λ fact has. has) (λ s a. a) (λ a. a) (λ a. a)
 keep_sayers site (sets i x) words views j v h at may = same_says site words views j v h at _ (λ fact has. has) (λ s a. a) (λ a. a) (λ a. a)
 keep_sayers site (moves row s x) words views j v h at may = row_says site words views j v h at row s _ refl refl

@@ -4,7 +4,7 @@ use Rattle.std.specs.Prelude.{nat_lt, ◌&&◌}
 use Rattle.std.proofs.lemmas.Bool.{eq-eqb, eqb-true, lt-ltb, ltb-true, and_parts, true≢false, and_from}
 use Rattle.std.proofs.lemmas.Nat.{pow-add}
 use Rattle.trace.specs.Events.{Words}
-use Rattle.hash_word.specs.Hash.{top, Covers}
+use Rattle.hash_word.specs.Hash.{top, first_hash_of, Covers}
 use Rattle.segment_head.specs.HeadWord.{state_in, depth_in, pattern_in, is_live, HasLiveState}
 use Rattle.segment_head.proofs.Headers.{live_test, live_by_test}
 use Rattle.sound_image.specs.Segments.{frame_of, depth_at, pattern_at, IsReadySide, HasReadySide}
@@ -17,7 +17,6 @@ use Rattle.frame_facts.proofs.Told.{unready_claims, ready_lacks}
 use Rattle.world.specs.Ground.{Ground}
 use Rattle.world.specs.Views.{View, Has, At, IsLoose}
 use Rattle.world.specs.Media.{IsPossible}
-use Rattle.world.specs.Kinds.{first_of_region}
 use Rattle.world.specs.Invariant.{Holds}
 use Rattle.world.specs.areas.Areas.{Stale, Side, header_word, link_word}
 use Rattle.world.specs.areas.Fitting.{HoldsWord}
@@ -129,7 +128,7 @@ module _ (site : Ground) (words : Words) (views : List View) (j : ℕ) (v : View
                 (ap (λ z. top z hash) (ap (λ z. z + 1) (depth_there m pos) ∙ one_more d) ∙ covers ∙ ap (λ z. 2 * z + 1) (sym (pattern_there m pos))),
           )
 
-      begins_said : IsSaid site words views (Begins n (first_of_region (suc d) (2 * q + 1)))
+      begins_said : IsSaid site words views (Begins n (first_hash_of (suc d) (2 * q + 1)))
       begins_said m pos =
           let f = frame_of site.shape m in
           let r = ready_there m pos in
