@@ -12,7 +12,7 @@ use Rattle.script_text.specs.declared.line.Mode.{Mode}
 use Rattle.script_text.specs.declared.fault.ScriptFault.{ScriptFault}
 use Rattle.script_text.specs.declared.fault.ScriptFault.TheVariants.{NoMemory as NoMemoryForScript}
 use Rattle.script_text.specs.declared.line.Line.{Line}
-use Rattle.script_text.specs.Script.{IsScript, HasFault as HasScriptFault}
+use Rattle.script_text.specs.Script.{most_script_bytes, IsScript, HasFault as HasScriptFault}
 
 -- the bytes of the store, how often it was written, whether its last write failed, and the bytes that the source has left
 pub record Bytes : Type 0 where
@@ -35,12 +35,9 @@ bytes_told store_old store_new writes_old writes_new lost source_old source_new 
   source_new = source_new;
 }
 
--- the most bytes that an image can have, and a script
+-- the most bytes that an image can have
 abbrev pub image_limit : ℕ
 image_limit = word_bytes * most_words
-
-abbrev pub script_limit : ℕ
-script_limit = 16777216
 
 -- the store is as it was, and was not written
 pub record KeepsStore (t : Bytes) : Type 0 where
@@ -61,8 +58,8 @@ pub record LosesWrite (t : Bytes) : Type 0 where
 -- a script was read: all that was left, or a byte more than may be
 pub record ReadsScript (source_old source_new : Option (List ℕ)) (script : List ℕ) : Type 0 where
   pub taken : Consumes source_old source_new script
-  pub to_its_end : length script ≤ script_limit → IsAtEnd source_new
-  pub no_more : length script ≤ script_limit + 1
+  pub to_its_end : length script ≤ most_script_bytes → IsAtEnd source_new
+  pub no_more : length script ≤ most_script_bytes + 1
 
 -- and it is one of the grammar of this mode
 pub record ReadsGoodScript (source_old source_new : Option (List ℕ)) (mode : Mode) : Type 0 where

@@ -15,10 +15,11 @@ use Rattle.dash_top.specs.declared.work.Output.TheVariants.{Nothing, Text, Lines
 use Rattle.dash_top.specs.declared.work.Refused.{Refused}
 use Rattle.dash_top.specs.declared.work.Refused.TheVariants.{Words, Script, Image, Source, Store, NoMemory}
 use Rattle.script_text.specs.declared.line.Mode.{Mode}
+use Rattle.script_text.specs.Script.{most_script_bytes}
 use Rattle.command_line.specs.Commands.{check_words, list_words, SaysFormat, IsNoCommand, ReadsImage, RunsScript, ReadsSource}
 use Rattle.reply_text.specs.Texts.{check_text, list_text}
 use Rattle.dash_top.specs.Modes.{IsRunIn}
-use Rattle.dash_top.specs.Bytes.{Bytes, script_limit, KeepsStore, WritesOnce, LosesWrite, ReadsScript, ReadsGoodScript, RefusesScript, ReadsSound, ReadsSomeSound, RefusesImage}
+use Rattle.dash_top.specs.Bytes.{Bytes, KeepsStore, WritesOnce, LosesWrite, ReadsScript, ReadsGoodScript, RefusesScript, ReadsSound, ReadsSomeSound, RefusesImage}
 
 -- WHAT IS DONE
 -- the file of the image of an empty table of this shape stands in the store
@@ -63,7 +64,7 @@ pub record Runs (mode : Mode) (t : Bytes) (transcript : List ℕ) : Type 0 where
   pub reads : ReadsSound t.store_old shape words
   pub ending : List ℕ
   pub stores : Holds t.store_old t.store_new ending
-  pub few : length script ≤ script_limit
+  pub few : length script ≤ most_script_bytes
   pub run : IsRunIn mode (image_bytes words) script transcript ending
 
 -- what the words ask for was done, with one write of the store or none, and this is to be written

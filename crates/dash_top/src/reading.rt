@@ -2,7 +2,7 @@
 ghost use Rattle.std.specs.Prelude.{◌≡◌, ◌≤◌, ℕ, List, All, length, IfOk, IfErr};
 ghost use Rattle.outside.specs.Causes.{Rose};
 ghost use Rattle.script_text.specs.declared.line.Line.{Line};
-ghost use Rattle.script_text.specs.Script.{IsScript};
+ghost use Rattle.script_text.specs.Script.{most_script_lines, IsScript};
 ghost use Rattle.script_text.specs.Calls.{IsLineSoFar};
 ghost use Rattle.dash_top.specs.Bytes.{ReadsScript, ReadsSound};
 ghost use Rattle.dash_top.specs.Reading.{HasScriptCause, HasImageCause};
@@ -20,7 +20,7 @@ pub const MOST_IMAGE_BYTES: u64 = WORD_BYTES as u64 * MOST_WORDS;
 /// Reads a script of this mode, to its end.
 pub fn read_script<S: Source>(alloc: Global, input: &mut S, mode: Mode) -> Result<Script, Refused>
     ensures ok { IfOk result (λ lines. (script : List ℕ) × ReadsScript (S.left input.old) (S.left input.new) script × IsScript mode script lines) }
-    ensures few { IfOk result (λ lines. length lines ≤ 1000000) }
+    ensures few { IfOk result (λ lines. length lines ≤ most_script_lines) }
     ensures so_far { IfOk result (All IsLineSoFar) }
     ensures err { IfErr result (HasScriptCause mode (S.left input.old) (S.left input.new) (S.faults input.old) (S.faults input.new)) }
 {

@@ -2,6 +2,7 @@
 ghost use Rattle.std.specs.Prelude.{◌≤◌, All, length, IfOk};
 ghost use Rattle.map_model.specs.Weave.{most_callers};
 ghost use Rattle.sound_image.specs.Image.{IsSoundImage};
+ghost use Rattle.script_text.specs.Script.{most_script_lines};
 ghost use Rattle.script_text.specs.Calls.{IsLineSoFar};
 ghost use Rattle.dash_top.specs.Ran.{HasRun};
 
@@ -24,7 +25,7 @@ pub fn run<R: Threads + Wait + Sync>(
     script: &Script,
 ) -> Result<Session, NoMemory>
     requires sound { IsSoundImage medium.geometry medium.words }
-    requires few { length script.now ≤ 1000000 }
+    requires few { length script.now ≤ most_script_lines }
     requires so_far { All IsLineSoFar script.now }
     ensures ran { IfOk result (HasRun mode medium.geometry medium.words script.now) }
     ensures few_lists { IfOk result (λ left. length left.lists ≤ most_callers) }

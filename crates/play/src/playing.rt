@@ -2,6 +2,7 @@
 
 ghost use Rattle.std.specs.Prelude.{◌≡◌, ◌≤◌, All, length, IfOk};
 ghost use Rattle.map_model.specs.Weave.{most_callers};
+ghost use Rattle.script_text.specs.Script.{most_script_lines};
 ghost use Rattle.script_text.specs.Calls.{IsLineSoFar};
 ghost use Rattle.sound_image.specs.Image.{IsSoundImage};
 ghost use Rattle.core_run.specs.Run.{cut_of, most_with, most_events};
@@ -31,7 +32,7 @@ fn cut_of(lines: &[Line]) -> Option<u64>
 
 /// At most so many events does any line make.
 fn most_events(geometry: &Geometry, calls: usize) -> u64
-    requires { calls ≤ 1000000 }
+    requires { calls ≤ most_script_lines }
     ensures { result ≡ most_with geometry.now calls }
 {
     2 * geometry.words() + events_of_call(geometry) * (calls as u64 + 1)
@@ -45,7 +46,7 @@ fn most_events(geometry: &Geometry, calls: usize) -> u64
 /// `NoMemory` if memory runs out.
 pub fn play(alloc: Global, medium: Medium, script: &Script) -> Result<Session, NoMemory>
     requires sound { IsSoundImage medium.geometry medium.words }
-    requires few { length script.now ≤ 1000000 }
+    requires few { length script.now ≤ most_script_lines }
     requires so_far { All IsLineSoFar script.now }
     ensures played { IfOk result (IsPlay medium.geometry medium.words script.now) }
     ensures few_lists { IfOk result (λ left. length left.lists ≤ most_callers) }

@@ -3,6 +3,7 @@
 ghost use Rattle.std.specs.Prelude.{◌≡◌, ◌≤◌, [], List, length, map, IfOk};
 ghost use Rattle.map_model.specs.declared.call.Call.{Call as SaidCall};
 ghost use Rattle.image_layout.specs.Places.{words_of};
+ghost use Rattle.script_text.specs.Script.{most_script_lines};
 ghost use Rattle.core_run.specs.State.{waiting};
 ghost use Rattle.core_run.specs.Wells.{start_state};
 ghost use Rattle.play.specs.Callers.{caller_of, calls_in, AreWaiting};
@@ -67,7 +68,7 @@ pub(crate) fn waiting_callers(
 
 /// How many calls they have.
 pub(crate) fn count_calls(callers: &[Caller]) -> usize
-    requires { calls_in callers.now ≤ 1000000 }
+    requires { calls_in callers.now ≤ most_script_lines }
     ensures { result ≡ calls_in callers.now }
 {
     let mut count = 0;

@@ -35,10 +35,17 @@ said (BadNumber ∷ rest) = said rest
 said (BadCaller ∷ rest) = said rest
 said (BadOrder ∷ rest) = said rest
 
--- at most 16 MiB and a million lines
+-- how many bytes a script may have at most, 16 MiB, and how many lines, the skipped ones counted
+abbrev pub most_script_bytes : ℕ
+most_script_bytes = 16777216
+
+abbrev pub most_script_lines : ℕ
+most_script_lines = 1000000
+
+-- the input has no more bytes and no more lines
 pub record IsShort (bytes : List ℕ) : Type 0 where
-  pub few_bytes : length bytes ≤ 16777216
-  pub few_lines : length (lines bytes) ≤ 1000000
+  pub few_bytes : length bytes ≤ most_script_bytes
+  pub few_lines : length (lines bytes) ≤ most_script_lines
 
 -- the input is short, each of its lines is good, and these are the lines that they say
 pub record IsScript (mode : Mode) (bytes : List ℕ) (script : List Line) : Type 0 where
@@ -61,5 +68,5 @@ HasFault mode bytes (Word line) = IsFirstBad mode bytes BadWord line
 HasFault mode bytes (Number line) = IsFirstBad mode bytes BadNumber line
 HasFault mode bytes (Caller line) = IsFirstBad mode bytes BadCaller line
 HasFault mode bytes (Order line) = IsFirstBad mode bytes BadOrder line
-HasFault mode bytes (TooLong line) = (line ≡ 0) × ((16777216 < length bytes) ⊎ (1000000 < length (lines bytes)))
+HasFault mode bytes (TooLong line) = (line ≡ 0) × ((most_script_bytes < length bytes) ⊎ (most_script_lines < length (lines bytes)))
 HasFault mode bytes NoMemory = ⊤

@@ -1,6 +1,7 @@
 //! The calls of a script are served by threads.
 
 ghost use Rattle.std.specs.Prelude.{◌≡◌, ℕ, ◌+◌, ◌-◌, ◌<◌, ◌≤◌, All, IfOk, IsTrue, [], length, map, vec_capacity};
+ghost use Rattle.script_text.specs.Script.{most_script_lines};
 ghost use Rattle.script_text.specs.Calls.{IsLineSoFar};
 ghost use Rattle.map_model.specs.Roomed.{with_room};
 ghost use Rattle.map_model.specs.Weave.{most_callers};
@@ -119,7 +120,7 @@ pub fn serve<R: Threads + Wait + Sync>(
     script: &Script,
 ) -> Result<Session, NoMemory>
     requires sound { IsSoundImage medium.geometry medium.words }
-    requires few { length script.now ≤ 1000000 }
+    requires few { length script.now ≤ most_script_lines }
     requires so_far { All IsLineSoFar script.now }
     ensures served { IfOk result (IsServe medium.geometry medium.words script.now) }
     ensures few_lists { IfOk result (λ left. length left.lists ≤ most_callers) }
