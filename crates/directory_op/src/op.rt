@@ -1,7 +1,6 @@
 //! The machine, its steps, and how it ends.
 
-ghost use Rattle.std.specs.Prelude.{◌≡◌, ◌↔◌, IsTrue};
-ghost use Rattle.op_core.specs.declared.want.Want.TheVariants as want;
+ghost use Rattle.std.specs.Prelude.{◌≡◌};
 ghost use Rattle.directory_op.specs.Steps.{directed, next_store, stage_after, settled_to, wanted, taken, power_step, with_root, passed, end_of};
 ghost use Rattle.directory_op.specs.DirectoryPart.{goes_on};
 
@@ -190,13 +189,6 @@ impl DirectoryOp {
             self.root = root;
             self.step = DirectoryStep::Store(Stage::GoLive);
         }
-    }
-
-    /// Whether it wants nothing more.
-    pub fn wants_nothing(&self) -> bool
-        ensures { IsTrue result ↔ (wanted self.now ≡ want.Done) }
-    {
-        self.want() == Want::Done
     }
 
     /// How it ended; one that is not at its end counts as one that found the power off.

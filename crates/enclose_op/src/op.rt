@@ -1,6 +1,6 @@
 //! The machine, its steps, and how it ends.
 
-ghost use Rattle.std.specs.Prelude.{◌≡◌, ◌<◌, ℕ, ◌↔◌, IsTrue, true, slice_index};
+ghost use Rattle.std.specs.Prelude.{◌≡◌, ◌<◌, ℕ, true, slice_index};
 ghost use Rattle.image_layout.specs.Places.{buckets, last_of_buckets};
 ghost use Rattle.op_core.specs.declared.want.Want.TheVariants as want;
 ghost use Rattle.enclose_op.specs.Whole.{kept_first};
@@ -259,13 +259,6 @@ impl EncloseOp {
             },
             step: EncloseStep::Guard,
         }
-    }
-
-    /// Whether it wants nothing more.
-    pub fn wants_nothing(&self) -> bool
-        ensures { IsTrue result ↔ (wanted self.now ≡ want.Done) }
-    {
-        matches!(self.step, EncloseStep::Ended(_) | EncloseStep::Whole)
     }
 
     /// How it ended. It has to want nothing more.

@@ -1,7 +1,6 @@
 //! The machine, and what it wants.
 
-ghost use Rattle.std.specs.Prelude.{◌≡◌, ◌↔◌, IsTrue};
-ghost use Rattle.op_core.specs.declared.want.Want.TheVariants as want;
+ghost use Rattle.std.specs.Prelude.{◌≡◌};
 ghost use Rattle.split_op.specs.Fits.{hands_on_at};
 ghost use Rattle.split_op.specs.Steps.{split_of, wanted, taken, end_of};
 
@@ -40,13 +39,6 @@ impl SplitOp {
             locks: [0; BUCKETS as usize],
             step: SplitStep::Take,
         }
-    }
-
-    /// Whether it wants nothing more.
-    pub fn wants_nothing(&self) -> bool
-        ensures { IsTrue result ↔ (wanted self.now ≡ want.Done) }
-    {
-        want_of(self) == Want::Done
     }
 
     /// How it ended, once it has.
