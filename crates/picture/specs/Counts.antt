@@ -1,15 +1,10 @@
 -- What a picture of an image counts: the records of each bucket, and the records that a home bucket says stand in the stash, by its notes
 -- and its count.
 use Rattle.std.specs.Prelude.{ℕ, zero, suc, ◌+◌, ◌==◌, nat_lt, length, filter, if◌then◌else◌}
-use Rattle.bucket_meta.specs.Bucket.{mark_place, record_slots, note_slots, note_used, overflow_count}
-use Rattle.bucket_meta.specs.Search.{is_taken}
+use Rattle.bucket_meta.specs.Bucket.{mark_place, records_of, note_slots, note_used, overflow_count}
 use Rattle.bucket_meta.specs.Notes.{numbers_below}
 use Rattle.image_layout.specs.Places.{Shape, bucket_at}
 use Rattle.sound_image.specs.Segments.{ImageWords}
-
--- how many of the first n record slots are taken, by the metadata word
-abbrev pub taken_below : ℕ → ℕ → ℕ
-taken_below n w1 = length (filter (is_taken w1) (numbers_below n))
 
 -- how many of the first n note slots hold a note
 abbrev pub notes_below : ℕ → ℕ → ℕ
@@ -18,7 +13,7 @@ notes_below n w1 = length (filter (λ i. note_used i w1 == 1) (numbers_below n))
 module _ (shape : Shape) (word : ImageWords) (s b : ℕ) where
   -- how many records bucket b of segment s has
   abbrev pub filled : ℕ
-  filled = taken_below record_slots (word (bucket_at shape s b + mark_place))
+  filled = records_of (word (bucket_at shape s b + mark_place))
 
   -- how many it says that the stash has for it: one a note, and those that are only counted
   abbrev pub stashed : ℕ

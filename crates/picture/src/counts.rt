@@ -1,11 +1,12 @@
 //! How many records buckets have, and how many the stash has for them.
 
 ghost use Rattle.std.specs.Prelude.{◌≡◌, ℕ, ◌+◌, ◌^◌, ◌<◌, ◌≤◌, length, slice_index};
-ghost use Rattle.bucket_meta.specs.Bucket.{mark_place, record_slots, note_slots, count_bits};
+ghost use Rattle.bucket_meta.specs.Bucket.{mark_place, record_slots, records_of, note_slots, count_bits};
 ghost use Rattle.image_layout.specs.Places.{bucket_at, buckets, homes, words_of};
-ghost use Rattle.picture.specs.Counts.{taken_below, notes_below, filled, stashed, stashed_below, sign};
+ghost use Rattle.picture.specs.Counts.{notes_below, filled, stashed, stashed_below, sign};
 
-use bucket_meta::words::{MARK_PLACE, NOTE_SLOTS, SLOTS, has_note, is_taken, overflow_count_of};
+use bucket_meta::Meta;
+use bucket_meta::words::{MARK_PLACE, NOTE_SLOTS, has_note, overflow_count_of};
 use image_layout::{Geometry, HOMES};
 
 /// The metadata word of a bucket.
@@ -20,16 +21,10 @@ fn metadata_of(geometry: &Geometry, words: &[u64], s: u64, b: u8) -> u64
 
 /// How many record slots are taken, by the metadata word.
 fn taken_in(w1: u64) -> u8
-    ensures is { result ≡ taken_below record_slots w1 }
+    ensures is { result ≡ records_of w1 }
     ensures most { result ≤ record_slots }
 {
-    let mut count = 0;
-    for slot in 0..SLOTS {
-        if is_taken(w1, slot) {
-            count += 1;
-        }
-    }
-    count
+    Meta::read([w1, 0, 0]).filled()
 }
 
 /// How many note slots hold a note, by the metadata word.
