@@ -233,7 +233,7 @@ impl Engine {
         }
     }
 
-    /// The event that any machine wants next.
+    /// The event that it wants next, whichever its machine is.
     #[inline(never)]
     fn next_of_any(&self) -> Want
         ensures { result ≡ wanted self.now }
@@ -405,7 +405,7 @@ impl Engine {
         }
     }
 
-    /// Takes the answer to that event, whatever its machine is.
+    /// Takes the answer to that event, whichever its machine is, and goes on to the next part of the call.
     #[inline(never)]
     fn take_in_any(&mut self, ans: Ans)
         ensures { self.new ≡ taken self.old ans }
@@ -426,7 +426,7 @@ impl Engine {
         }
     }
 
-    /// Whether any machine wants nothing more.
+    /// Whether it wants nothing more, whichever its machine is.
     #[inline(never)]
     fn any_wants_nothing(&self) -> bool
         ensures { IsTrue result ↔ (wanted self.now ≡ want.Done) }

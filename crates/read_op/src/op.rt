@@ -419,6 +419,7 @@ impl Machine for ReadOp {
 
     ghost taken = { taken };
 
+    // It is asked at each event of a get, and is put into who asks, since else room for any machine is got ready first.
     #[inline(always)]
     fn want(&self) -> Want {
         let task = &self.task;
