@@ -6,7 +6,7 @@ use Rattle.trace.specs.Events.{Words}
 use Rattle.segment_head.specs.HeadWord.{depth_in, pattern_in}
 use Rattle.segment_head.specs.SplitHeads.{side_depth_in, side_pattern_in}
 use Rattle.image_layout.specs.Places.{root_word}
-use Rattle.image_layout.specs.Volatile.{directory_guard}
+use Rattle.image_layout.specs.Volatile.{directory_guard, free_guard}
 use Rattle.way.specs.Ways.{head_word}
 use Rattle.whole_segment.specs.Rounds.{most_lines}
 use Rattle.frame_facts.specs.Facts.{Fact, Lacks, Deep}
@@ -123,10 +123,10 @@ HandsOnSplit = (site : Ground) (here : Site) (call : Call) (op : DirectoryOp) (v
     → KeepsSplit site here call op.copied.whole v
 
 -- ---- how long it waits
--- WHERE THE GUARD IS FREE IT IS WON: while its word is 0 whenever it is waited for, each event leaves fewer events, which are one more at the
--- most than are left where others may have it; and who waits for it has it not
+-- WHERE THE GUARD IS FREE IT IS WON: while its word is that of a free one whenever it is waited for, each event leaves fewer events, which
+-- are one more at the most than are left where others may have it; and who waits for it has it not
 pub record WinsWhereFree : Type 0 where
   pub falls : (site : Ground) (here : Site) (call : Call) (words : Words) (op : DirectoryOp) (before v : View) → Suits directory_part site here call op before v → wanted op ≢ want.Done
-      → (directory_part.is_waiting op ≡ true → words (directory_guard site.shape) ≡ 0) → left_alone (next directory_part site words op) < left_alone op
+      → (directory_part.is_waiting op ≡ true → words (directory_guard site.shape) ≡ free_guard) → left_alone (next directory_part site words op) < left_alone op
   pub most : (op : DirectoryOp) → left_alone op ≤ left_of op + 1
   pub others : (site : Ground) (here : Site) (call : Call) (op : DirectoryOp) (v : View) → directory_part.Stands site here call op v → directory_part.is_waiting op ≡ true → Has Directory v.areas → ⊥

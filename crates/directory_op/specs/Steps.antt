@@ -3,7 +3,7 @@
 use Rattle.std.specs.Prelude.{ℕ, ◌+◌, ◌-◌, ◌/◌, ◌%◌, ◌==◌, nat_le, nat_lt, Bool, true, false, Option, None, Some, if◌then◌else◌}
 use Rattle.segment_head.specs.HeadWord.{depth_in}
 use Rattle.image_layout.specs.Places.{Shape, root_word}
-use Rattle.image_layout.specs.Volatile.{directory_guard}
+use Rattle.image_layout.specs.Volatile.{directory_guard, free_guard}
 use Rattle.op_core.specs.declared.want.Want.{Want}
 use Rattle.op_core.specs.declared.want.Want.TheVariants as want
 use Rattle.op_core.specs.declared.want.Ans.{Ans}
@@ -65,12 +65,12 @@ settled_to op same = Store same
 abbrev pub wanted_in : DirectoryOp → DirectoryStep → Want
 wanted_in op LoadHead = want.Load (head_word (shape_of op) op.copied.whole.segment)
 wanted_in op LoadSideHead = want.Load (head_word (shape_of op) op.copied.side)
-wanted_in op TakeGuard = want.Exchange (directory_guard (shape_of op)) 0 op.copied.whole.site.caller
+wanted_in op TakeGuard = want.Exchange (directory_guard (shape_of op)) free_guard op.copied.whole.site.caller
 wanted_in op AskPower = want.Power
 wanted_in op LoadRoot = want.Load root_word
 wanted_in op (LoadEntry place) = want.Load (entry_word (shape_of op) (op.root - 1) (place / 2))
 wanted_in op (Store stage) = event_wanted op.rounds (next_store op stage)
-wanted_in op GiveGuard = want.Store (directory_guard (shape_of op)) 0
+wanted_in op GiveGuard = want.Store (directory_guard (shape_of op)) free_guard
 wanted_in op (Ended end) = want.Done
 
 -- THE EVENT that it wants

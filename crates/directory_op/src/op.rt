@@ -5,7 +5,7 @@ ghost use Rattle.directory_op.specs.Steps.{directed, next_store, stage_after, se
 ghost use Rattle.directory_op.specs.DirectoryPart.{goes_on};
 
 use crate::places::{entries, entry_word, live_head, side_first, side_last};
-use image_layout::ROOT_WORD;
+use image_layout::{FREE_GUARD, ROOT_WORD};
 use op_core::{Ans, Machine, Want};
 use rounds::Rounds;
 use segment_head::word::depth_of;
@@ -232,7 +232,11 @@ impl Machine for DirectoryOp {
             DirectoryStep::LoadHead => Want::Load(head_word(geometry, self.copied.whole.segment)),
             DirectoryStep::LoadSideHead => Want::Load(head_word(geometry, self.copied.side)),
             DirectoryStep::TakeGuard => {
-                Want::Exchange(geometry.directory_guard(), 0, u64::from(site.caller))
+                Want::Exchange(
+                    geometry.directory_guard(),
+                    FREE_GUARD,
+                    u64::from(site.caller),
+                )
             }
             DirectoryStep::AskPower => Want::Power,
             DirectoryStep::LoadRoot => Want::Load(ROOT_WORD),
@@ -240,7 +244,7 @@ impl Machine for DirectoryOp {
                 Want::Load(entry_word(geometry, self.root.saturating_sub(1), place / 2))
             }
             DirectoryStep::Store(stage) => self.rounds.event(self.next_store(stage)),
-            DirectoryStep::GiveGuard => Want::Store(geometry.directory_guard(), 0),
+            DirectoryStep::GiveGuard => Want::Store(geometry.directory_guard(), FREE_GUARD),
             DirectoryStep::Ended(_) => Want::Done,
         }
     }

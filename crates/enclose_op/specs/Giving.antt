@@ -4,6 +4,7 @@ use Rattle.op_core.specs.declared.want.Want.{Want}
 use Rattle.op_core.specs.declared.want.Want.TheVariants.{Store}
 use Rattle.bucket_meta.specs.Bucket.{given_back}
 use Rattle.image_layout.specs.Places.{buckets}
+use Rattle.image_layout.specs.Volatile.{free_guard}
 use Rattle.way.specs.Ways.{bucket_word, slot_guard}
 use Rattle.enclose_op.specs.declared.enclosed.Enclosed.{Enclosed}
 use Rattle.enclose_op.specs.declared.give.Give.{Give}
@@ -34,4 +35,4 @@ given Guard = None
 -- THE STORE that gives it back: of a lock with its next version and not locked, of the guard with nobody's number
 abbrev pub give_wanted : Enclosed → Give → Want
 give_wanted e (Lock b to) = Store (lock_of e b) (given_back (free_value e b) % 2 ^ 64)
-give_wanted e Guard = Store (guard_of e) 0
+give_wanted e Guard = Store (guard_of e) free_guard

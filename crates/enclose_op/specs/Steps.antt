@@ -3,7 +3,7 @@ use Rattle.std.specs.Prelude.{ℕ, ◌+◌, ◌%◌, ◌==◌, ◌&&◌, nat_lt,
 use Rattle.hash_word.specs.Hash.{home_of}
 use Rattle.segment_head.specs.HeadWord.{version_in, depth_in}
 use Rattle.image_layout.specs.Places.{buckets, block, words_of_buckets, last_of_buckets}
-use Rattle.image_layout.specs.Volatile.{counter_word}
+use Rattle.image_layout.specs.Volatile.{counter_word, free_guard}
 use Rattle.sound_image.specs.Records.{key_hash}
 use Rattle.way.specs.Ways.{head_word, bucket_word, is_leading}
 use Rattle.whole_segment.specs.Room.{has_no_room}
@@ -94,7 +94,7 @@ filled e at seen = filled_to (with_word e at seen) at
 module _ (e : Enclosed) where
   -- THE EVENT that it wants
   abbrev pub wanted_in : EncloseStep → Want
-  wanted_in Guard = want.Exchange (guard_of e) 0 e.site.caller
+  wanted_in Guard = want.Exchange (guard_of e) free_guard e.site.caller
   wanted_in (Lock b take) = take_wanted (lock_of e b) take
   wanted_in Head = want.Load (head_word e.site.geometry e.segment)
   wanted_in (Fill at) = want.Load (bucket_word e.site.geometry e.segment 0 + at)

@@ -6,7 +6,7 @@ ghost use Rattle.enclose_op.specs.Giving.{guard_of, lock_of, free_value, give_fr
 
 use crate::enclosed::Enclosed;
 use bucket_meta::words::given_back;
-use image_layout::{BUCKETS, ROOT_WORD};
+use image_layout::{BUCKETS, FREE_GUARD, ROOT_WORD};
 use op_core::Want;
 use way::bucket_word;
 
@@ -82,7 +82,7 @@ impl Enclosed {
             Give::Lock { bucket, .. } => {
                 Want::Store(self.lock(bucket), given_back(self.free(bucket)))
             }
-            Give::Guard => Want::Store(self.guard(), 0),
+            Give::Guard => Want::Store(self.guard(), FREE_GUARD),
         }
     }
 }

@@ -8,7 +8,7 @@ ghost use Rattle.enclose_op.specs.Steps.{begun, giving, next_lock, locked_to, is
 
 use crate::enclosed::Enclosed;
 use crate::give::{Give, give_from, given};
-use image_layout::{BLOCK_WORDS, BUCKETS, LAST_OF_BUCKETS, WORDS_OF_BUCKETS};
+use image_layout::{BLOCK_WORDS, BUCKETS, FREE_GUARD, LAST_OF_BUCKETS, WORDS_OF_BUCKETS};
 use map_model::{Change, Reply};
 use op_core::{Ans, Machine, Want, Why};
 use phase::{Take, Taken, take_next, take_want};
@@ -229,7 +229,11 @@ fn want_of(op: &EncloseOp) -> Want
     let geometry = &enclosed.site.geometry;
     match &op.step {
         EncloseStep::Guard => {
-            Want::Exchange(enclosed.guard(), 0, u64::from(enclosed.site.caller))
+            Want::Exchange(
+                enclosed.guard(),
+                FREE_GUARD,
+                u64::from(enclosed.site.caller),
+            )
         }
         EncloseStep::Lock(bucket, take) => take_want(enclosed.lock(*bucket), take),
         EncloseStep::Head => Want::Load(head_word(geometry, enclosed.segment)),

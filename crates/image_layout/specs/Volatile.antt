@@ -26,6 +26,10 @@ guards_from = 4
 abbrev pub segment_guard : Shape → ℕ → ℕ
 segment_guard shape slot = words_of shape + guards_from + slot
 
+-- the word of a guard that nobody holds; else it is the number of the caller who has it
+abbrev pub free_guard : ℕ
+free_guard = 0
+
 -- how many words there are with those of the image
 abbrev pub all_words_of : Shape → ℕ
 all_words_of shape = words_of shape + guards_from + shape.segments

@@ -67,6 +67,8 @@ const ALLOCATION: u64 = 2;
 const DIRECTORY: u64 = 3;
 /// How many words stand between those of the image and the guards of segments.
 const GUARDS_FROM: u64 = 4;
+/// The word of a guard that nobody holds; else it is the number of the caller who has it.
+pub const FREE_GUARD: u64 = 0;
 
 /// The first of the three numbers that is out of range.
 #[derive(Clone, Copy, Debug, PartialEq, Eq)]

@@ -2,6 +2,7 @@
 use Rattle.std.specs.Prelude.{ℕ, ◌+◌, ◌-◌, ◌==◌, not, nat_lt, Bool, true, false, Option, None, Some, replicate, slice_index, slice_set, if◌then◌else◌}
 use Rattle.trace.specs.Events.{line_of}
 use Rattle.image_layout.specs.Places.{note_words, words_of_buckets, last_of_buckets}
+use Rattle.image_layout.specs.Volatile.{free_guard}
 use Rattle.way.specs.Ways.{head_word, bucket_word}
 use Rattle.op_core.specs.declared.want.Want.{Want}
 use Rattle.op_core.specs.declared.want.Want.TheVariants as want
@@ -131,7 +132,7 @@ module _ (op : MendOp) where
   wanted_in Renew = want.Store (head_at op) (renewed_head op.guarded.site.version op.guarded.head)
   wanted_in RenewFlush = want.Flush (line_of (head_at op))
   wanted_in RenewFence = want.Fence
-  wanted_in Give = want.Store (guard_of op.guarded) 0
+  wanted_in Give = want.Store (guard_of op.guarded) free_guard
   wanted_in Ended = want.Done
 
   -- WHAT AN ANSWER makes of it; one of another kind than was asked for leaves it as it is

@@ -9,7 +9,7 @@ ghost use Rattle.mend_op.specs.Steps.{head_at, word_at, with_word, with_stored, 
 use crate::heads::{finished_head, renewed_head};
 use crate::make::made;
 use crate::stage::Stage;
-use image_layout::{LAST_OF_BUCKETS, NOTE_WORDS, WORDS_OF_BUCKETS};
+use image_layout::{FREE_GUARD, LAST_OF_BUCKETS, NOTE_WORDS, WORDS_OF_BUCKETS};
 use op_core::{Ans, Machine, Want};
 use repair_op::Guarded;
 use rounds::Rounds;
@@ -304,7 +304,7 @@ fn want_of(op: &MendOp) -> Want
         MendStep::Renew => {
             Want::Store(head, renewed_head(op.guarded.site.version, op.guarded.head))
         }
-        MendStep::Give => Want::Store(op.guarded.guard(), 0),
+        MendStep::Give => Want::Store(op.guarded.guard(), FREE_GUARD),
         MendStep::Ended => Want::Done,
     }
 }

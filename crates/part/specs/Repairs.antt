@@ -7,7 +7,7 @@ use Rattle.op_core.specs.declared.why.Why.TheVariants.{Busy, Moved}
 use Rattle.trace.specs.Events.{Words}
 use Rattle.segment_head.specs.HeadWord.{version_in, is_live}
 use Rattle.image_layout.specs.Places.{Shape, header_word}
-use Rattle.image_layout.specs.Volatile.{segment_guard, allocation_guard, directory_guard}
+use Rattle.image_layout.specs.Volatile.{segment_guard, allocation_guard, directory_guard, free_guard}
 use Rattle.map_model.specs.declared.call.Call.{Call}
 use Rattle.world.specs.declared.site.Site.{Site}
 use Rattle.world.specs.Ground.{Ground}
@@ -38,7 +38,7 @@ module _ (shape : Shape) (words : Words) (did : Doings) (call : Call) (segment :
   pub record IsGuardTaken (word value : ℕ) : Type 0 where
     pub needed : IsRepairGuard word
     pub newest : words word ≡ value
-    pub taken : value ≢ 0
+    pub taken : value ≢ free_guard
     pub by_others : Has word did.changed → ⊥
 
   -- THE CAUSE of each outcome: a repair tells no reply, finds no word moved, no segment stale and none to be split; that it has done its

@@ -7,7 +7,7 @@ use Rattle.trace.specs.Events.{Words}
 use Rattle.hash_word.specs.Hash.{home_of, probing_of, next_of, previous_of}
 use Rattle.bucket_meta.specs.Bucket.{lock_bit}
 use Rattle.image_layout.specs.Places.{Shape, bucket_at, homes, second_stash, buckets}
-use Rattle.image_layout.specs.Volatile.{segment_guard, allocation_guard}
+use Rattle.image_layout.specs.Volatile.{segment_guard, allocation_guard, free_guard}
 use Rattle.map_model.specs.declared.call.Call.{Call}
 use Rattle.map_model.specs.declared.entry.Reply.TheVariants.{Full, Deep, Spent}
 use Rattle.world.specs.declared.site.Site.{Site}
@@ -67,7 +67,7 @@ module _ (shape : Shape) (words : Words) (did : Doings) (call : Call) (segment :
 
   -- IT IS TAKEN, and not by this attempt
   pub record IsTakenByOthers (word value : ℕ) : Type 0 where
-    pub needed : (IsNeededLock word × (lock_bit value ≡ 1)) ⊎ (IsNeededGuard word × (value ≢ 0))
+    pub needed : (IsNeededLock word × (lock_bit value ≡ 1)) ⊎ (IsNeededGuard word × (value ≢ free_guard))
     pub newest : words word ≡ value
     pub by_others : HasTaken word → ⊥
 

@@ -3,7 +3,7 @@ use Rattle.std.specs.Prelude.{ℕ, ◌+◌, nat_le, nat_lt, min, Bool, true, fal
 use Rattle.segment_head.specs.HeadWord.{depth_in}
 use Rattle.segment_head.specs.SplitHeads.{one_side_head}
 use Rattle.image_layout.specs.Places.{Shape, root_word}
-use Rattle.image_layout.specs.Volatile.{directory_guard}
+use Rattle.image_layout.specs.Volatile.{directory_guard, free_guard}
 use Rattle.op_core.specs.declared.want.Want.{Want}
 use Rattle.op_core.specs.declared.want.Want.TheVariants as want
 use Rattle.op_core.specs.declared.want.Ans.{Ans}
@@ -101,15 +101,15 @@ busy word seen = ends.Again (Busy word seen)
 module _ (op : RedirectOp) where
   -- THE EVENT that it wants
   abbrev pub wanted_in : RedirectStep → Want
-  wanted_in Guard = want.Exchange (directory_guard (shape_of op)) 0 op.guarded.site.caller
+  wanted_in Guard = want.Exchange (directory_guard (shape_of op)) free_guard op.guarded.site.caller
   wanted_in Root = want.Load root_word
   wanted_in (Entry index) = want.Load (entry_word (shape_of op) op.root index)
   wanted_in (Head index slot) = want.Load (head_word (shape_of op) slot)
   wanted_in (Store index) = event_wanted op.rounds (Some (store_to op index))
   wanted_in Settle = event_wanted op.rounds None
   wanted_in Fence = want.Fence
-  wanted_in GiveDirectory = want.Store (directory_guard (shape_of op)) 0
-  wanted_in (Give end) = want.Store (guard_of op.guarded) 0
+  wanted_in GiveDirectory = want.Store (directory_guard (shape_of op)) free_guard
+  wanted_in (Give end) = want.Store (guard_of op.guarded) free_guard
   wanted_in (Ended end) = want.Done
 
   -- WHAT AN ANSWER makes of it; one of another kind than was asked for leaves it as it is

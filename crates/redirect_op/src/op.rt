@@ -6,7 +6,7 @@ ghost use Rattle.redirect_op.specs.Steps.{begun, side_head, store_to, behind, ro
 
 use crate::step::{RedirectEnd, RedirectStep};
 use directory_op::places::{entry_word, side_first, side_last};
-use image_layout::ROOT_WORD;
+use image_layout::{FREE_GUARD, ROOT_WORD};
 use op_core::{Ans, Machine, Want, Why};
 use repair_op::Guarded;
 use rounds::Rounds;
@@ -159,7 +159,7 @@ fn want_of(op: &RedirectOp) -> Want
         RedirectStep::Guard => {
             Want::Exchange(
                 geometry.directory_guard(),
-                0,
+                FREE_GUARD,
                 u64::from(guarded.site.caller),
             )
         }
@@ -169,8 +169,8 @@ fn want_of(op: &RedirectOp) -> Want
         RedirectStep::Store(index) => op.rounds.event(Some(op.store_to(index))),
         RedirectStep::Settle => op.rounds.event(None),
         RedirectStep::Fence => Want::Fence,
-        RedirectStep::GiveDirectory => Want::Store(geometry.directory_guard(), 0),
-        RedirectStep::Give(_) => Want::Store(guarded.guard(), 0),
+        RedirectStep::GiveDirectory => Want::Store(geometry.directory_guard(), FREE_GUARD),
+        RedirectStep::Give(_) => Want::Store(guarded.guard(), FREE_GUARD),
         RedirectStep::Ended(_) => Want::Done,
     }
 }

@@ -3,7 +3,7 @@ use Rattle.std.specs.Prelude.{ℕ, ◌==◌, Bool, true, false, Option, None, So
 use Rattle.trace.specs.Events.{line_of}
 use Rattle.segment_head.specs.HeadWord.{version_in, state_in, depth_in, pattern_in, free, normal, splitting, linked_in}
 pub use Rattle.segment_head.specs.SplitHeads.{with_state}
-use Rattle.image_layout.specs.Volatile.{allocation_guard}
+use Rattle.image_layout.specs.Volatile.{allocation_guard, free_guard}
 use Rattle.way.specs.Ways.{head_word}
 use Rattle.op_core.specs.declared.want.Want.{Want}
 use Rattle.op_core.specs.declared.want.Want.TheVariants as want
@@ -97,15 +97,15 @@ unmarked op settling = unmarked_by (settled settling) op
 module _ (op : RepairOp) where
   -- THE EVENT that it wants
   abbrev pub wanted_in : RepairStep → Want
-  wanted_in Guard = want.Exchange (guard_of op.guarded) 0 op.guarded.site.caller
+  wanted_in Guard = want.Exchange (guard_of op.guarded) free_guard op.guarded.site.caller
   wanted_in Head = want.Load (head_word op.guarded.site.geometry op.guarded.segment)
   wanted_in Link = want.Load (link_of op.guarded)
   wanted_in (Side slot) = want.Load (head_word op.guarded.site.geometry slot)
-  wanted_in (Slots slot side) = want.Exchange (allocation_guard op.guarded.site.geometry) 0 op.guarded.site.caller
+  wanted_in (Slots slot side) = want.Exchange (allocation_guard op.guarded.site.geometry) free_guard op.guarded.site.caller
   wanted_in (Free slot side settling) = settle_wanted settling (head_word op.guarded.site.geometry slot) (with_state side free)
-  wanted_in GiveSlots = want.Store (allocation_guard op.guarded.site.geometry) 0
+  wanted_in GiveSlots = want.Store (allocation_guard op.guarded.site.geometry) free_guard
   wanted_in (Unmark settling) = settle_wanted settling (head_word op.guarded.site.geometry op.guarded.segment) (with_state op.guarded.head normal)
-  wanted_in (Give end) = want.Store (guard_of op.guarded) 0
+  wanted_in (Give end) = want.Store (guard_of op.guarded) free_guard
   wanted_in (Ended end) = want.Done
 
   -- WHAT AN ANSWER makes of it; one of another kind than was asked for leaves it as it is

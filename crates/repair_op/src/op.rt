@@ -7,6 +7,7 @@ ghost use Rattle.repair_op.specs.Steps.{begun, settle_wanted, settled, busy, hea
 use crate::guarded::Guarded;
 use crate::heads::{is_new_side, is_ready_side};
 use crate::step::{RepairEnd, RepairStep, Settling};
+use image_layout::FREE_GUARD;
 use op_core::{Ans, Machine, Want, Why};
 use segment_head::link::linked_slot;
 use segment_head::split::with_state;
@@ -165,23 +166,23 @@ fn want_of(op: &RepairOp) -> Want
     let geometry = &guarded.site.geometry;
     let caller = u64::from(guarded.site.caller);
     match &op.step {
-        RepairStep::Guard => Want::Exchange(guarded.guard(), 0, caller),
+        RepairStep::Guard => Want::Exchange(guarded.guard(), FREE_GUARD, caller),
         RepairStep::Head => Want::Load(head_word(geometry, guarded.segment)),
         RepairStep::Link => Want::Load(guarded.link()),
         RepairStep::Side(slot) => Want::Load(head_word(geometry, *slot)),
-        RepairStep::Slots(_, _) => Want::Exchange(geometry.allocation_guard(), 0, caller),
+        RepairStep::Slots(_, _) => Want::Exchange(geometry.allocation_guard(), FREE_GUARD, caller),
         RepairStep::Free(slot, side, settling) => settle_want(
             *settling,
             head_word(geometry, *slot),
             with_state(*side, FREE),
         ),
-        RepairStep::GiveSlots => Want::Store(geometry.allocation_guard(), 0),
+        RepairStep::GiveSlots => Want::Store(geometry.allocation_guard(), FREE_GUARD),
         RepairStep::Unmark(settling) => settle_want(
             *settling,
             head_word(geometry, guarded.segment),
             with_state(guarded.head, NORMAL),
         ),
-        RepairStep::Give(_) => Want::Store(guarded.guard(), 0),
+        RepairStep::Give(_) => Want::Store(guarded.guard(), FREE_GUARD),
         RepairStep::Ended(_) => Want::Done,
     }
 }

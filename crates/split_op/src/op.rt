@@ -10,7 +10,7 @@ use crate::copy::side_words;
 use crate::step::{SplitEnd, SplitStep};
 use crate::taking::go_on;
 use enclose_op::Enclosed;
-use image_layout::{BLOCK_WORDS, BUCKETS};
+use image_layout::{BLOCK_WORDS, BUCKETS, FREE_GUARD};
 use op_core::{Ans, Machine, Want};
 
 /// An enclosed segment is split, up to the copies.
@@ -67,12 +67,15 @@ fn want_of(op: &SplitOp) -> Want
     match &op.step {
         SplitStep::Take => Want::Exchange(
             geometry.allocation_guard(),
-            0,
+            FREE_GUARD,
             u64::from(op.copied.whole.site.caller),
         ),
         SplitStep::Search(slot) => Want::Load(slot_word(geometry, *slot, HEADER_NUMBER)),
         SplitStep::Count => Want::Load(geometry.counter_word()),
-        SplitStep::Return(_) | SplitStep::Release => Want::Store(geometry.allocation_guard(), 0),
+        SplitStep::Return(_) | SplitStep::Release => Want::Store(
+            geometry.allocation_guard(),
+            FREE_GUARD,
+        ),
         SplitStep::Look(bucket) => Want::Load(slot_word(
             geometry,
             op.copied.side,

@@ -9,7 +9,7 @@ use Rattle.map_model.specs.Weave.{spent_count, weave}
 use Rattle.map_model.specs.Legal.{replay, IsLegal}
 use Rattle.trace.specs.Events.{Words}
 use Rattle.image_layout.specs.Places.{words_of}
-use Rattle.image_layout.specs.Volatile.{all_words_of}
+use Rattle.image_layout.specs.Volatile.{all_words_of, free_guard}
 use Rattle.bucket_words.specs.Standing.{IsTable}
 use Rattle.world.specs.Claims.{HasSoundFrame}
 use Rattle.world.specs.Hits.{find}
@@ -56,7 +56,7 @@ pub record IsEnd (site : Ground) (words : Words) (views : List View) : Type 0 wh
   pub replay_is : (start : Map) → ((k : ℕ) → get start k ≡ site.start k) → (k : ℕ) → get (replay start (weave (map (λ v. v.own) views))) k ≡ find site.shape words k
   -- no guard is taken, and each current segment is repaired, so that none of its locks is
   pub nobody : NobodyIsLeft site words
-  pub guards : (guard : Guard) → HasGuard site.shape guard → words (guard_word site.shape guard) ≡ 0
+  pub guards : (guard : Guard) → HasGuard site.shape guard → words (guard_word site.shape guard) ≡ free_guard
   pub repaired : (s : ℕ) → IsCurrentIn site words s → IsRepaired site words s
   -- where it was replied that a number is spent, 2 ^ 63 changes are drawn, or some lock word of a live segment is free with the last version; and
   -- where it was replied that no slot is free, none is that was free at the start

@@ -4,6 +4,7 @@ use Rattle.std.specs.Prelude.{◌≡◌, ◌≢◌, ◌==◌, ℕ, ◌+◌, ◌*
 use Rattle.trace.specs.Events.{Words}
 use Rattle.segment_head.specs.HeadWord.{version_in, state_in, depth_in, free, normal}
 use Rattle.image_layout.specs.Places.{bucket_at, homes, stash_buckets}
+use Rattle.image_layout.specs.Volatile.{free_guard}
 use Rattle.sound_image.specs.Records.{key_hash, HasExactNotes}
 use Rattle.frame_facts.specs.Standing.{IsTable}
 use Rattle.frame_facts.specs.Hits.{Hit, find}
@@ -33,13 +34,13 @@ module _ (site : Ground) (words : Words) (views : List View) where
   abbrev pub IsWatched : ℕ → Type 0
   IsWatched s = IsCurrentIn site words s × ((j : ℕ) (v : View) → At views j v → Has (Whole s) v.areas → ⊥)
 
-  -- STRUCTURE: it is sound in whatever a cut may leave; locks and areas fit it; the word of a guard that a view has is not 0, and a guard whose
-  -- word is not 0 is had by some view; facts hold beside whatever a cut may leave; and pinned headers are as they were
+  -- STRUCTURE: it is sound in whatever a cut may leave; locks and areas fit it; a guard that a view has is not free by its word, and a guard
+  -- that is not free is had by some view; facts hold beside whatever a cut may leave; and pinned headers are as they were
   pub record Structure : Type 0 where
     pub sound : (medium : Words) → IsPossible site words views medium → IsStructured site medium
     pub fits : Fits site words views
-    pub guards : (j : ℕ) (v : View) (guard : Guard) → At views j v → Has (area_of guard) v.areas → words (guard_word site.shape guard) ≢ 0
-    pub held_guards : (guard : Guard) → HasGuard site.shape guard → words (guard_word site.shape guard) ≢ 0 → (j : ℕ) × (v : View) × At views j v × Has (area_of guard) v.areas
+    pub guards : (j : ℕ) (v : View) (guard : Guard) → At views j v → Has (area_of guard) v.areas → words (guard_word site.shape guard) ≢ free_guard
+    pub held_guards : (guard : Guard) → HasGuard site.shape guard → words (guard_word site.shape guard) ≢ free_guard → (j : ℕ) × (v : View) × At views j v × Has (area_of guard) v.areas
     pub says : (j : ℕ) (v : View) (fact : Fact) (medium : Words) → At views j v → Has fact v.facts → IsPossible site words views medium
         → HoldsFact site.shape (version_of site) words fact medium
     pub may_say : (j : ℕ) (v : View) (fact : Fact) → At views j v → Has fact v.facts → MaySay v.areas fact

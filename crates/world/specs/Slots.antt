@@ -5,6 +5,7 @@ use Rattle.trace.specs.Events.{Words}
 use Rattle.map_model.specs.declared.call.Call.{Call}
 use Rattle.map_model.specs.declared.entry.Reply.TheVariants.{Full}
 use Rattle.segment_head.specs.HeadWord.{version_in, state_in, free, splitting}
+use Rattle.image_layout.specs.Volatile.{free_guard}
 use Rattle.sound_image.specs.Segments.{frame_of}
 use Rattle.frame_facts.specs.Facts.{IsLiveSlot, IsUsedSlot}
 use Rattle.world.specs.Ground.{Ground, version_of, IsCurrentIn}
@@ -58,14 +59,14 @@ OthersHaveNoAreas j views = (i : ℕ) (u : View) → i ≢ j → At views i u �
 -- WHERE NO VIEW HAS AREAS no guard is taken, and no segment is split
 pub record RestsAreQuiet : Type 0 where
   pub guards : (site : Ground) (words : Words) (views : List View) → Holds site words views → ((i : ℕ) (u : View) → At views i u → u.areas ≡ [])
-      → (guard : Guard) → HasGuard site.shape guard → words (guard_word site.shape guard) ≡ 0
+      → (guard : Guard) → HasGuard site.shape guard → words (guard_word site.shape guard) ≡ free_guard
   pub splits : (site : Ground) (words : Words) (views : List View) → Holds site words views → ((i : ℕ) (u : View) → At views i u → u.areas ≡ []) → AllCurrent site words
       → (s : ℕ) → s < site.shape.segments → state_in (words (header_word site.shape s)) ≢ splitting
 
 -- WHERE NO OTHER VIEW HAS AREAS a guard that is taken is that of this view, and a segment that is split is whole in it
 pub record OthersAreQuiet : Type 0 where
   pub guards : (site : Ground) (words : Words) (views : List View) (j : ℕ) (v : View) → Holds site words views → At views j v → OthersHaveNoAreas j views
-      → (guard : Guard) → HasGuard site.shape guard → words (guard_word site.shape guard) ≢ 0 → Has (area_of guard) v.areas
+      → (guard : Guard) → HasGuard site.shape guard → words (guard_word site.shape guard) ≢ free_guard → Has (area_of guard) v.areas
   pub splits : (site : Ground) (words : Words) (views : List View) (j : ℕ) (v : View) → Holds site words views → At views j v → OthersHaveNoAreas j views → AllCurrent site words
       → (s : ℕ) → s < site.shape.segments → state_in (words (header_word site.shape s)) ≡ splitting → Has (Segment s) v.areas × Has (Whole s) v.areas
 

@@ -84,7 +84,8 @@ pub fn loads_tell()
     ensures header { HeadersTell }
 {}
 
-/// Who has a guard, its word is not 0, so that an exchange from 0 wins a guard that nobody has: over the stores to guards and to other words.
+/// Who has a guard, its word is not that of a free one, so that an exchange from that wins a guard that nobody has: over the stores to
+/// guards and to other words.
 pub fn guards_are_taken()
     ensures free { FreeGuardsAreNobodys }
     ensures takes { TakenGuardsAreKept }

@@ -51,8 +51,8 @@ pub fn steps_keep_areas()
     ensures used { KeepsUsedSlots }
 {}
 
-/// Who has a guard, its word is not 0; a guard whose word is not 0 is had by some view; who says that a segment claims hashes has its guard or
-/// that of the directory; and a pinned header is as it was.
+/// Who has a guard, its word is not that of a free one; a guard that is not free by its word is had by some view; who says that a segment
+/// claims hashes has its guard or that of the directory; and a pinned header is as it was.
 pub fn steps_keep_guards()
     ensures guards { KeepsGuards }
     ensures held { KeepsHeldGuards }

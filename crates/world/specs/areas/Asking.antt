@@ -5,6 +5,7 @@ use Rattle.hash_word.specs.Hash.{home_of}
 use Rattle.bucket_meta.specs.Bucket.{lock_bit}
 use Rattle.segment_head.specs.HeadWord.{state_in, depth_in, pattern_in, normal, splitting, HasLiveState, link_to}
 use Rattle.image_layout.specs.Places.{Shape, root_word, state_word, bucket_at, homes, buckets}
+use Rattle.image_layout.specs.Volatile.{free_guard}
 use Rattle.sound_image.specs.Segments.{frame_of}
 use Rattle.sound_image.specs.Records.{key_hash, HasExactNotes}
 use Rattle.frame_facts.specs.Core.{core_of, core}
@@ -153,9 +154,9 @@ module _ (site : Ground) where
 
   -- WHAT A KIND ASKS of the stepping view
   abbrev pub MayAt : StructureKind → View → Type 0
-  MayAt (takes (of_segment s) caller) v = (0 < caller) × Has (Lives s) v.facts
-  MayAt (takes guard caller) v = 0 < caller
-  MayAt (takes_for_side n caller) v = (0 < caller) × IsFirmIn v (IsInSlot site.shape n) × KnowsDead v n
+  MayAt (takes (of_segment s) caller) v = (free_guard < caller) × Has (Lives s) v.facts
+  MayAt (takes guard caller) v = free_guard < caller
+  MayAt (takes_for_side n caller) v = (free_guard < caller) × IsFirmIn v (IsInSlot site.shape n) × KnowsDead v n
   MayAt (gives guard) v = Has (area_of guard) v.areas × IsFirmIn v (IsOf site.shape v guard) × HasOpened site.shape v guard
   MayAt (finds_stale s version) v = Has (Segment s) v.areas × (version ≡ version_of site)
   MayAt (closes s i) v = Has (Segment s) v.areas × HoldsAll site.shape v s × HoldsWord site.shape v i

@@ -1,7 +1,7 @@
 -- The laws of the kinds of step at the structure: each keeps each part of the invariant.
 use Rattle.std.specs.Prelude.{◌≡◌, ◌≢◌, ◌==◌, ℕ, List, set, if◌then◌else◌}
 use Rattle.trace.specs.Events.{Words}
-use Rattle.image_layout.specs.Volatile.{power_word}
+use Rattle.image_layout.specs.Volatile.{power_word, free_guard}
 use Rattle.frame_facts.specs.Core.{core}
 use Rattle.frame_facts.specs.Hits.{find}
 use Rattle.frame_facts.specs.Facts.{Fact, HoldsFact}
@@ -71,13 +71,13 @@ KeepsSettledSlots = KeepsPart (λ site words views log. SettledSlots site words 
 abbrev pub KeepsUsedSlots : Type 0
 KeepsUsedSlots = KeepsPart (λ site words views log. UsedSlots site words)
 
--- that the word of a guard is not 0 which a view has
+-- that a guard which a view has is not free by its word
 abbrev pub KeepsGuards : Type 0
-KeepsGuards = KeepsPart (λ site words views log. (c : ℕ) (u : View) (guard : Guard) → At views c u → Has (area_of guard) u.areas → words (guard_word site.shape guard) ≢ 0)
+KeepsGuards = KeepsPart (λ site words views log. (c : ℕ) (u : View) (guard : Guard) → At views c u → Has (area_of guard) u.areas → words (guard_word site.shape guard) ≢ free_guard)
 
--- that a guard whose word is not 0 is had by some view
+-- that a guard which is not free is had by some view
 abbrev pub KeepsHeldGuards : Type 0
-KeepsHeldGuards = KeepsPart (λ site words views log. (guard : Guard) → HasGuard site.shape guard → words (guard_word site.shape guard) ≢ 0
+KeepsHeldGuards = KeepsPart (λ site words views log. (guard : Guard) → HasGuard site.shape guard → words (guard_word site.shape guard) ≢ free_guard
     → (c : ℕ) × (u : View) × At views c u × Has (area_of guard) u.areas)
 
 -- that a view may say its facts

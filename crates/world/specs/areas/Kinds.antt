@@ -7,7 +7,7 @@ use Rattle.hash_word.specs.Hash.{first_hash_of}
 use Rattle.segment_head.specs.HeadWord.{version_in, state_in, depth_in, pattern_in, free, fresh, is_live}
 use Rattle.segment_head.specs.Prefixes.{one_side_down_to}
 use Rattle.image_layout.specs.Places.{Shape, block, root_word, first_segment, entry_at, head_at, segment_words}
-use Rattle.image_layout.specs.Volatile.{allocation_guard, directory_guard, segment_guard}
+use Rattle.image_layout.specs.Volatile.{allocation_guard, directory_guard, segment_guard, free_guard}
 use Rattle.frame_facts.specs.Facts.{Fact, Lives, Current, Rooted, Owns, Lacks, Deep, Begins, Used, Taken}
 use Rattle.world.specs.Views.{View}
 use Rattle.world.specs.Kinds.{with_store, without}
@@ -23,7 +23,7 @@ pub data Guard : Type 0 where
   of_free_slots : Guard
   of_directory : Guard
 
--- the word of a guard: 0 where nobody has it, and else a number that its holder stored
+-- the word of a guard: `free_guard` where nobody has it, and else a number that its holder stored
 abbrev pub guard_word : Shape → Guard → ℕ
 guard_word shape (of_segment s) = segment_guard shape s
 guard_word shape of_free_slots = allocation_guard shape
@@ -48,10 +48,9 @@ goes_with of_directory = is_of_directory
 
 -- THE KINDS
 pub data StructureKind : Type 0 where
-  -- an exchange of a guard's word from 0, by the caller of this number
+  -- an exchange of a guard's word from that of a free one, by the caller of this number
   takes : (guard : Guard) (caller : ℕ) → StructureKind
-  -- an exchange of the word of the guard of free slots from 0, by a caller that found this slot to be a new side: with the guard lost, the
-  -- side is given up
+  -- the same of the guard of free slots, by a caller that found this slot to be a new side: with the guard lost, the side is given up
   takes_for_side : (slot caller : ℕ) → StructureKind
   -- the store that gives a guard back
   gives : (guard : Guard) → StructureKind
@@ -84,9 +83,9 @@ pub data StructureKind : Type 0 where
 
 -- what is wanted of the memory
 abbrev pub wanted_at : Shape → StructureKind → Want
-wanted_at shape (takes guard caller) = Exchange (guard_word shape guard) 0 caller
-wanted_at shape (takes_for_side n caller) = Exchange (allocation_guard shape) 0 caller
-wanted_at shape (gives guard) = Store (guard_word shape guard) 0
+wanted_at shape (takes guard caller) = Exchange (guard_word shape guard) free_guard caller
+wanted_at shape (takes_for_side n caller) = Exchange (allocation_guard shape) free_guard caller
+wanted_at shape (gives guard) = Store (guard_word shape guard) free_guard
 wanted_at shape (finds_stale s version) = Load (header_word shape s)
 wanted_at shape (closes s i) = Load i
 wanted_at shape (finds_free n) = Load (header_word shape n)
@@ -207,8 +206,8 @@ facts_by row s facts = facts
 
 -- THE VIEW AFTER, by the word that was found
 abbrev pub view_then : Shape → StructureKind → ℕ → View → View
-view_then shape (takes guard caller) n v = with_guard (n == 0) guard v
-view_then shape (takes_for_side m caller) n v = with_guard_for shape (n == 0) m v
+view_then shape (takes guard caller) n v = with_guard (n == free_guard) guard v
+view_then shape (takes_for_side m caller) n v = with_guard_for shape (n == free_guard) m v
 view_then shape (gives guard) n v =
     record v { areas = all_but (goes_with guard) v.areas; facts = facts_without guard v.facts; known = known_without shape guard v.areas v.known }
 view_then shape (finds_stale s version) n v = with_area (not (version_in n == version)) (Stale s) (header_word shape s) n v
