@@ -2,10 +2,11 @@
 -- nothing, and of a bucket's metadata all but the overflow parts.
 use Rattle.std.specs.Prelude.{◌≡◌, ℕ, zero, suc, ◌+◌, ◌-◌, ◌/◌, ◌%◌, ◌<◌, ◌≤◌, nat_lt, ◌==◌, ◌||◌, if◌then◌else◌}
 use Rattle.trace.specs.Events.{Words}
-use Rattle.bucket_meta.specs.Bucket.{slots_part, slot_fingers_part}
+use Rattle.bucket_meta.specs.Bucket.{mark_place, slots_part, slot_fingers_part}
 use Rattle.image_layout.specs.Places.{Shape, first_segment, words_of, bucket_at, block, buckets}
 
--- of word n of a bucket
+-- of word n of a bucket, counted up from zero: of its lock word nothing, of `mark_place` the record slots, `fingers_place` as it is, of
+-- `rest_place` the fingerprints of record slots, and each word behind these as it is
 abbrev pub core_in_bucket : ℕ → ℕ → ℕ
 core_in_bucket zero x = 0
 core_in_bucket (suc zero) x = slots_part x
@@ -29,4 +30,4 @@ module _ (shape : Shape) where
 
   -- the words of bucket b of segment s behind its lock word have the same cores in both
   abbrev pub SameCoresIn : Words → Words → ℕ → ℕ → Type 0
-  SameCoresIn word other s b = (n : ℕ) → 1 ≤ n → n < block → core word (bucket_at shape s b + n) ≡ core other (bucket_at shape s b + n)
+  SameCoresIn word other s b = (n : ℕ) → mark_place ≤ n → n < block → core word (bucket_at shape s b + n) ≡ core other (bucket_at shape s b + n)

@@ -18,8 +18,8 @@ ghost use Rattle.bucket_words.specs.HomeNotes.{SameHomeNotes, IsUnnoted};
 /// stay.
 pub fn notes_stay()
     ensures words { (shape : Shape) (word other : Words) (s b : ℕ)
-        → ((n : ℕ) → 1 ≤ n → n < first_key → other (bucket_at shape s b + n) ≡ word (bucket_at shape s b + n))
-        → ((n : ℕ) → 1 ≤ n → n < first_key → other (bucket_at shape s (probing_of b) + n) ≡ word (bucket_at shape s (probing_of b) + n))
+        → ((n : ℕ) → mark_place ≤ n → n < first_key → other (bucket_at shape s b + n) ≡ word (bucket_at shape s b + n))
+        → ((n : ℕ) → mark_place ≤ n → n < first_key → other (bucket_at shape s (probing_of b) + n) ≡ word (bucket_at shape s (probing_of b) + n))
         → notes_of shape other s b ≡ notes_of shape word s b }
     ensures metadata { (shape : Shape) (word : Words) (s b x : ℕ) → b < buckets → KeepsUpper (word (bucket_at shape s b + mark_place)) x
         → (q d : ℕ) → d < homes → (notes_of shape (with_word word (bucket_at shape s b + mark_place) x) q d ≡ notes_of shape word q d)

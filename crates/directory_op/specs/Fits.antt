@@ -2,7 +2,7 @@
 -- not settled.
 use Rattle.std.specs.Prelude.{◌≡◌, ◌≢◌, None, ℕ, suc, ◌+◌, ◌-◌, ◌/◌, ◌%◌, ◌^◌, ◌<◌, ◌≤◌, ◌⊎◌, List, [], ◌∷◌}
 use Rattle.trace.specs.Events.{HasLine}
-use Rattle.bucket_meta.specs.Bucket.{record_slots}
+use Rattle.bucket_meta.specs.Bucket.{mark_place, rest_place, record_slots}
 use Rattle.segment_head.specs.HeadWord.{depth_in}
 use Rattle.image_layout.specs.Places.{Shape, block, root_word, entry_at, bucket_at, key_at, value_at, buckets, words_of}
 use Rattle.segment_head.specs.SplitHeads.{side_depth_in, side_pattern_in}
@@ -44,12 +44,12 @@ IsOfSide c root i = i / 2 ^ (root - side_depth c) ≡ side_pattern c
 -- ---- what is known
 -- a word of the segment that is kept: its header, its link, or one behind the lock of a bucket
 abbrev pub IsKeptWord : Shape → ℕ → ℕ → Type 0
-IsKeptWord shape s i = (i ≡ header_word shape s) ⊎ (i ≡ link_word shape s) ⊎ ((b : ℕ) × (m : ℕ) × (b < buckets) × (1 ≤ m) × (m < block) × (i ≡ bucket_at shape s b + m))
+IsKeptWord shape s i = (i ≡ header_word shape s) ⊎ (i ≡ link_word shape s) ⊎ ((b : ℕ) × (m : ℕ) × (b < buckets) × (mark_place ≤ m) × (m < block) × (i ≡ bucket_at shape s b + m))
 
 -- a word of the side that is looked at: its header, a word of metadata, or the key or the value of a record
 abbrev pub IsSideWord : Shape → Copied → ℕ → Type 0
 IsSideWord shape c i = (i ≡ header_word shape c.side)
-    ⊎ ((b : ℕ) × (m : ℕ) × (b < buckets) × (1 ≤ m) × (m ≤ 3) × (i ≡ bucket_at shape c.side b + m))
+    ⊎ ((b : ℕ) × (m : ℕ) × (b < buckets) × (mark_place ≤ m) × (m ≤ rest_place) × (i ≡ bucket_at shape c.side b + m))
     ⊎ ((b : ℕ) × (r : ℕ) × (b < buckets) × (r < record_slots) × IsTaken (copied_words c) (bucket_at shape c.side b) r
     × ((i ≡ key_at shape c.side b r) ⊎ (i ≡ value_at shape c.side b r)))
 

@@ -1,7 +1,7 @@
 -- How the view of its caller stands in each step of an enclosing: what it holds and knows.
 use Rattle.std.specs.Prelude.{◌≡◌, ◌≢◌, ℕ, ◌+◌, ◌-◌, ◌*◌, ◌%◌, ◌^◌, ◌<◌, ◌≤◌, true, Option, None, Some, [], ◌∷◌, slice_index}
 use Rattle.hash_word.specs.Hash.{home_of}
-use Rattle.bucket_meta.specs.Bucket.{given_back}
+use Rattle.bucket_meta.specs.Bucket.{mark_place, given_back}
 use Rattle.segment_head.specs.HeadWord.{depth_in}
 use Rattle.image_layout.specs.Places.{root_word, bucket_at, buckets, block, words_of_buckets, last_of_buckets}
 use Rattle.way.specs.Ways.{head_word, bucket_word}
@@ -103,7 +103,7 @@ module _ (site : Ground) (e : Enclosed) where
 
   -- THE WORDS BEFORE ONE are known as they are kept: this one is the next
   pub record IsFilling (at : ℕ) (v : View) : Type 0 where
-    pub from : 1 ≤ at
+    pub from : mark_place ≤ at
     pub last : at < words_of_buckets
     pub no_lock : at % block ≢ 0
     pub same : (j : ℕ) → j < at → j % block ≢ 0 → Has (bucket_at site.shape e.segment 0 + j, slice_index e.buckets j) v.known

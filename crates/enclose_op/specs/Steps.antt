@@ -1,6 +1,7 @@
 -- What an enclosing wants in each step, and what an answer makes of it; and how it ends.
 use Rattle.std.specs.Prelude.{ℕ, ◌+◌, ◌%◌, ◌==◌, ◌&&◌, nat_lt, Bool, true, false, Option, None, Some, replicate, slice_set, if◌then◌else◌, ◌-◌}
 use Rattle.hash_word.specs.Hash.{home_of}
+use Rattle.bucket_meta.specs.Bucket.{mark_place}
 use Rattle.segment_head.specs.HeadWord.{version_in, depth_in}
 use Rattle.image_layout.specs.Places.{buckets, block, words_of_buckets, last_of_buckets}
 use Rattle.image_layout.specs.Volatile.{counter_word, free_guard}
@@ -70,7 +71,7 @@ abbrev pub with_head : Enclosed → ℕ → Enclosed
 with_head e head = record e { head = head }
 
 abbrev pub headed : Enclosed → ℕ → EncloseOp
-headed e head = go (with_head e head) (if is_followed e head then Fill 1 else giving buckets not_enclosed.Room)
+headed e head = go (with_head e head) (if is_followed e head then Fill mark_place else giving buckets not_enclosed.Room)
 
 -- ---- the words
 -- the number of the word after one: lock words are left out

@@ -153,7 +153,7 @@ module _ (site : Ground) (e : Enclosed) (did : Doings) where
   pub record RemembersEnclosing : Type 0 where
     pub taken : HasTakenBefore buckets
     pub header : HasLoadedHeader
-    pub words : (b n : ℕ) → b < buckets → 1 ≤ n → n < block → Has (bucket_at site.shape e.segment b + n, kept_word e b n) did.loads
+    pub words : (b n : ℕ) → b < buckets → mark_place ≤ n → n < block → Has (bucket_at site.shape e.segment b + n, kept_word e b n) did.loads
 
   -- WHAT IS REMEMBERED WHERE IT IS HANDED ON: that, and no other word was changed
   pub record RemembersWhole : Type 0 where

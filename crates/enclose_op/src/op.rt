@@ -8,6 +8,7 @@ ghost use Rattle.enclose_op.specs.Steps.{begun, giving, next_lock, locked_to, is
 
 use crate::enclosed::Enclosed;
 use crate::give::{Give, give_from, given};
+use bucket_meta::words::MARK_PLACE;
 use image_layout::{BLOCK_WORDS, BUCKETS, FREE_GUARD, LAST_OF_BUCKETS, WORDS_OF_BUCKETS};
 use map_model::{Change, Reply};
 use op_core::{Ans, Machine, Want, Why};
@@ -166,7 +167,7 @@ fn headed(op: &mut EncloseOp, head: u64)
     ensures { op.new ≡ headed op.old.enclosed head }
 {
     op.step = if op.enclosed.is_followed(head) {
-        EncloseStep::Fill(1)
+        EncloseStep::Fill(MARK_PLACE as u16)
     } else {
         giving(BUCKETS, NotEnclosed::Room)
     };

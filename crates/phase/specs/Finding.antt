@@ -76,7 +76,7 @@ IsLeft site v segment c = HasLock v.held (bucket_at site.shape segment (homes + 
 -- the words of a bucket stand where its lock word does, whatever the others are
 abbrev pub WordsStand : Type 0
 WordsStand = (site : Ground) (here : Site) (hash segment : ℕ) (buckets : Buckets) (place : Role) → IsLocated site here segment
-    → (j : ℕ) → 1 ≤ j → j < block → words_of here hash segment buckets (lock_word here hash segment place + j) ≡ slice_index (words_in buckets place) j
+    → (j : ℕ) → mark_place ≤ j → j < block → words_of here hash segment buckets (lock_word here hash segment place + j) ≡ slice_index (words_in buckets place) j
 
 -- what was loaded of the buckets that are held is known
 abbrev pub LoadsAreKnown : Type 0

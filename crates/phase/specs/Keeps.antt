@@ -62,7 +62,7 @@ pub record KeepsFull (site : Ground) (kept : Kept) (v : View) : Type 0 where
 module _ (kept : Kept) where
   -- the words of a bucket were loaded as they are kept
   abbrev pub WasLoaded : List (ℕ × ℕ) → Role → Type 0
-  WasLoaded loads place = (j : ℕ) → 1 ≤ j → j < block → Has (lock_word kept.site kept.hash kept.segment place + j, slice_index (words_in kept.buckets place) j) loads
+  WasLoaded loads place = (j : ℕ) → mark_place ≤ j → j < block → Has (lock_word kept.site kept.hash kept.segment place + j, slice_index (words_in kept.buckets place) j) loads
 
   -- it changed no words but those of locks that it holds
   abbrev pub ChangedLocks : List ℕ → Type 0

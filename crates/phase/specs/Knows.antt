@@ -1,7 +1,7 @@
 -- What a holder of locks knows, said over one function of all words, which stands in proofs alone: which words it knows, and which
 -- may be loose.
 use Rattle.std.specs.Prelude.{◌≡◌, ℕ, ◌+◌, ◌%◌, ◌-◌, ◌<◌, ◌≤◌, ◌&&◌, nat_lt, List, ◌⊎◌, slice_index, if◌then◌else◌}
-use Rattle.bucket_meta.specs.Bucket.{rest_place}
+use Rattle.bucket_meta.specs.Bucket.{mark_place, rest_place}
 use Rattle.trace.specs.Events.{Words, with_word}
 use Rattle.image_layout.specs.Places.{Shape, block, bucket_at}
 use Rattle.map_model.specs.declared.call.Call.{Call}
@@ -32,7 +32,7 @@ HasNoneLoose v = (p : ℕ × ℕ) → IsLoose v p → ⊥
 
 -- the 31 words behind a lock word are known, by their numbers in the bucket
 abbrev pub IsWhole : ℕ → List ℕ → View → Type 0
-IsWhole lock words v = (j : ℕ) → 1 ≤ j → j < block → Has (lock + j, slice_index words j) v.known
+IsWhole lock words v = (j : ℕ) → mark_place ≤ j → j < block → Has (lock + j, slice_index words j) v.known
 
 -- the words with those of a loaded bucket
 abbrev pub with_loaded : ℕ → List ℕ → Words → Words

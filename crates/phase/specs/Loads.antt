@@ -3,10 +3,11 @@ use Rattle.std.specs.Prelude.{ℕ, ◌+◌, nat_lt, if◌then◌else◌, slice_s
 use Rattle.phase.specs.declared.load.Load.{Load}
 use Rattle.phase.specs.declared.load.Loaded.{Loaded}
 use Rattle.phase.specs.declared.load.Loaded.TheVariants.{On, All}
+use Rattle.bucket_meta.specs.Bucket.{mark_place}
 use Rattle.image_layout.specs.Places.{block}
 
 abbrev pub load_begun : Load
-load_begun = record { words = replicate block 0; next = 1 }
+load_begun = record { words = replicate block 0; next = mark_place }
 
 abbrev pub load_taken : Load → ℕ → Loaded
 load_taken load seen =

@@ -202,7 +202,7 @@ pub record MakeKnows (S : ℕ → Type 0) : Type 0 where
 -- the stores to the bucket of a place that is held keep what is held
 abbrev pub MakeHolds : Type 0
 MakeHolds = (shape : Shape) (publish : ℕ → ℕ → Kind) → IsStoring publish → (here : Site) (hash segment : ℕ) (held : Held) (place : Role) (written : Record) (make : Make) (n : ℕ) (v : View)
-    → IsHeld held place → written.slot < record_slots → 1 ≤ written.published → written.published < block → HoldsLocks here hash segment held v
+    → IsHeld held place → written.slot < record_slots → mark_place ≤ written.published → written.published < block → HoldsLocks here hash segment held v
     → HoldsLocks here hash segment held (view_after shape (make_kind publish (lock_word here hash segment place) written make) n v)
 
 abbrev pub MakeFalls : Type 0

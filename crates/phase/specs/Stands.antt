@@ -1,6 +1,7 @@
 -- How the phases fit the world: the kind of each event, what is known in each state, and how many events are left.
 use Rattle.std.specs.Prelude.{◌≡◌, ℕ, ◌+◌, ◌-◌, ◌^◌, ◌<◌, ◌≤◌, nat_le, nat_lt, ⊤, true, None, List, [], ◌∷◌, length, slice_index, if◌then◌else◌}
 use Rattle.hash_word.specs.Hash.{index_of}
+use Rattle.bucket_meta.specs.Bucket.{mark_place}
 use Rattle.trace.specs.Events.{Words}
 use Rattle.segment_head.specs.HeadWord.{version_in, is_live}
 use Rattle.image_layout.specs.Places.{Shape, IsShape, root_word, header_word, block}
@@ -129,14 +130,14 @@ backed_left end = 0
 -- that a view knows
 module _ (lock : ℕ) where
   pub record IsLoading (pairs : List (ℕ × ℕ)) (load : Load) : Type 0 where
-    pub same : (i : ℕ) → 1 ≤ i → i < load.next → Has (lock + i, slice_index load.words i) pairs
+    pub same : (i : ℕ) → mark_place ≤ i → i < load.next → Has (lock + i, slice_index load.words i) pairs
     pub whole : length load.words ≡ block
-    pub from : 1 ≤ load.next
+    pub from : mark_place ≤ load.next
     pub last : load.next ≤ block - 1
 
   abbrev pub HasLoaded : List (ℕ × ℕ) → Loaded → Type 0
   HasLoaded pairs (loaded.On load) = IsLoading pairs load
-  HasLoaded pairs (loaded.All words) = (i : ℕ) → 1 ≤ i → i < block → Has (lock + i, slice_index words i) pairs
+  HasLoaded pairs (loaded.All words) = (i : ℕ) → mark_place ≤ i → i < block → Has (lock + i, slice_index words i) pairs
 
 abbrev pub load_left : Load → ℕ
 load_left load = 1 + (block - 1 - load.next)

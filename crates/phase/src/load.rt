@@ -6,7 +6,7 @@ ghost use Rattle.op_core.specs.declared.want.Want.TheVariants as want;
 ghost use Rattle.phase.specs.declared.load.Loaded.TheVariants.{On, All};
 ghost use Rattle.phase.specs.Loads.{load_begun, load_taken};
 
-use bucket_meta::words::BUCKET_WORDS;
+use bucket_meta::words::{BUCKET_WORDS, MARK_PLACE};
 use op_core::Want;
 
 /// How many words a bucket has.
@@ -37,7 +37,7 @@ impl Load {
     {
         Load {
             words: [0; BUCKET_WORDS],
-            next: 1,
+            next: MARK_PLACE as u8,
         }
     }
 }

@@ -59,7 +59,7 @@ third_before op n c = if nat_lt c homes && nat_lt (2 * c + 1) n then slice_index
 module _ (site : Ground) (e : Enclosed) where
   -- the 31 words behind the lock word of each bucket are known
   abbrev pub KnowsAll : (first third : ℕ → ℕ) → View → Type 0
-  KnowsAll first third v = (b n : ℕ) → b < buckets → 1 ≤ n → n < block → Has (bucket_at site.shape e.segment b + n, value_of e first third b n) v.known
+  KnowsAll first third v = (b n : ℕ) → b < buckets → mark_place ≤ n → n < block → Has (bucket_at site.shape e.segment b + n, value_of e first third b n) v.known
 
   -- nothing is planned, under way or owed
   pub record IsIdle (v : View) : Type 0 where

@@ -3,7 +3,7 @@ use Rattle.std.specs.Prelude.{◌≡◌, ◌≢◌, ℕ, zero, suc, ◌+◌, ◌
 use Rattle.trace.specs.Events.{HasLine}
 use Rattle.op_core.specs.declared.want.Want.{Want}
 use Rattle.op_core.specs.declared.want.Want.TheVariants.{Store}
-use Rattle.bucket_meta.specs.Bucket.{first_key}
+use Rattle.bucket_meta.specs.Bucket.{mark_place, first_key}
 use Rattle.segment_head.specs.HeadWord.{state_in, free, link_to}
 use Rattle.image_layout.specs.Places.{root_word, words_of, head_at, header_number, link_number, bucket_at, buckets, block, segment_words, words_of_buckets}
 use Rattle.map_model.specs.declared.call.Call.{Call}
@@ -119,7 +119,7 @@ module _ (site : Ground) (here : Site) (call : Call) where
     pub words : CopiesFrom site c.whole c.words
     pub there : IsThere site c.whole.segment v.facts
     pub locks : HoldsLocks site c.whole v
-    pub buckets_are : (b m : ℕ) → b < buckets → 1 ≤ m → m < block → Has (bucket_at site.shape c.whole.segment b + m, kept_words c.whole (bucket_at site.shape c.whole.segment b + m)) v.known
+    pub buckets_are : (b m : ℕ) → b < buckets → mark_place ≤ m → m < block → Has (bucket_at site.shape c.whole.segment b + m, kept_words c.whole (bucket_at site.shape c.whole.segment b + m)) v.known
     pub planned : v.planned ≡ []
     pub moving : v.moving ≡ []
     pub owed : v.owed ≡ []

@@ -2,7 +2,7 @@
 use Rattle.std.specs.Prelude.{◌≡◌, ◌≢◌, ◌⊎◌, true, ℕ, zero, suc, ◌+◌, ◌^◌, ◌<◌, ◌≤◌, List, [], ◌∷◌, slice_index, length}
 use Rattle.op_core.specs.declared.want.Want.{Want}
 use Rattle.op_core.specs.declared.want.Want.TheVariants.{Load, Store, Exchange}
-use Rattle.bucket_meta.specs.Bucket.{lock_place, lock_bit, free_lock, locked, unlocked, given_back}
+use Rattle.bucket_meta.specs.Bucket.{lock_place, mark_place, lock_bit, free_lock, locked, unlocked, given_back}
 use Rattle.image_layout.specs.Places.{block}
 use Rattle.world.specs.Ground.{Ground, spent_lock}
 use Rattle.world.specs.Views.{Glance, View, Has, IsFirm}
@@ -59,7 +59,7 @@ ReadToItsEnd lock before after took later = (bits : List ℕ) × (slice_index bi
 abbrev pub NotesBucket : ℕ → ℕ → List ℕ → View → Type 0
 NotesBucket lock version bits v =
     (note : Glance) × Has note v.notes × (note.word ≡ lock) × (note.value ≡ free_lock version) × (note.again ≡ true)
-    × ((j : ℕ) → 1 ≤ j → j < block → Has (lock + j, slice_index bits j) note.words)
+    × ((j : ℕ) → mark_place ≤ j → j < block → Has (lock + j, slice_index bits j) note.words)
 
 -- WHAT READING A BUCKET TELLS, of what the seat knew before and knows after: where the bucket is clean, its 32 words were loaded, and then the
 -- lock word once more
@@ -85,7 +85,7 @@ pub record IsReading (site : Ground) (v : View) (lock before : ℕ) (bits : List
   pub lock_is : note.word ≡ lock
   pub value : note.value ≡ before
   pub even : lock_bit before ≡ 0
-  pub has : (j : ℕ) → 1 ≤ j → j < next → Has (lock + j, slice_index bits j) note.words
+  pub has : (j : ℕ) → mark_place ≤ j → j < next → Has (lock + j, slice_index bits j) note.words
   pub whole : length bits ≡ block
   pub first : slice_index bits lock_place ≡ before
   pub same_view : IsBesideNotes v w

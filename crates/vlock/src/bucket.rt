@@ -2,7 +2,7 @@
 
 ghost use Rattle.std.specs.Prelude.{◌≡◌, ℕ, ◌+◌, ◌<◌, ◌≢◌, None};
 ghost use Rattle.op_core.specs.declared.want.Want.TheVariants.{Load};
-ghost use Rattle.bucket_meta.specs.Bucket.{lock_bit};
+ghost use Rattle.bucket_meta.specs.Bucket.{lock_place, lock_bit};
 ghost use Rattle.image_layout.specs.Places.{bucket_at, block, buckets};
 ghost use Rattle.image_layout.specs.Volatile.{all_words_of};
 ghost use Rattle.world.specs.Facts.{Lives, Current};
@@ -17,7 +17,9 @@ ghost use Rattle.vlock.specs.Buckets.{MayCall, Loads, IsBesideNotes, ReadSays, L
 
 use crate::steps::event;
 use crate::table::{Acting, Image, ImageSeat};
-use bucket_meta::words::{LOCK_PLACE, SPENT_LOCK, is_locked, lock_version, locked, unlocked};
+use bucket_meta::words::{
+    LOCK_PLACE, MARK_PLACE, SPENT_LOCK, is_locked, lock_version, locked, unlocked,
+};
 use image_layout::{BLOCK, Geometry};
 use op_core::{Ans, Want};
 use std::marker::Brand;
@@ -94,7 +96,7 @@ fn glance(image: &Image, geometry: &Geometry, seat: &mut ImageSeat, lock: u64, i
     requires table { IsSeatOf image.now.table_id image.now.key seat.old }
     requires geometry { geometry.now ≡ image.now.key.geometry }
     requires lock { IsLockWord image.now.key.geometry lock × MayCall seat.old.me.0.view }
-    requires inside { (0 < i) × (i < block) }
+    requires inside { (lock_place < i) × (i < block) }
     ensures table { IsSeatOf image.now.table_id image.now.key seat.new }
     ensures view { Loads (ground_of image.now.key) (lock + i) (λ n. of_call (glances_word lock (lock + i))) seat.old.me.0 result seat.new.me.0 }
 {
@@ -161,7 +163,7 @@ pub fn read_bucket(
     }
     let mut words = [0; BLOCK as usize];
     words[LOCK_PLACE] = before;
-    for i in 1..BLOCK as usize {
+    for i in MARK_PLACE..BLOCK as usize {
         words[i] = glance(image, geometry, seat, lock, i as u64);
     }
     let after = validate(image, geometry, seat, lock);

@@ -1,6 +1,6 @@
 -- What the holder of locks has to know of buckets to make a store there, said over the words that it knows.
 use Rattle.std.specs.Prelude.{◌≡◌, ◌≢◌, ◌≤◌, ℕ, ◌+◌, ◌<◌, ◌⊎◌, [], true, false, None, Some, List}
-use Rattle.bucket_meta.specs.Bucket.{mark_place, rest_place, allocated, member, overflow_count, record_slots, key_place, value_place, home_side, probing_side, note_fingers_part}
+use Rattle.bucket_meta.specs.Bucket.{mark_place, fingers_place, rest_place, allocated, member, overflow_count, record_slots, key_place, value_place, home_side, probing_side, note_fingers_part}
 use Rattle.bucket_meta.specs.Notes.{AreExact}
 use Rattle.frame_facts.specs.Core.{core_of}
 use Rattle.hash_word.specs.Hash.{home_of, probing_of, finger_of}
@@ -36,11 +36,12 @@ pub record KnowsBucket (shape : Shape) (v : View) (s b : ℕ) (word : Words) : T
 -- it holds the lock of bucket b of segment s, and knows the three words of metadata behind it: they are those of `word`
 pub record KnowsMeta (shape : Shape) (v : View) (s b : ℕ) (word : Words) : Type 0 where
   pub lock : HasLock v.held (bucket_at shape s b)
-  pub words : (n : ℕ) → 1 ≤ n → n ≤ 3 → KnowsWord v (bucket_at shape s b + n) (word (bucket_at shape s b + n))
+  pub words : (n : ℕ) → mark_place ≤ n → n ≤ rest_place → KnowsWord v (bucket_at shape s b + n) (word (bucket_at shape s b + n))
 
--- a store to word m, of 2 to 31, of bucket b leaves the taken slots and their fingerprints as they are, and the overflow parts of word 3
+-- a store to word m of bucket b, `fingers_place` or one behind it, leaves the taken slots and their fingerprints as they are, and the
+-- overflow parts of `rest_place`
 pub record SparesTaken (word : Words) (at m x : ℕ) : Type 0 where
-  pub from : 2 ≤ m
+  pub from : fingers_place ≤ m
   pub inside : m < block
   pub keys : (t : ℕ) → t < record_slots → IsTaken word at t → key_place t ≢ m
   pub values : (t : ℕ) → t < record_slots → IsTaken word at t → value_place t ≢ m

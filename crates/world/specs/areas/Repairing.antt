@@ -3,7 +3,7 @@
 use Rattle.std.specs.Prelude.{◌≡◌, ◌≢◌, ℕ, suc, ◌+◌, ◌*◌, ◌-◌, ◌/◌, ◌^◌, ◌<◌, ◌≤◌, ◌⊎◌, Bool, true, false, [], ◌∷◌}
 use Rattle.trace.specs.Events.{Words}
 use Rattle.hash_word.specs.Hash.{first_hash_of, Covers}
-use Rattle.bucket_meta.specs.Bucket.{mark_place, lock_bit, record_slots, allocated, member}
+use Rattle.bucket_meta.specs.Bucket.{mark_place, fingers_place, rest_place, lock_bit, record_slots, allocated, member}
 use Rattle.segment_head.specs.HeadWord.{version_in, state_in, depth_in, pattern_in, free, fresh, normal, splitting, link_to}
 pub use Rattle.segment_head.specs.SplitHeads.{side_depth_in, side_pattern_in}
 use Rattle.image_layout.specs.Places.{block, root_word, entry_at, bucket_at, homes, buckets}
@@ -118,14 +118,14 @@ module _ (site : Ground) (s : ℕ) (word : Words) (spoiled : ℕ → ℕ → Boo
   pub record IsMending (v : View) : Type 0 where
     pub mine : HasStale site v s word
     pub no_sides : HasNoSides v.areas
-    pub behind : (b n : ℕ) → b < buckets → 2 ≤ n → n < block → KnowsWord v (bucket_at site.shape s b + n) (word (bucket_at site.shape s b + n))
+    pub behind : (b n : ℕ) → b < buckets → fingers_place ≤ n → n < block → KnowsWord v (bucket_at site.shape s b + n) (word (bucket_at site.shape s b + n))
     pub first : (b : ℕ) → b < buckets → (y : ℕ) × Has (bucket_at site.shape s b + mark_place, y) v.known × FreesSpoiled b y
     pub loose : (b y : ℕ) → b < buckets → IsLoose v (bucket_at site.shape s b + mark_place, y) → FreesSpoiled b y
 
 pub record MayMend (site : Ground) (v : View) : Type 0 where
   -- records are cleared of a region of which the segment has nothing
   pub clear : (s b x d p : ℕ) (word : Words) → HasStale site v s word → HasNoSides v.areas → b < buckets → Has (Lacks s d p) v.facts
-      → ((n : ℕ) → 1 ≤ n → n < block → KnowsWord v (bucket_at site.shape s b + n) (word (bucket_at site.shape s b + n)))
+      → ((n : ℕ) → mark_place ≤ n → n < block → KnowsWord v (bucket_at site.shape s b + n) (word (bucket_at site.shape s b + n)))
       → ClearsRegion site word (bucket_at site.shape s b) d p (word (bucket_at site.shape s b + mark_place)) x → MayAt site (sets (bucket_at site.shape s b + mark_place) x) v
   -- the split ends: the segment lacks its 1-side, whose entries name deeper ones
   pub end : (s x : ℕ) (word : Words) → HasStale site v s word → HasNoSides v.areas → state_in (head_now site s word) ≡ splitting
@@ -139,7 +139,7 @@ pub record MayMend (site : Ground) (v : View) : Type 0 where
       → KnowsWord v (bucket_at site.shape s b + mark_place) (word (bucket_at site.shape s b + mark_place)) → FreesSpoiled site s word spoiled b x
       → MayAt site (sets (bucket_at site.shape s b + mark_place) x) v
   -- a word of metadata is stored that has the core of the word there, which is settled
-  pub rebuild : (s b m x w : ℕ) (word : Words) → HasStale site v s word → HasNoSides v.areas → b < buckets → 1 ≤ m → m ≤ 3
+  pub rebuild : (s b m x w : ℕ) (word : Words) → HasStale site v s word → HasNoSides v.areas → b < buckets → mark_place ≤ m → m ≤ rest_place
       → KnowsWord v (bucket_at site.shape s b + m) w → core_of site.shape (bucket_at site.shape s b + m) x ≡ core_of site.shape (bucket_at site.shape s b + m) w
       → MayAt site (sets (bucket_at site.shape s b + m) x) v
   -- the segment gets the image's version, where it is in order by what is known: its records are its own, each key stands once, notes are exact, and no lock is taken

@@ -3,7 +3,7 @@
 use Rattle.std.specs.Prelude.{◌≡◌, ◌≢◌, ℕ, suc, ◌+◌, ◌*◌, ◌-◌, ◌/◌, ◌^◌, ◌<◌, ◌≤◌, ◌⊎◌, [], ◌∷◌}
 use Rattle.trace.specs.Events.{Words}
 use Rattle.hash_word.specs.Hash.{Covers}
-use Rattle.bucket_meta.specs.Bucket.{mark_place, lock_bit, record_slots, allocated, member}
+use Rattle.bucket_meta.specs.Bucket.{mark_place, rest_place, lock_bit, record_slots, allocated, member}
 use Rattle.segment_head.specs.HeadWord.{version_in, state_in, depth_in, pattern_in, free, fresh, normal, splitting, HasLiveState, link_to}
 use Rattle.image_layout.specs.Places.{Shape, block, root_word, entry_at, bucket_at, key_at, value_at, homes, buckets}
 use Rattle.segment_head.specs.SplitHeads.{side_depth_in, side_pattern_in}
@@ -40,11 +40,11 @@ module _ (shape : Shape) (v : View) where
 
   -- and so are the 31 words behind the lock word of each of its buckets
   abbrev pub KnowsBuckets : ℕ → Words → Type 0
-  KnowsBuckets s word = (b n : ℕ) → b < buckets → 1 ≤ n → n < block → KnowsWord v (bucket_at shape s b + n) (word (bucket_at shape s b + n))
+  KnowsBuckets s word = (b n : ℕ) → b < buckets → mark_place ≤ n → n < block → KnowsWord v (bucket_at shape s b + n) (word (bucket_at shape s b + n))
 
   -- of the buckets of a slot the metadata is known, and of each record slot that is taken the key and the value
   pub record KnowsRecords (s : ℕ) (word : Words) : Type 0 where
-    pub meta : (b m : ℕ) → b < buckets → 1 ≤ m → m ≤ 3 → KnowsWord v (bucket_at shape s b + m) (word (bucket_at shape s b + m))
+    pub meta : (b m : ℕ) → b < buckets → mark_place ≤ m → m ≤ rest_place → KnowsWord v (bucket_at shape s b + m) (word (bucket_at shape s b + m))
     pub key : (b r : ℕ) → b < buckets → r < record_slots → IsTaken word (bucket_at shape s b) r → KnowsWord v (key_at shape s b r) (word (key_at shape s b r))
     pub value : (b r : ℕ) → b < buckets → r < record_slots → IsTaken word (bucket_at shape s b) r → KnowsWord v (value_at shape s b r) (word (value_at shape s b r))
 
@@ -152,7 +152,7 @@ pub record ClearsRegion (site : Ground) (word : Words) (at depth pattern w x : �
 pub record MayFinish (site : Ground) (v : View) : Type 0 where
   -- records are cleared of a region of which the segment has nothing
   pub clear : (s b x d p : ℕ) (word : Words) → IsSettledHolder site.shape v → HoldsBucketOf site.shape v s b → Has (Lacks s d p) v.facts
-      → ((n : ℕ) → 1 ≤ n → n < block → KnowsWord v (bucket_at site.shape s b + n) (word (bucket_at site.shape s b + n)))
+      → ((n : ℕ) → mark_place ≤ n → n < block → KnowsWord v (bucket_at site.shape s b + n) (word (bucket_at site.shape s b + n)))
       → ClearsRegion site word (bucket_at site.shape s b) d p (word (bucket_at site.shape s b + mark_place)) x → MayAt site (sets (bucket_at site.shape s b + mark_place) x) v
   -- the split ends: the segment lacks its 1-side, whose entries name deeper ones, and no side is held
   pub end : (s x : ℕ) (word : Words) → IsSettledHolder site.shape v → Has (Whole s) v.areas → Has (Segment s) v.areas → HasNoSides v.areas → KnowsHead site.shape v s word
@@ -162,7 +162,7 @@ pub record MayFinish (site : Ground) (v : View) : Type 0 where
       → IsHeader x normal (side_depth_in (word (header_word site.shape s))) (2 * pattern_in (word (header_word site.shape s))) (version_in (word (header_word site.shape s)))
       → MayAt site (moves finishes s x) v
   -- a word of metadata is stored that has the core of the word there, which is settled: what may be left has that core too
-  pub rebuild : (s b m x w : ℕ) → IsSettledHolder site.shape v → HoldsBucketOf site.shape v s b → 1 ≤ m → m ≤ 3
+  pub rebuild : (s b m x w : ℕ) → IsSettledHolder site.shape v → HoldsBucketOf site.shape v s b → mark_place ≤ m → m ≤ rest_place
       → KnowsWord v (bucket_at site.shape s b + m) w → core_of site.shape (bucket_at site.shape s b + m) x ≡ core_of site.shape (bucket_at site.shape s b + m) w
       → MayAt site (sets (bucket_at site.shape s b + m) x) v
   -- the first lock is freed of a normal segment that is in order by what is known: its records are its own, each key stands once, notes are exact
