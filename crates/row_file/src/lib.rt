@@ -13,5 +13,5 @@ mod text;
 pub use line::{Counts, Line, Lines, Others, Part, Word};
 pub use number::number_of;
 pub use reading::{File, Row, file_of};
-pub use step::{DONE, SINK_FAILED, Step};
+pub use step::Step;
 pub use store::{ROOM, WORD_BYTES, change, word_at};

@@ -6,9 +6,7 @@ use anyhow::Result;
 use std::alloc::Global;
 
 /// The status of a run that is done: the one that must come where no line says another.
-pub const DONE: u8 = 0;
-/// The status of a run whose sink failed. At it and at that of a run that is done the store may change.
-pub const SINK_FAILED: u8 = 5;
+const DONE: u8 = 0;
 
 /// Commands to be run, and what must come out of each.
 #[derive(Drop)]

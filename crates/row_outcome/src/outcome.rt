@@ -4,7 +4,8 @@ ghost use Rattle.std.specs.Prelude.{◌≡◌, ◌≢◌, IfOk, IsNone, IsTrue, 
 
 use crate::comparison::{line_difference, word_difference};
 use anyhow::Result;
-use row_file::{Counts, DONE, SINK_FAILED, Step};
+use command_line::{DONE, SINK_FAILED};
+use row_file::{Counts, Step};
 use std::alloc::Global;
 
 /// What a run left.
@@ -20,9 +21,10 @@ pub struct Outcome {
     pub counts: Counts,
 }
 
-/// Whether a run of this command that ended with this status must leave the store as it was.
+/// Whether a run of this command that ended with this status must leave the store as it was. Where a run is done, and where its sink failed,
+/// the store may change.
 fn must_keep(command: &str, status: u8) -> bool
-    ensures { status ≢ 0 → status ≢ 5 → IsTrue result }
+    ensures { status ≢ DONE → status ≢ SINK_FAILED → IsTrue result }
 {
     (status != DONE && status != SINK_FAILED) || command == "check" || command == "list"
 }
@@ -42,7 +44,7 @@ impl Outcome {
     ) -> Result<Option<String>>
         ensures status { IfOk result (λ difference. IsNone difference → self.now.status ≡ step.now.status) }
         ensures written { IfOk result (λ difference. IsNone difference → self.now.written.items ≡ string_bytes step.now.written) }
-        ensures kept { IfOk result (λ difference. IsNone difference → self.now.status ≢ 0 → self.now.status ≢ 5 → self.now.image.items ≡ before.now) }
+        ensures kept { IfOk result (λ difference. IsNone difference → self.now.status ≢ DONE → self.now.status ≢ SINK_FAILED → self.now.image.items ≡ before.now) }
     {
         if u64::from(self.status) != step.status {
             let (came, wanted) = (self.status, step.status);
