@@ -11,6 +11,17 @@ record_slots = 14
 abbrev pub note_slots : ℕ
 note_slots = 4
 
+-- how many of them have their fingerprints in w3: the lower ones, and the others, the upper ones, have theirs in w1
+abbrev pub lower_notes : ℕ
+lower_notes = 2
+
+-- the last of the lower ones, and the last of all
+abbrev pub last_lower_note : ℕ
+last_lower_note = lower_notes - 1
+
+abbrev pub last_note : ℕ
+last_note = note_slots - 1
+
 -- the words of a bucket before its records, by their numbers in it: its lock word
 abbrev pub lock_place : ℕ
 lock_place = 0
@@ -129,27 +140,23 @@ count_from = note_index_from + note_slots
 abbrev pub count_bits : ℕ
 count_bits = 5
 
--- from which bit of w1 on the fingerprints of note slots 2 and 3 stand
+-- from which bit of w1 on the fingerprints of the upper note slots stand
 abbrev pub upper_fingers_from : ℕ
 upper_fingers_from = count_from + count_bits
 
--- from which bit of w3 on those of note slots 0 and 1 stand, above those of record slots
+-- from which bit of w3 on those of the lower note slots stand, above those of record slots
 abbrev pub note_fingers_from : ℕ
 note_fingers_from = fingerprint_bits * rest_fingers
 
--- how many note slots have their fingerprints in w3: the lower ones, and the others have theirs in w1
-abbrev pub lower_notes : ℕ
-lower_notes = 2
-
--- how many bits of w3 these fingerprints have
+-- how many bits of w3 those have
 abbrev pub note_fingers_bits : ℕ
 note_fingers_bits = lower_notes * fingerprint_bits
 
--- from which bit of w1 on the fingerprint of note slot 3 stands, behind that of note slot 2
+-- from which bit of w1 on the fingerprint of the last note slot stands, behind that of the first upper one
 abbrev pub last_finger_from : ℕ
 last_finger_from = upper_fingers_from + fingerprint_bits
 
--- 1 where note slot i, of 4, holds the note of a record that stands in the stash
+-- 1 where note slot i holds the note of a record that stands in the stash
 abbrev pub note_used : ℕ → ℕ → ℕ
 note_used i w1 = bit (note_used_from + i) w1
 
@@ -168,7 +175,7 @@ probing_side = 1
 abbrev pub note_index : ℕ → ℕ → ℕ
 note_index i w1 = bit (note_index_from + i) w1
 
--- the fingerprint of a note: 0 and 1 stand in w3, 2 and 3 in w1
+-- the fingerprint of a note: those of the lower note slots stand in w3, those of the upper ones in w1
 abbrev pub note_finger : ℕ → ℕ → ℕ → ℕ
 note_finger i w1 w3 =
     if nat_lt i lower_notes then bits (note_fingers_from + fingerprint_bits * i) fingerprint_bits w3
@@ -178,7 +185,7 @@ note_finger i w1 w3 =
 abbrev pub overflow_count : ℕ → ℕ
 overflow_count w1 = bits count_from count_bits w1
 
--- from which bit of w1 on no field has a bit, behind the fingerprint of note slot 3
+-- from which bit of w1 on no field has a bit, behind the fingerprint of the last note slot
 abbrev pub spare_from : ℕ
 spare_from = last_finger_from + fingerprint_bits
 

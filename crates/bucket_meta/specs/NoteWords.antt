@@ -3,7 +3,7 @@ use Rattle.std.specs.Prelude.{◌≡◌, ◌≢◌, ℕ, ◌+◌, ◌-◌, ◌*�
 use Rattle.std.specs.Int.{bit_not, w64}
 use Rattle.word_bits.specs.Bits.{mask}
 use Rattle.hash_word.specs.Hash.{fingerprint_bits, finger_mask}
-use Rattle.bucket_meta.specs.Bucket.{note_used, note_member, note_index, note_finger, overflow_count, note_slots, rest_fingers, note_used_from, note_member_from, note_index_from, count_from, upper_fingers_from, last_finger_from, note_fingers_from, slots_part, slot_fingers_part}
+use Rattle.bucket_meta.specs.Bucket.{note_used, note_member, note_index, note_finger, overflow_count, note_slots, lower_notes, last_lower_note, last_note, rest_fingers, note_used_from, note_member_from, note_index_from, count_from, upper_fingers_from, last_finger_from, note_fingers_from, slots_part, slot_fingers_part}
 use Rattle.bucket_meta.specs.Marks.{with_finger}
 use Rattle.bucket_meta.specs.Visits.{is_note}
 
@@ -16,9 +16,9 @@ note_place w1 w3 side finger index =
     else if is_note w1 w3 side finger index 3 then Some 3
     else None
 
--- the fingerprints of places 2 and 3 stand in the metadata word
+-- the bits of the metadata word that have the fingerprint of note slot i: an upper one has its there
 abbrev pub finger_bits : ℕ → ℕ
-finger_bits i = if i == 2 then finger_mask * 2 ^ upper_fingers_from else if i == 3 then finger_mask * 2 ^ last_finger_from else 0
+finger_bits i = if i == lower_notes then finger_mask * 2 ^ upper_fingers_from else if i == last_note then finger_mask * 2 ^ last_finger_from else 0
 
 -- the metadata word where note slot i is free: each of its bits there is 0
 abbrev pub freed_mark : ℕ → ℕ → ℕ
@@ -26,12 +26,16 @@ freed_mark w1 i =
     bit_and (bit_and (bit_and (bit_and w1 (bit_not w64 (mask (note_used_from + i)))) (bit_not w64 (mask (note_member_from + i))))
     (bit_not w64 (mask (note_index_from + i)))) (bit_not w64 (finger_bits i))
 
--- the fingerprints of places 0 and 1 are the last two bytes of word 3
-abbrev pub freed_fingers : ℕ → ℕ → ℕ
-freed_fingers w3 i =
-    if i == 0 then with_finger w3 rest_fingers 0
-    else if i == 1 then with_finger w3 (rest_fingers + 1) 0
+-- word 3 with the fingerprint of note slot i, where that stands there: a lower one has its behind those of record slots
+abbrev pub noted_fingers : ℕ → ℕ → ℕ → ℕ
+noted_fingers w3 i finger =
+    if i == 0 then with_finger w3 rest_fingers finger
+    else if i == last_lower_note then with_finger w3 (rest_fingers + last_lower_note) finger
     else w3
+
+-- word 3 where note slot i is free: its fingerprint, where that stands there, is 0
+abbrev pub freed_fingers : ℕ → ℕ → ℕ
+freed_fingers w3 i = noted_fingers w3 i 0
 
 -- the metadata word with one record less that stands in the stash without a note
 abbrev pub lowered_count : ℕ → ℕ
@@ -73,21 +77,14 @@ with_bit w i on = if on == 1 then bit_or w (mask i) else bit_and w (bit_not w64 
 -- the metadata word with the fingerprint of note slot i, where that stands there
 abbrev pub with_note_finger : ℕ → ℕ → ℕ → ℕ
 with_note_finger w1 i finger =
-    if i == 2 then bit_or (bit_and w1 (bit_not w64 (finger_bits 2))) (finger * 2 ^ upper_fingers_from)
-    else if i == 3 then bit_or (bit_and w1 (bit_not w64 (finger_bits 3))) (finger * 2 ^ last_finger_from)
+    if i == lower_notes then bit_or (bit_and w1 (bit_not w64 (finger_bits lower_notes))) (finger * 2 ^ upper_fingers_from)
+    else if i == last_note then bit_or (bit_and w1 (bit_not w64 (finger_bits last_note))) (finger * 2 ^ last_finger_from)
     else w1
 
 -- the metadata word where note slot i has a note of this side, fingerprint and stash bucket, whatever it had
 abbrev pub noted_mark : ℕ → ℕ → ℕ → ℕ → ℕ → ℕ
 noted_mark w1 i side finger index =
     with_note_finger (with_bit (with_bit (with_bit w1 (note_used_from + i) 1) (note_member_from + i) side) (note_index_from + i) index) i finger
-
--- word 3 with the fingerprint of note slot i, where that stands there
-abbrev pub noted_fingers : ℕ → ℕ → ℕ → ℕ
-noted_fingers w3 i finger =
-    if i == 0 then with_finger w3 rest_fingers finger
-    else if i == 1 then with_finger w3 (rest_fingers + 1) finger
-    else w3
 
 -- the metadata word with one record more that stands in the stash without a note
 abbrev pub raised_count : ℕ → ℕ
@@ -106,12 +103,12 @@ abbrev pub four : (ℕ → ℕ) → ℕ
 four bit_of = bit_of 0 + 2 * bit_of 1 + 4 * bit_of 2 + 8 * bit_of 3
 
 -- the metadata word that says of the record slots what w1 says, and has of each note slot whether it is used, for which side and for which stash
--- bucket, the count, and the fingerprints of note slots 2 and 3
+-- bucket, the count, and the fingerprints of the upper note slots
 abbrev pub first_made : ℕ → (used side index : ℕ → ℕ) → (count third fourth : ℕ) → ℕ
 first_made w1 used side index count third fourth =
     slots_part w1 + 2 ^ note_used_from * four used + 2 ^ note_member_from * four side + 2 ^ note_index_from * four index
     + 2 ^ count_from * count + 2 ^ upper_fingers_from * third + 2 ^ last_finger_from * fourth
 
--- word 3 that says of the record slots what w3 says, and has the fingerprints of note slots 0 and 1
+-- word 3 that says of the record slots what w3 says, and has the fingerprints of the lower note slots
 abbrev pub third_made : ℕ → (first second : ℕ) → ℕ
 third_made w3 first second = slot_fingers_part w3 + 2 ^ note_fingers_from * first + 2 ^ (note_fingers_from + fingerprint_bits) * second

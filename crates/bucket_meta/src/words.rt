@@ -24,6 +24,15 @@ pub(crate) const SET_BITS: u32 = SLOTS as u32;
 /// How many note slots a bucket has.
 pub const NOTE_SLOTS: u8 = 4;
 
+/// How many of them have their fingerprints in word 3: the lower ones, and the others, the upper ones, have theirs in word 1.
+const LOWER_NOTES: u8 = 2;
+
+/// The last of the lower ones.
+const LAST_LOWER_NOTE: u8 = LOWER_NOTES - 1;
+
+/// The last note slot.
+const LAST_NOTE: u8 = NOTE_SLOTS - 1;
+
 /// How many bits a set of note slots has.
 pub(crate) const NOTE_SET_BITS: u32 = NOTE_SLOTS as u32;
 
@@ -51,10 +60,10 @@ pub const COUNT_FROM: u32 = NOTE_INDEX_FROM + NOTE_SET_BITS;
 /// How many bits that count has.
 pub const COUNT_BITS: u32 = 5;
 
-/// From which bit of it on the fingerprints of note slots 2 and 3 stand.
+/// From which bit of it on the fingerprints of the upper note slots stand.
 pub const UPPER_FINGERS_FROM: u32 = COUNT_FROM + COUNT_BITS;
 
-/// From which bit of it on the fingerprint of note slot 3 stands.
+/// From which bit of it on the fingerprint of the last note slot stands.
 pub(crate) const LAST_FINGER_FROM: u32 = UPPER_FINGERS_FROM + FINGERPRINT_BITS;
 
 /// How many fingerprints a word has room for.
@@ -63,17 +72,8 @@ pub const FINGERS_OF_WORD: u8 = 8;
 /// How many fingerprints of record slots stand in the last word before the records: those that the word before it has no room for.
 pub const REST_FINGERS: u8 = SLOTS - FINGERS_OF_WORD;
 
-/// From which bit of word 3 on the fingerprints of note slots 0 and 1 stand, above those of record slots.
+/// From which bit of word 3 on the fingerprints of the lower note slots stand, above those of record slots.
 pub const NOTE_FINGERS_FROM: u32 = FINGERPRINT_BITS * REST_FINGERS as u32;
-
-/// How many note slots have their fingerprints in word 3: the lower ones, and the others have theirs in word 1.
-const LOWER_NOTES: u8 = 2;
-
-/// Which byte of word 3 is the fingerprint of note slot 0.
-const FIRST_NOTE_BYTE: u8 = REST_FINGERS;
-
-/// Which byte of word 3 is that of note slot 1.
-const SECOND_NOTE_BYTE: u8 = FIRST_NOTE_BYTE + 1;
 
 /// The last version that a lock may have.
 const LAST_LOCK_VERSION: u64 = u64::MAX / 2;
@@ -315,7 +315,7 @@ pub fn note_index_of(w1: u64, note_slot: u8) -> u8
     bits_of(w1, NOTE_INDEX_FROM + u32::from(note_slot), 1) as u8
 }
 
-/// The fingerprint of the note on a note slot: 0 and 1 stand in word 3 of the bucket, 2 and 3 in word 1.
+/// The fingerprint of the note on a note slot: those of the lower ones stand in word 3 of the bucket, those of the upper ones in word 1.
 pub fn note_finger_of(w1: u64, w3: u64, note_slot: u8) -> u8
     requires { note_slot < note_slots }
     ensures { result ≡ note_finger note_slot w1 w3 }
@@ -412,8 +412,8 @@ fn finger_bits(place: u8) -> u64
     ensures { result ≡ finger_bits place }
 {
     match place {
-        2 => FINGER_MASK << UPPER_FINGERS_FROM,
-        3 => FINGER_MASK << LAST_FINGER_FROM,
+        LOWER_NOTES => FINGER_MASK << UPPER_FINGERS_FROM,
+        LAST_NOTE => FINGER_MASK << LAST_FINGER_FROM,
         _ => 0,
     }
 }
@@ -429,15 +429,11 @@ pub fn freed_mark(w1: u64, place: u8) -> u64
         & !finger_bits(place)
 }
 
-/// Word 3 with that place freed: the fingerprints of places 0 and 1 stand there, and become 0.
+/// Word 3 with that note slot freed: its fingerprint, where that stands there, becomes 0.
 pub fn freed_fingers(w3: u64, place: u8) -> u64
     ensures { result ≡ freed_fingers w3 place }
 {
-    match place {
-        0 => with_finger(w3, FIRST_NOTE_BYTE, 0),
-        1 => with_finger(w3, SECOND_NOTE_BYTE, 0),
-        _ => w3,
-    }
+    noted_fingers(w3, place, 0)
 }
 
 /// The metadata word with one less of the records that stand in the stash without a note; there has to be one.
@@ -484,14 +480,14 @@ fn with_bit(word: u64, i: u32, on: u8) -> u64
     }
 }
 
-/// The metadata word with the fingerprint of a note slot, where that stands there: those of places 2 and 3 do.
+/// The metadata word with the fingerprint of a note slot, where that stands there: those of the upper ones do.
 fn with_note_finger(w1: u64, place: u8, finger: u8) -> u64
     ensures { result ≡ with_note_finger w1 place finger }
 {
     let finger = u64::from(finger);
     match place {
-        2 => (w1 & !finger_bits(2)) | (finger * (1 << UPPER_FINGERS_FROM)),
-        3 => (w1 & !finger_bits(3)) | (finger * (1 << LAST_FINGER_FROM)),
+        LOWER_NOTES => (w1 & !finger_bits(LOWER_NOTES)) | (finger * (1 << UPPER_FINGERS_FROM)),
+        LAST_NOTE => (w1 & !finger_bits(LAST_NOTE)) | (finger * (1 << LAST_FINGER_FROM)),
         _ => w1,
     }
 }
@@ -508,13 +504,13 @@ pub fn noted_mark(w1: u64, place: u8, side: u8, finger: u8, index: u8) -> u64
     with_note_finger(of_index, place, finger)
 }
 
-/// Word 3 with the fingerprint of that note, where it stands there: those of places 0 and 1 do.
+/// Word 3 with the fingerprint of that note, where it stands there: those of the lower note slots do.
 pub fn noted_fingers(w3: u64, place: u8, finger: u8) -> u64
     ensures { result ≡ noted_fingers w3 place finger }
 {
     match place {
-        0 => with_finger(w3, FIRST_NOTE_BYTE, finger),
-        1 => with_finger(w3, SECOND_NOTE_BYTE, finger),
+        0 => with_finger(w3, REST_FINGERS, finger),
+        LAST_LOWER_NOTE => with_finger(w3, REST_FINGERS + LAST_LOWER_NOTE, finger),
         _ => w3,
     }
 }
