@@ -1,8 +1,9 @@
 -- A search that begins at a slot is one look at it and the search from the next slot on.
-use Rattle.std.proofs.Common.{◌≡◌, ◌==◌, ◌&&◌, ℕ, suc, ◌+◌, ◌-◌, ◌*◌, ◌<◌, ◌≤◌, cond, Some, None, List, ◌∙◌, ap, arith, slice_index, if◌then◌else◌}
+use Rattle.std.proofs.Common.{◌≡◌, ◌==◌, ◌&&◌, ℕ, suc, Bool, true, false, ◌+◌, ◌-◌, ◌*◌, ◌<◌, ◌≤◌, cond, Some, None, List, ◌∙◌, ap, arith, slice_index, if◌then◌else◌}
 use Rattle.std.proofs.lemmas.Bool.{and_from, and_left, and_right, eq-eqb, ne_eqb}
 use Rattle.bucket_meta.specs.Bucket.{allocated}
 use Rattle.bucket_meta.specs.Search.{is_taken, slot_with, slot_free}
+use Rattle.bucket_meta.specs.NoteWords.{lowest_among}
 
 module _ (words : List ℕ) (at : ℕ) where
   with_step : (key : ℕ) → at < 14 → slot_with words key at (14 - at)
@@ -37,3 +38,17 @@ module _ (w1 : ℕ) (at : ℕ) where
 
   pub free_next : at < 14 → allocated at w1 ≡ 1 → slot_free w1 at (14 - at) ≡ slot_free w1 (at + 1) (14 - (at + 1))
   free_next h b = free_step h ∙ ap (λ c. cond c (slot_free w1 (at + 1) (14 - (at + 1))) (Some at)) (eq-eqb _ _ b)
+
+-- the same of note slots
+module _ (holds : ℕ → Bool) (at : ℕ) where
+  among_step : at < 4 → lowest_among holds at (4 - at) ≡ (if holds at then Some at else lowest_among holds (at + 1) (4 - (at + 1)))
+  among_step h = let e : 4 - at ≡ suc (4 - (at + 1)) = omega arith in ap (lowest_among holds at) e
+
+  pub among_end : 4 ≤ at → lowest_among holds at (4 - at) ≡ None
+  among_end h = let e : 4 - at ≡ 0 = omega arith in ap (lowest_among holds at) e
+
+  pub among_found : at < 4 → holds at ≡ true → lowest_among holds at (4 - at) ≡ Some at
+  among_found h b = among_step h ∙ ap (λ c. cond c (Some at) (lowest_among holds (at + 1) (4 - (at + 1)))) b
+
+  pub among_next : at < 4 → holds at ≡ false → lowest_among holds at (4 - at) ≡ lowest_among holds (at + 1) (4 - (at + 1))
+  among_next h b = among_step h ∙ ap (λ c. cond c (Some at) (lowest_among holds (at + 1) (4 - (at + 1)))) b

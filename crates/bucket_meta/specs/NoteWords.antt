@@ -1,5 +1,5 @@
 -- Overflow notes in the words of a bucket: where one stands or may be put, and the words with it and without it.
-use Rattle.std.specs.Prelude.{◌≡◌, ◌≢◌, ℕ, ◌+◌, ◌-◌, ◌*◌, ◌%◌, ◌^◌, ◌<◌, ◌==◌, Bool, not, Option, None, Some, bit_and, bit_or, if◌then◌else◌}
+use Rattle.std.specs.Prelude.{◌≡◌, ◌≢◌, ℕ, zero, suc, ◌+◌, ◌-◌, ◌*◌, ◌%◌, ◌^◌, ◌<◌, ◌==◌, Bool, not, Option, None, Some, bit_and, bit_or, if◌then◌else◌}
 use Rattle.std.specs.Int.{bit_not, w64}
 use Rattle.word_bits.specs.Bits.{mask}
 use Rattle.hash_word.specs.Hash.{fingerprint_bits, finger_mask}
@@ -7,14 +7,14 @@ use Rattle.bucket_meta.specs.Bucket.{note_used, note_member, note_index, note_fi
 use Rattle.bucket_meta.specs.Marks.{with_finger}
 use Rattle.bucket_meta.specs.Visits.{is_note}
 
--- the lowest place with such a note
+-- the lowest number, of n from one on, of which this holds
+abbrev pub lowest_among : (ℕ → Bool) → ℕ → ℕ → Option ℕ
+lowest_among holds at zero = None
+lowest_among holds at (suc n) = if holds at then Some at else lowest_among holds (at + 1) n
+
+-- the lowest note slot with a note of this side, fingerprint and stash bucket
 abbrev pub note_place : ℕ → ℕ → ℕ → ℕ → ℕ → Option ℕ
-note_place w1 w3 side finger index =
-    if is_note w1 w3 side finger index 0 then Some 0
-    else if is_note w1 w3 side finger index 1 then Some 1
-    else if is_note w1 w3 side finger index 2 then Some 2
-    else if is_note w1 w3 side finger index 3 then Some 3
-    else None
+note_place w1 w3 side finger index = lowest_among (is_note w1 w3 side finger index) 0 note_slots
 
 -- the bits of the metadata word that have the fingerprint of note slot i: an upper one has its there
 abbrev pub finger_bits : ℕ → ℕ
@@ -61,14 +61,9 @@ pub record FreesPlace (w1 w3 x1 x3 i : ℕ) : Type 0 where
 abbrev pub is_unused : ℕ → ℕ → Bool
 is_unused w1 i = not (note_used i w1 == 1)
 
--- the lowest such place
+-- the lowest such note slot
 abbrev pub unused_place : ℕ → Option ℕ
-unused_place w1 =
-    if is_unused w1 0 then Some 0
-    else if is_unused w1 1 then Some 1
-    else if is_unused w1 2 then Some 2
-    else if is_unused w1 3 then Some 3
-    else None
+unused_place w1 = lowest_among (is_unused w1) 0 note_slots
 
 -- a word with bit i set where `on` is 1, and else cleared
 abbrev pub with_bit : ℕ → ℕ → ℕ → ℕ

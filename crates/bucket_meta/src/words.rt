@@ -369,14 +369,15 @@ fn is_note(w1: u64, w3: u64, side: u8, finger: u8, index: u8, place: u8) -> bool
         && note_finger_of(w1, w3, place) == finger
 }
 
-/// Whether one of the four has, by words 1 and 3 of the bucket.
+/// Whether one of the note slots has, by words 1 and 3 of the bucket. They are gone through without a loop, since each get asks this:
+/// the first and the last of the lower ones, and the first and the last of the upper ones.
 fn is_named(w1: u64, w3: u64, side: u8, finger: u8, index: u8) -> bool
     ensures { result ≡ is_named w1 w3 side finger index }
 {
     is_note(w1, w3, side, finger, index, 0)
-        || is_note(w1, w3, side, finger, index, 1)
-        || is_note(w1, w3, side, finger, index, 2)
-        || is_note(w1, w3, side, finger, index, 3)
+        || is_note(w1, w3, side, finger, index, LAST_LOWER_NOTE)
+        || is_note(w1, w3, side, finger, index, LOWER_NOTES)
+        || is_note(w1, w3, side, finger, index, LAST_NOTE)
 }
 
 /// Whether stash bucket `index`, 0 or 1, is to be visited for a fingerprint, by words 1 and 3 of the home bucket, `w1` and
@@ -394,17 +395,12 @@ pub fn note_place(w1: u64, w3: u64, side: u8, finger: u8, index: u8) -> Option<u
     ensures is { result ≡ note_place w1 w3 side finger index }
     ensures within { IfSome result (λ place. place < note_slots) }
 {
-    if is_note(w1, w3, side, finger, index, 0) {
-        Some(0)
-    } else if is_note(w1, w3, side, finger, index, 1) {
-        Some(1)
-    } else if is_note(w1, w3, side, finger, index, 2) {
-        Some(2)
-    } else if is_note(w1, w3, side, finger, index, 3) {
-        Some(3)
-    } else {
-        None
+    for place in 0..NOTE_SLOTS {
+        if is_note(w1, w3, side, finger, index, place) {
+            return Some(place);
+        }
     }
+    None
 }
 
 /// The bits of the metadata word that have the fingerprint of a note slot.
@@ -456,17 +452,12 @@ pub fn unused_place(w1: u64) -> Option<u8>
     ensures is { result ≡ unused_place w1 }
     ensures within { IfSome result (λ place. place < note_slots) }
 {
-    if is_unused(w1, 0) {
-        Some(0)
-    } else if is_unused(w1, 1) {
-        Some(1)
-    } else if is_unused(w1, 2) {
-        Some(2)
-    } else if is_unused(w1, 3) {
-        Some(3)
-    } else {
-        None
+    for place in 0..NOTE_SLOTS {
+        if is_unused(w1, place) {
+            return Some(place);
+        }
     }
+    None
 }
 
 /// A word with a bit set where `on` is 1, and else cleared.
