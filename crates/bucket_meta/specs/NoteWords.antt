@@ -93,9 +93,14 @@ pub record FillsPlace (w1 w3 x1 x3 i side index : ℕ) : Type 0 where
   pub others : KeepsOtherPlaces w1 w3 x1 x3 i
 
 -- ---- words 1 and 3 that are made anew
--- four bits as a number, the lowest first
+-- bit 0 and the n bits above it as a number
+abbrev pub number_of_bits : (ℕ → ℕ) → ℕ → ℕ
+number_of_bits bit_of zero = bit_of 0
+number_of_bits bit_of (suc n) = number_of_bits bit_of n + 2 ^ (suc n) * bit_of (suc n)
+
+-- a bit of each note slot as a number, that of the first lowest
 abbrev pub four : (ℕ → ℕ) → ℕ
-four bit_of = bit_of 0 + 2 * bit_of 1 + 4 * bit_of 2 + 8 * bit_of 3
+four bit_of = number_of_bits bit_of last_note
 
 -- the metadata word that says of the record slots what w1 says, and has of each note slot whether it is used, for which side and for which stash
 -- bucket, the count, and the fingerprints of the upper note slots
