@@ -2,13 +2,13 @@
 -- its home, else of its probing bucket, else in the count of its home; and words 1 and 3 of a bucket are made of that.
 use Rattle.std.specs.Prelude.{ℕ, ◌+◌, ◌==◌, Option, None, Some, List, [], ◌∷◌, if◌then◌else◌}
 use Rattle.hash_word.specs.Hash.{probing_of}
-use Rattle.bucket_meta.specs.Bucket.{home_side, probing_side}
-use Rattle.bucket_meta.specs.NoteWords.{first_made, third_made}
+use Rattle.bucket_meta.specs.Bucket.{note_slots, lower_notes, last_lower_note, last_note, home_side, probing_side}
+use Rattle.bucket_meta.specs.NoteWords.{lowest_among, first_made, third_made}
 use Rattle.stash.specs.NoteSlots.{NoteSlot, filled_note_slot, freed_note_slot}
 use Rattle.stash.specs.Segment.{Stashed}
 use Rattle.whole_segment.specs.Notes.{stash_entries}
 
--- what a bucket says of the stash: its four note slots, and its count
+-- what a bucket says of the stash: its note slots, and its count
 pub record Overflow : Type 0 where
   pub slots : ℕ → NoteSlot
   pub count : ℕ
@@ -19,12 +19,7 @@ no_overflow = record { slots = λ i. freed_note_slot; count = 0 }
 
 -- the lowest note slot without a note
 abbrev pub unused_in : Overflow → Option ℕ
-unused_in o =
-    if (o.slots 0).used == 0 then Some 0
-    else if (o.slots 1).used == 0 then Some 1
-    else if (o.slots 2).used == 0 then Some 2
-    else if (o.slots 3).used == 0 then Some 3
-    else None
+unused_in o = lowest_among (λ i. (o.slots i).used == 0) 0 note_slots
 
 -- with one note slot filled, and with one record more that has no note
 abbrev pub with_note : Overflow → ℕ → NoteSlot → Overflow
@@ -54,10 +49,10 @@ all_noted (entry ∷ entries) all = all_noted entries (noted all entry)
 -- ---- words 1 and 3 of a bucket that say so, and of the record slots what others say
 abbrev pub first_with : ℕ → Overflow → ℕ
 first_with w1 o =
-    first_made w1 (λ i. (o.slots i).used) (λ i. (o.slots i).side) (λ i. (o.slots i).index) o.count (o.slots 2).finger (o.slots 3).finger
+    first_made w1 (λ i. (o.slots i).used) (λ i. (o.slots i).side) (λ i. (o.slots i).index) o.count (o.slots lower_notes).finger (o.slots last_note).finger
 
 abbrev pub third_with : ℕ → Overflow → ℕ
-third_with w3 o = third_made w3 (o.slots 0).finger (o.slots 1).finger
+third_with w3 o = third_made w3 (o.slots 0).finger (o.slots last_lower_note).finger
 
 -- THE REBUILT NOTES of a segment
 abbrev pub rebuilt : (first : ℕ → ℕ) (key : ℕ → ℕ → ℕ) (hash : ℕ → ℕ) → ℕ → Overflow
