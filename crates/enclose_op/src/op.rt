@@ -8,7 +8,7 @@ ghost use Rattle.enclose_op.specs.Steps.{begun, giving, next_lock, locked_to, is
 
 use crate::enclosed::Enclosed;
 use crate::give::{Give, give_from, given};
-use bucket_meta::words::MARK_PLACE;
+use bucket_meta::words::{self, MARK_PLACE};
 use image_layout::{BLOCK_WORDS, BUCKETS, FREE_GUARD, LAST_OF_BUCKETS, WORDS_OF_BUCKETS};
 use map_model::{Change, Reply};
 use op_core::{Ans, Machine, Want, Why};
@@ -16,6 +16,9 @@ use phase::{Take, Taken, take_next, take_want};
 use segment_head::word::{depth_of, version_of};
 use way::{bucket_word, head_word, is_leading, key_hash};
 use world::Site;
+
+/// The lock word of a bucket, by its number in it.
+const LOCK_PLACE: u16 = words::LOCK_PLACE as u16;
 
 /// How an attempt is to end once all is given back.
 #[derive(Clone, Copy, Debug)]
@@ -94,7 +97,7 @@ fn word_after(at: u16) -> u16
     requires { at < last_of_buckets }
     ensures { result ≡ word_after at }
 {
-    if (at + 1) % BLOCK_WORDS == 0 {
+    if (at + 1) % BLOCK_WORDS == LOCK_PLACE {
         at + 2
     } else {
         at + 1
