@@ -73,9 +73,13 @@ slots_of_key = buckets_of_key * record_slots
 abbrev pub segment_slots : ℕ
 segment_slots = buckets * record_slots
 
--- how many words have notes: two in each home
+-- how many words of a home have notes: its metadata word, and the last word before its records
+abbrev pub note_words_of_home : ℕ
+note_words_of_home = 2
+
+-- how many words of a segment have notes: these of each home
 abbrev pub note_words : ℕ
-note_words = 2 * homes
+note_words = note_words_of_home * homes
 
 -- how many words a segment has: a header and its buckets
 abbrev pub segment_words : ℕ

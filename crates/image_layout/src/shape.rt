@@ -46,8 +46,10 @@ pub const WORDS_OF_BUCKETS: u64 = SEGMENT_WORDS - BLOCK;
 pub const LAST_OF_BUCKETS: u16 = WORDS_OF_BUCKETS as u16 - 1;
 /// How many words a header and a bucket have, where the words of a segment are numbered.
 pub const BLOCK_WORDS: u16 = BLOCK as u16;
-/// How many words have notes: two in each home.
-pub const NOTE_WORDS: u8 = 2 * HOMES;
+/// How many words of a home have notes: its metadata word, and the last word before its records.
+pub const NOTE_WORDS_OF_HOME: u8 = 2;
+/// How many words of a segment have notes: these of each home.
+pub const NOTE_WORDS: u8 = NOTE_WORDS_OF_HOME * HOMES;
 /// How many record slots a segment has, in all its buckets.
 pub const SEGMENT_SLOTS: u64 = BUCKETS as u64 * SLOTS as u64;
 /// The most slots for segments that an image may have.

@@ -4,7 +4,7 @@ use Rattle.trace.specs.Events.{line_of}
 use Rattle.bucket_meta.specs.Bucket.{mark_place, rest_place}
 use Rattle.segment_head.specs.HeadWord.{normal}
 use Rattle.segment_head.specs.SplitHeads.{zero_side_head}
-use Rattle.image_layout.specs.Places.{homes, buckets, note_words}
+use Rattle.image_layout.specs.Places.{homes, buckets, note_words_of_home, note_words}
 use Rattle.way.specs.Ways.{head_word}
 use Rattle.op_core.specs.declared.want.Want.{Want}
 use Rattle.op_core.specs.declared.want.Want.TheVariants as want
@@ -32,10 +32,10 @@ rest_head e = zero_side_head normal e.head
 
 -- the home of a word of the notes, and its number in the bucket
 abbrev pub note_home : ℕ → ℕ
-note_home n = n / 2 % homes
+note_home n = n / note_words_of_home % homes
 
 abbrev pub note_place : ℕ → ℕ
-note_place n = if n % 2 == 0 then mark_place else rest_place
+note_place n = if n % note_words_of_home == 0 then mark_place else rest_place
 
 module _ (op : RestOp) where
   -- ---- what is cleared
@@ -69,10 +69,10 @@ module _ (op : RestOp) where
   -- ---- notes
   -- what it is to be, and what it was
   abbrev pub note_value : ℕ → ℕ
-  note_value n = if n % 2 == 0 then slice_index op.notes.first (note_home n) else slice_index op.notes.third (note_home n)
+  note_value n = if n % note_words_of_home == 0 then slice_index op.notes.first (note_home n) else slice_index op.notes.third (note_home n)
 
   abbrev pub note_old : ℕ → ℕ
-  note_old n = if n % 2 == 0 then slice_index op.cleared (note_home n) else kept_word op.whole (note_home n) rest_place
+  note_old n = if n % note_words_of_home == 0 then slice_index op.cleared (note_home n) else kept_word op.whole (note_home n) rest_place
 
   abbrev pub is_noted : ℕ → Bool
   is_noted n = not (note_value n == note_old n)

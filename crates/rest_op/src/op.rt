@@ -7,7 +7,7 @@ ghost use Rattle.rest_op.specs.Steps.{is_cleared, clear_from, note_old, note_val
 use crate::heads::rest_head;
 use bucket_meta::words::{BUCKET_WORDS, MARK_PLACE, REST_PLACE};
 use enclose_op::{Enclosed, Give, given};
-use image_layout::{BUCKETS, HOMES, NOTE_WORDS};
+use image_layout::{BUCKETS, HOMES, NOTE_WORDS, NOTE_WORDS_OF_HOME};
 use op_core::{Ans, Machine, Want};
 use rounds::Rounds;
 use trace::line_of;
@@ -142,8 +142,8 @@ impl RestOp {
     fn note_value(&self, number: u8) -> u64
         ensures { result ≡ note_value self.now number }
     {
-        let at = usize::from(number / 2 % HOMES);
-        if number % 2 == 0 {
+        let at = usize::from(number / NOTE_WORDS_OF_HOME % HOMES);
+        if number % NOTE_WORDS_OF_HOME == 0 {
             self.notes.first[at]
         } else {
             self.notes.third[at]
@@ -154,8 +154,8 @@ impl RestOp {
     fn note_old(&self, number: u8) -> u64
         ensures { result ≡ note_old self.now number }
     {
-        let at = usize::from(number / 2 % HOMES);
-        if number % 2 == 0 {
+        let at = usize::from(number / NOTE_WORDS_OF_HOME % HOMES);
+        if number % NOTE_WORDS_OF_HOME == 0 {
             self.cleared[at]
         } else {
             self.whole.buckets[BUCKET_WORDS * at + REST_PLACE]
@@ -186,8 +186,8 @@ impl RestOp {
     fn note_word(&self, number: u8) -> u64
         ensures { result ≡ note_word self.now number }
     {
-        self.whole.lock(number / 2 % HOMES)
-            + if number % 2 == 0 {
+        self.whole.lock(number / NOTE_WORDS_OF_HOME % HOMES)
+            + if number % NOTE_WORDS_OF_HOME == 0 {
                 MARK_PLACE as u64
             } else {
                 REST_PLACE as u64
