@@ -1,7 +1,7 @@
 -- The three stages in which words are stored: which words each may change, one after another, and what they are to be.
-use Rattle.std.specs.Prelude.{ℕ, ◌+◌, ◌*◌, ◌/◌, ◌%◌, List}
-use Rattle.bucket_meta.specs.Bucket.{mark_place}
-use Rattle.image_layout.specs.Places.{Shape, buckets, block, note_words, words_of_buckets}
+use Rattle.std.specs.Prelude.{ℕ, ◌+◌, ◌-◌, ◌*◌, ◌/◌, ◌%◌, List}
+use Rattle.bucket_meta.specs.Bucket.{mark_place, rest_place}
+use Rattle.image_layout.specs.Places.{Shape, buckets, block, note_words_of_home, note_words, words_of_buckets}
 use Rattle.whole_segment.specs.Words.{words_by}
 use Rattle.mend_op.specs.declared.stage.Stage.{Stage}
 use Rattle.mend_op.specs.declared.stage.Stage.TheVariants.{Clear, Mend, Note}
@@ -13,11 +13,12 @@ most Clear = buckets
 most Mend = 2 * buckets
 most Note = note_words
 
--- which word of the buckets is the one of this number among them
+-- which word of the buckets is the one of this number among them. Of the lock word and word 1 of a bucket the remainder, 0 or 1, is the number of
+-- the word itself: a sum with `lock_place` would be another term
 abbrev pub place : Stage → ℕ → ℕ
 place Clear n = block * n + mark_place
 place Mend n = block * (n / 2) + n % 2
-place Note n = block * (n / 2) + 1 + 2 * (n % 2)
+place Note n = block * (n / note_words_of_home) + mark_place + (rest_place - mark_place) * (n % note_words_of_home)
 
 -- the word that it makes, by all words before it and the header
 abbrev pub made_word : Stage → Shape → ℕ → List ℕ → ℕ → ℕ

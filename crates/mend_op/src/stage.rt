@@ -4,8 +4,14 @@ ghost use Rattle.std.specs.Prelude.{◌≡◌, ◌<◌};
 ghost use Rattle.image_layout.specs.Places.{words_of_buckets};
 ghost use Rattle.mend_op.specs.Stages.{most, place};
 
-use bucket_meta::words::MARK_PLACE;
+use bucket_meta::words::{MARK_PLACE, REST_PLACE};
 use image_layout::{BLOCK_WORDS, BUCKETS, NOTE_WORDS};
+
+/// How many words of a home have notes.
+const NOTE_WORDS_OF_HOME: u16 = image_layout::NOTE_WORDS_OF_HOME as u16;
+
+/// How far behind the metadata word the last word before the records stands.
+const REST_BEHIND_MARK: u16 = (REST_PLACE - MARK_PLACE) as u16;
 
 /// What is stored, and in which words.
 #[derive(Clone, Copy)]
@@ -38,8 +44,13 @@ impl Stage {
         let number = u16::from(number);
         match self {
             Stage::Clear => BLOCK_WORDS * number + MARK_PLACE as u16,
+            // The lock word is word 0: so the remainder, 0 or 1, is the number of the word itself.
             Stage::Mend => BLOCK_WORDS * (number / 2) + number % 2,
-            Stage::Note => BLOCK_WORDS * (number / 2) + 1 + 2 * (number % 2),
+            Stage::Note => {
+                BLOCK_WORDS * (number / NOTE_WORDS_OF_HOME)
+                    + MARK_PLACE as u16
+                    + REST_BEHIND_MARK * (number % NOTE_WORDS_OF_HOME)
+            }
         }
     }
 }
