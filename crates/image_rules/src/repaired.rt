@@ -17,6 +17,9 @@ use bucket_meta::words::{self, is_locked};
 use image_layout::{BUCKETS, Geometry, HEADER, HOMES, STATE_WORD, state};
 use segment_head::word::NORMAL;
 
+/// The metadata word of a bucket, by its number in it.
+const MARK_PLACE: u64 = words::MARK_PLACE as u64;
+
 /// The word of a bucket in which the key of its first record slot stands.
 const FIRST_KEY: u64 = words::FIRST_KEY as u64;
 
@@ -51,7 +54,7 @@ fn bucket_breach(geometry: &Geometry, words: &[u64], s: u64, b: u8) -> Option<u6
         return Some(at as u64);
     }
     if !has_its_notes(geometry, words, s, b) {
-        return Some(at as u64 + 1);
+        return Some(at as u64 + MARK_PLACE);
     }
     match RecordRule::Once.first_broken(geometry, words, s, b) {
         Some(slot) => Some(at as u64 + FIRST_KEY + RECORD_WORDS * u64::from(slot)),
