@@ -280,7 +280,7 @@ module _ (site : Ground) (task : Task) (seen : Seen) where
   abbrev pub SuitsStep : WriteStep → View → Type 0
   SuitsStep (Way walk) v = HoldsOnly [] v × IsWalking site walk v.facts × (seen.held ≡ none_held)
   SuitsStep (Lock place take) v = HasLoaded (index place) (loaded_by place) v × IsQuiet v × VisitsAt place × IsTaking take × PinnedAt place v
-  SuitsStep (Check back) v = HasLoaded 2 0 v × IsQuiet v
+  SuitsStep (Check back) v = HasLoaded (looked_by Home) (index Home) v × IsQuiet v
   SuitsStep (Fill place load) v = HasLoaded (looked_by place) (index place) v × IsQuiet v × VisitsAt place × IsLoading (lock_of task seen place) v.known load × IsPinned site task.hash seen.path v.pinned
   SuitsStep Count v = HasLoaded buckets_of_key buckets_of_key v × IsQuiet v × IsVisiting task seen × IsPinned site task.hash seen.path v.pinned
   SuitsStep (step.Make make) v = IsChanging make v
