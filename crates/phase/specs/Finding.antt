@@ -23,7 +23,7 @@ use Rattle.phase.specs.declared.role.Role.TheVariants.{Home, Probing, First, Sec
 use Rattle.phase.specs.declared.held.Held.{Held}
 use Rattle.phase.specs.declared.kept.Buckets.{Buckets}
 use Rattle.phase.specs.declared.make.Record.{Record}
-use Rattle.phase.specs.Places.{bucket_of, is_third, lock_word}
+use Rattle.phase.specs.Places.{bucket_of, stash_index, is_third, lock_word}
 use Rattle.phase.specs.Buckets.{words_in}
 use Rattle.phase.specs.Stands.{IsThere, Leads}
 use Rattle.phase.specs.Giving.{IsLocated, IsHeld, IsQuiet, IsOfHeld, HoldsLocks}
@@ -59,8 +59,8 @@ pub record HoldsBuckets (site : Ground) (here : Site) (hash segment : ℕ) (held
 
 -- the notes of a home name no record of a fingerprint in the stash buckets whose locks are not held
 pub record SparesStash (shape : Shape) (hash segment : ℕ) (held : Held) (word : Words) : Type 0 where
-  pub first : held.first ≡ None → IsUnnoted shape word segment (home_of hash) (finger_of hash) 0
-  pub second : held.second ≡ None → IsUnnoted shape word segment (home_of hash) (finger_of hash) 1
+  pub first : held.first ≡ None → IsUnnoted shape word segment (home_of hash) (finger_of hash) (stash_index First)
+  pub second : held.second ≡ None → IsUnnoted shape word segment (home_of hash) (finger_of hash) (stash_index Second)
 
 -- THE KEY STANDS NOWHERE: in none of the buckets that are held and where it may stand, by their words, and so far as notes tell in no
 -- other

@@ -27,6 +27,12 @@ pub enum Role {
     Previous,
 }
 
+/// The number of the first stash bucket among the two, as a note names it.
+pub const FIRST_STASH_INDEX: u8 = 0;
+
+/// The number of the second one among them.
+pub const SECOND_STASH_INDEX: u8 = 1;
+
 /// The number of the bucket in its segment, for a hash.
 pub fn bucket_of(place: Role, hash: u64) -> u8
     ensures is { result ≡ bucket_of hash place }
@@ -42,13 +48,13 @@ pub fn bucket_of(place: Role, hash: u64) -> u8
     }
 }
 
-/// The number of a stash bucket among them; 0 for a bucket that is none.
+/// The number of a stash bucket among the two; that of the first for a bucket that is none.
 pub fn stash_index(place: Role) -> u8
     ensures { result ≡ stash_index place }
 {
     match place {
-        Role::Second => 1,
-        Role::Home | Role::Probing | Role::First | Role::Next | Role::Previous => 0,
+        Role::Second => SECOND_STASH_INDEX,
+        Role::Home | Role::Probing | Role::First | Role::Next | Role::Previous => FIRST_STASH_INDEX,
     }
 }
 

@@ -26,7 +26,7 @@ use Rattle.phase.specs.declared.load.Load.{Load}
 use Rattle.phase.specs.Stands.{walk_kind, back_kind, IsThere, IsWalking, HasBegun, IsLoading}
 use Rattle.phase.specs.declared.role.Role.{Role}
 use Rattle.phase.specs.declared.role.Role.TheVariants.{Home, Probing, First, Second, Next, Previous}
-use Rattle.phase.specs.Places.{lock_word}
+use Rattle.phase.specs.Places.{stash_index, lock_word}
 use Rattle.phase.specs.Asked.{index, asked_by, IsAskedBefore, looked_by, loaded_by}
 use Rattle.read_op.specs.declared.role.Free.{Free}
 use Rattle.read_op.specs.declared.step.Seen.{Seen}
@@ -126,7 +126,7 @@ module _ (site : Ground) (notes : List Glance) where
   IsSkipped task s visited c = visited ≡ false → (m : Words) → IsNow site notes m → IsUnnoted site.shape m s.path.segment (home_of task.hash) (finger_of task.hash) c
 
   abbrev pub Skips : Task → Seen → Type 0
-  Skips task s = IsSkipped task s s.first 0 × IsSkipped task s s.second 1
+  Skips task s = IsSkipped task s s.first (stash_index First) × IsSkipped task s s.second (stash_index Second)
 
   -- words 1 and 3 of the home bucket are kept
   abbrev pub KeepsMeta : Task → Seen → Type 0

@@ -20,7 +20,7 @@ use Rattle.phase.specs.declared.load.Load.{Load}
 use Rattle.phase.specs.Stands.{IsLoading}
 use Rattle.phase.specs.Causes.{WasFound, RemembersWalk}
 use Rattle.phase.specs.declared.role.Role.{Role}
-use Rattle.phase.specs.declared.role.Role.TheVariants.{Home, Probing}
+use Rattle.phase.specs.declared.role.Role.TheVariants.{Home, Probing, First, Second}
 use Rattle.read_op.specs.declared.step.Seen.{Seen}
 use Rattle.read_op.specs.declared.step.ReadEnd.{ReadEnd}
 use Rattle.read_op.specs.declared.step.ReadEnd.TheVariants as ends
@@ -28,6 +28,7 @@ use Rattle.read_op.specs.declared.step.ReadStep.{ReadStep}
 use Rattle.read_op.specs.declared.step.ReadStep.TheVariants.{Way, Look, Fill, Count, Check, Relook, Ended}
 use Rattle.read_op.specs.declared.step.Task.{Task}
 use Rattle.read_op.specs.declared.op.ReadOp.{ReadOp}
+use Rattle.phase.specs.Places.{stash_index}
 use Rattle.phase.specs.Asked.{index, looked_by}
 use Rattle.read_op.specs.Places.{free_at}
 use Rattle.read_op.specs.Steps.{begun, wanted, taken, lock_of}
@@ -64,8 +65,8 @@ module _ (task : Task) (loads : List (ℕ × ℕ)) where
   pub record RemembersSeen (s : Seen) (k : ℕ) : Type 0 where
     pub path : WasFound task.site task.hash loads s.path
     pub free : (q : Role) → Upto s k q → Has (lock_of task s q, free_at s.free q) loads × (lock_bit (free_at s.free q) ≡ 0)
-    pub first : HasReason s s.first 0
-    pub second : HasReason s s.second 1
+    pub first : HasReason s s.first (stash_index First)
+    pub second : HasReason s s.second (stash_index Second)
 
   -- words 1 and 3 of the home bucket were loaded, as they are kept while the probing bucket is
   abbrev pub RemembersMeta : Seen → Role → Type 0

@@ -34,7 +34,7 @@ use Rattle.read_op.specs.declared.step.ReadStep.{ReadStep}
 use Rattle.read_op.specs.declared.step.ReadStep.TheVariants.{Way, Look, Fill, Count, Check, Relook, Ended}
 use Rattle.read_op.specs.declared.step.Task.{Task}
 use Rattle.read_op.specs.declared.op.ReadOp.{ReadOp}
-use Rattle.phase.specs.Places.{lock_word}
+use Rattle.phase.specs.Places.{stash_index, lock_word}
 use Rattle.read_op.specs.Places.{free_at}
 use Rattle.image_layout.specs.Places.{block}
 
@@ -98,8 +98,8 @@ module _ (key : ℕ) where
   module _ (hash : ℕ) where
     abbrev pub read_probing : Seen → List ℕ → Seen
     read_probing seen words = record (with_value seen words) {
-      first = must_visit seen.meta seen.fingers (slice_index words mark_place) (slice_index words rest_place) (finger_of hash) 0;
-      second = must_visit seen.meta seen.fingers (slice_index words mark_place) (slice_index words rest_place) (finger_of hash) 1;
+      first = must_visit seen.meta seen.fingers (slice_index words mark_place) (slice_index words rest_place) (finger_of hash) (stash_index First);
+      second = must_visit seen.meta seen.fingers (slice_index words mark_place) (slice_index words rest_place) (finger_of hash) (stash_index Second);
     }
 
     abbrev pub read_all : Seen → Role → List ℕ → ReadStep

@@ -16,8 +16,8 @@ use bucket_meta::words::{BUCKET_WORDS, MARK_PLACE, REST_PLACE, is_locked, must_v
 use hash_word::finger;
 use op_core::{Ans, Machine, Want, Why};
 use phase::{
-    Back, Backed, Load, Path, Role, Walk, Walked, back_next, back_want, load_put, load_want,
-    lock_word, walk_next, walk_want,
+    Back, Backed, FIRST_STASH_INDEX, Load, Path, Role, SECOND_STASH_INDEX, Walk, Walked, back_next,
+    back_want, load_put, load_want, lock_word, walk_next, walk_want,
 };
 use way::key_hash;
 use world::Site;
@@ -194,7 +194,7 @@ fn read_probing(seen: Seen, key: u64, hash: u64, words: &[u64; BUCKET_WORDS]) ->
         words[MARK_PLACE],
         words[REST_PLACE],
         finger(hash),
-        0,
+        FIRST_STASH_INDEX,
     );
     with.second = must_visit(
         seen.meta,
@@ -202,7 +202,7 @@ fn read_probing(seen: Seen, key: u64, hash: u64, words: &[u64; BUCKET_WORDS]) ->
         words[MARK_PLACE],
         words[REST_PLACE],
         finger(hash),
-        1,
+        SECOND_STASH_INDEX,
     );
     with
 }

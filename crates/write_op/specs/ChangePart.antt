@@ -16,6 +16,7 @@ use Rattle.phase.specs.declared.role.Role.TheVariants.{Home, Probing, First, Sec
 use Rattle.phase.specs.declared.kept.Kept.{Kept}
 use Rattle.phase.specs.Buckets.{words_in}
 use Rattle.phase.specs.AreWords.{AreWords}
+use Rattle.phase.specs.Places.{stash_index}
 use Rattle.phase.specs.Asked.{index, loaded_by}
 use Rattle.phase.specs.Keeps.{WasLoaded, ChangedLocks, LoadedFull, KeepsAll, RemembersRoom, HasNoThird}
 use Rattle.phase.specs.Giving.{IsHeld}
@@ -44,8 +45,8 @@ module _ (task : Task) (seen : Seen) where
   -- THE REASON to ask for a bucket: home and probing bucket need none; a stash bucket is to be visited, and whether the second one is, is
   -- known where the first is asked for; for a third one there is none
   abbrev pub HasReason : Role → Type 0
-  HasReason First = IsNoted 0 × (seen.second ≡ visits task.hash seen.buckets 1)
-  HasReason Second = IsNoted 1
+  HasReason First = IsNoted (stash_index First) × (seen.second ≡ visits task.hash seen.buckets (stash_index Second))
+  HasReason Second = IsNoted (stash_index Second)
   HasReason Next = ⊥
   HasReason Previous = ⊥
   HasReason near = ⊤

@@ -152,8 +152,8 @@ pub record HoldsUpto (seen : Seen) (n : ℕ) : Type 0 where
 
 -- the stash buckets are visited that the words of home and probing bucket name
 pub record IsVisiting (task : Task) (seen : Seen) : Type 0 where
-  pub first : seen.first ≡ visits task.hash seen.buckets 0
-  pub second : seen.second ≡ visits task.hash seen.buckets 1
+  pub first : seen.first ≡ visits task.hash seen.buckets (stash_index First)
+  pub second : seen.second ≡ visits task.hash seen.buckets (stash_index Second)
 
 abbrev pub IsInserting : Effect → Type 0
 IsInserting (Insert value) = ⊤

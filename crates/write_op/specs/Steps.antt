@@ -35,7 +35,7 @@ use Rattle.phase.specs.declared.make.Made.{Made}
 use Rattle.phase.specs.declared.make.Made.TheVariants as made
 use Rattle.phase.specs.declared.held.Held.{Held}
 use Rattle.phase.specs.declared.kept.Kept.{Kept}
-use Rattle.phase.specs.Places.{lock_word}
+use Rattle.phase.specs.Places.{stash_index, lock_word}
 use Rattle.phase.specs.Walks.{walk_wanted, walk_taken}
 use Rattle.phase.specs.Takes.{take_wanted, take_taken}
 use Rattle.phase.specs.Backs.{back_word, back_taken}
@@ -123,7 +123,7 @@ abbrev pub visit_first : Seen → WriteStep
 visit_first seen = if seen.first then Lock First Look else visit_second seen
 
 abbrev pub with_visits : ℕ → Seen → Seen
-with_visits hash seen = record seen { first = visits hash seen.buckets 0; second = visits hash seen.buckets 1 }
+with_visits hash seen = record seen { first = visits hash seen.buckets (stash_index First); second = visits hash seen.buckets (stash_index Second) }
 
 -- behind the last word of a bucket, whose words were put in
 abbrev pub filled : ℕ → Seen → Role → Stage

@@ -11,8 +11,9 @@ use bucket_meta::words::BUCKET_WORDS;
 use map_model::{Effect, Reply, SPENT_COUNT};
 use op_core::{Ans, Why};
 use phase::{
-    Back, Backed, Ending, Held, Load, Made, Make, NoteWord, Path, Role, Take, Taken, Walked,
-    back_next, give_next, given, load_put, make_next, take_next, walk_next,
+    Back, Backed, Ending, FIRST_STASH_INDEX, Held, Load, Made, Make, NoteWord, Path, Role,
+    SECOND_STASH_INDEX, Take, Taken, Walked, back_next, give_next, given, load_put, make_next,
+    take_next, walk_next,
 };
 
 // ---- ends
@@ -180,8 +181,8 @@ fn filled(hash: u64, stage: &mut Stage, place: Role)
     match place {
         Role::Home => stage.step = WriteStep::Fill(Role::Probing, Load::begin()),
         Role::Probing => {
-            let first = visits(hash, &stage.seen.buckets, 0);
-            let second = visits(hash, &stage.seen.buckets, 1);
+            let first = visits(hash, &stage.seen.buckets, FIRST_STASH_INDEX);
+            let second = visits(hash, &stage.seen.buckets, SECOND_STASH_INDEX);
             stage.seen.first = first;
             stage.seen.second = second;
             stage.step = visit_first(&stage.seen);
