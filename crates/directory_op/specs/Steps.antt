@@ -3,7 +3,7 @@
 use Rattle.std.specs.Prelude.{ℕ, ◌+◌, ◌-◌, ◌/◌, ◌%◌, ◌==◌, nat_le, nat_lt, Bool, true, false, Option, None, Some, if◌then◌else◌}
 use Rattle.segment_head.specs.HeadWord.{depth_in}
 use Rattle.image_layout.specs.Places.{Shape, root_word}
-use Rattle.image_layout.specs.Volatile.{directory_guard, free_guard}
+use Rattle.image_layout.specs.Volatile.{power_on, directory_guard, free_guard}
 use Rattle.op_core.specs.declared.want.Want.{Want}
 use Rattle.op_core.specs.declared.want.Want.TheVariants as want
 use Rattle.op_core.specs.declared.want.Ans.{Ans}
@@ -80,7 +80,7 @@ wanted op = wanted_in op op.step
 -- ---- what comes after
 -- it waits on while the power is on
 abbrev pub power_step : ℕ → DirectoryStep
-power_step value = if value == 0 then TakeGuard else Ended Off
+power_step value = if value == power_on then TakeGuard else Ended Off
 
 -- the root was found: the directory is doubled where the segment is as deep
 abbrev pub rooted : Bool → DirectoryOp → ℕ → DirectoryOp

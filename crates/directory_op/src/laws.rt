@@ -22,8 +22,8 @@ pub fn publishings_are_parts()
     world::holders_may_publish();
 }
 
-/// Its only outcome is that the power is off, and that has its cause: its event loaded the power word, which was not 0. Nothing else is told
-/// by what it loads: a root that is deeper than the image allows is never found, nor one so deep that is to be one deeper.
+/// Its only outcome is that the power is off, and that has its cause: its event loaded the power word, which was not that of a power that is on.
+/// Nothing else is told by what it loads: a root that is deeper than the image allows is never found, nor one so deep that is to be one deeper.
 pub fn outcomes_have_causes()
     ensures { EndsBySplitCause directory_part segment_of }
 {}

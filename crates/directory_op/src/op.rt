@@ -5,7 +5,7 @@ ghost use Rattle.directory_op.specs.Steps.{directed, next_store, stage_after, se
 ghost use Rattle.directory_op.specs.DirectoryPart.{goes_on};
 
 use crate::places::{entries, entry_word, live_head, side_first, side_last};
-use image_layout::{FREE_GUARD, ROOT_WORD};
+use image_layout::{FREE_GUARD, POWER_ON, ROOT_WORD};
 use op_core::{Ans, Machine, Want};
 use rounds::Rounds;
 use segment_head::word::depth_of;
@@ -213,7 +213,7 @@ impl DirectoryOp {
 fn power_step(value: u64) -> DirectoryStep
     ensures { result ≡ power_step value }
 {
-    if value == 0 {
+    if value == POWER_ON {
         DirectoryStep::TakeGuard
     } else {
         DirectoryStep::Ended(DirectoryEnd::Off)

@@ -2,7 +2,7 @@
 use Rattle.std.specs.Prelude.{◌≡◌, ◌≢◌, ℕ, ◌^◌, ◌<◌, Option, None, Some, List, []}
 use Rattle.op_core.specs.declared.want.Want.TheVariants.{Done}
 use Rattle.trace.specs.Events.{Words}
-use Rattle.image_layout.specs.Volatile.{power_word}
+use Rattle.image_layout.specs.Volatile.{power_word, power_on}
 use Rattle.map_model.specs.declared.call.Call.{Call}
 use Rattle.map_model.specs.Map.{key_of, value_of}
 use Rattle.map_model.specs.Changes.{change_of}
@@ -90,5 +90,5 @@ module _ (site : Ground) (e : Engine) (words : Words) where
 -- A STEP of an engine, beside any other callers, while the power is on
 abbrev pub KeepsSuits : Type 0
 KeepsSuits = (site : Ground) (here : Site) (call : Call) (e : Engine) (words : Words) (views : List View) (j : ℕ) (before v : View)
-    → here.geometry ≡ site.shape → here.version ≡ version_of site → HasNumber here → IsWordCall call → words (power_word site.shape) ≡ 0
+    → here.geometry ≡ site.shape → here.version ≡ version_of site → HasNumber here → IsWordCall call → words (power_word site.shape) ≡ power_on
     → Holds site words views → At views j v → Suits site here call e before v → finds site e words < 2 ^ 64 → StepsWell site e words here call before v

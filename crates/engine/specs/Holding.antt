@@ -6,7 +6,7 @@ use Rattle.restart_op.specs.Closing.{HaveFit, AllAreQuiet}
 use Rattle.trace.specs.Progress.{pending}
 use Rattle.trace.specs.Events.{Words}
 use Rattle.image_layout.specs.Places.{Shape}
-use Rattle.image_layout.specs.Volatile.{power_word}
+use Rattle.image_layout.specs.Volatile.{power_word, power_on}
 use Rattle.sound_image.specs.Image.{SaysShape}
 use Rattle.map_model.specs.declared.call.Call.{Call}
 use Rattle.map_model.specs.declared.entry.Entry.{Entry}
@@ -111,7 +111,7 @@ pub record CoreHolds (site : Ground) (start : Words) (core : Core) : Type 0 wher
   pub views : List View
   pub well : IsWell site start (world_of core views)
   -- the power is on
-  pub powered : core.words (power_word site.shape) ≡ 0
+  pub powered : core.words (power_word site.shape) ≡ power_on
   pub fits : HaveFit start core.trace
   pub says : SaysShape site.shape site.front
   pub served : IsServedGround site
@@ -144,6 +144,6 @@ RunKeeps = (site : Ground) (start : Words) (core : Core) (turns : List ℕ) → 
 -- that has done nothing yet: the core with which they begin holds, where they have the version of the image, and each slot that the image had free is free
 abbrev pub CoreBegins : Type 0
 CoreBegins = (site : Ground) (start : Words) (core : Core) (version : ℕ) (scripts : List (List Call))
-    → AllAreQuiet site start (world_of core (replicate (length scripts) (fresh_view 1))) → core.words ≡ site.front → core.words (power_word site.shape) ≡ 0 → version ≡ version_of site
+    → AllAreQuiet site start (world_of core (replicate (length scripts) (fresh_view 1))) → core.words ≡ site.front → core.words (power_word site.shape) ≡ power_on → version ≡ version_of site
     → KeepsFree site start → length scripts ≤ most_callers → AllByRecursion (AllByRecursion IsWordCall) scripts
     → core.callers ≡ callers_from site.shape version 1 scripts → CoreHolds site start core

@@ -10,6 +10,13 @@ counter_word shape = words_of shape
 abbrev pub power_word : Shape → ℕ
 power_word shape = words_of shape + 1
 
+-- what it is while the power is on; with any other word it is off, and a cut of the power stores this one
+abbrev pub power_on : ℕ
+power_on = 0
+
+abbrev pub power_off : ℕ
+power_off = 1
+
 -- the guard of free slots for segments
 abbrev pub allocation_guard : Shape → ℕ
 allocation_guard shape = words_of shape + 2

@@ -69,6 +69,10 @@ const ALLOCATION: u64 = 2;
 const DIRECTORY: u64 = 3;
 /// How many words stand between those of the image and the guards of segments.
 const GUARDS_FROM: u64 = 4;
+/// The power word while the power is on; with any other word it is off.
+pub const POWER_ON: u64 = 0;
+/// The power word that a cut of the power stores.
+pub const POWER_OFF: u64 = 1;
 /// The word of a guard that nobody holds; else it is the number of the caller who has it.
 pub const FREE_GUARD: u64 = 0;
 

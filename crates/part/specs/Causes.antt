@@ -13,7 +13,7 @@ use Rattle.bucket_meta.specs.Visits.{must_visit}
 use Rattle.trace.specs.Events.{Words}
 use Rattle.segment_head.specs.HeadWord.{version_in, state_in, depth_in, is_live, free, splitting}
 use Rattle.image_layout.specs.Places.{Shape, IsShape, root_word, header_word, bucket_at, homes, second_stash, stash_buckets}
-use Rattle.image_layout.specs.Volatile.{counter_word, power_word}
+use Rattle.image_layout.specs.Volatile.{counter_word, power_word, power_on}
 use Rattle.sound_image.specs.Records.{key_hash}
 use Rattle.way.specs.Ways.{entry_word, head_word, bucket_word, is_leading}
 use Rattle.map_model.specs.declared.call.Call.{Call}
@@ -247,9 +247,9 @@ module _ (shape : Shape) (words : Words) (did : Doings) (call : Call) where
       pub found : version_in head ≡ byte
       pub other : byte ≢ version
 
-    -- of being told that the power is off: the event loaded the power word, which is not 0
+    -- of being told that the power is off: the event loaded the power word, which is not that of a power that is on
     abbrev pub IsOff : Type 0
-    IsOff = (event ≡ Power) × (words (power_word shape) ≢ 0)
+    IsOff = (event ≡ Power) × (words (power_word shape) ≢ power_on)
 
     -- THE CAUSE of each outcome; that a machine has done its own work is its part's to say, below
     abbrev pub HasCause : Site → Outcome → Type 0

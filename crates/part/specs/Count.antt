@@ -5,7 +5,7 @@ use Rattle.op_core.specs.declared.want.Want.TheVariants.{Load, Power, Done}
 use Rattle.op_core.specs.declared.want.Ans.{Ans}
 use Rattle.op_core.specs.declared.want.Ans.TheVariants.{Value}
 use Rattle.image_layout.specs.Places.{Shape}
-use Rattle.image_layout.specs.Volatile.{counter_word}
+use Rattle.image_layout.specs.Volatile.{counter_word, power_on}
 use Rattle.map_model.specs.declared.call.Call.{Call}
 use Rattle.world.specs.declared.site.Site.{Site}
 use Rattle.world.specs.Ground.{Ground}
@@ -41,7 +41,7 @@ abbrev pub wanted : CountOp → Want
 wanted op = wanted_in op.site.geometry op.step
 
 abbrev pub step_after : CountStep → ℕ → CountStep
-step_after AskPower n = if n == 0 then LoadCounter else Ended Off
+step_after AskPower n = if n == power_on then LoadCounter else Ended Off
 step_after LoadCounter n = Ended (Counted n)
 step_after (Ended end) n = Ended end
 

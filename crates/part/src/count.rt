@@ -3,6 +3,7 @@
 ghost use Rattle.std.specs.Prelude.{◌≡◌};
 ghost use Rattle.part.specs.Count.{begun, wanted, taken, step_after};
 
+use image_layout::POWER_ON;
 use op_core::{Ans, Machine, Want};
 use world::Site;
 
@@ -52,7 +53,7 @@ impl CountOp {
         ensures { result ≡ step_after self.now.step value }
     {
         match self.step {
-            CountStep::AskPower if value == 0 => CountStep::LoadCounter,
+            CountStep::AskPower if value == POWER_ON => CountStep::LoadCounter,
             CountStep::AskPower => CountStep::Ended(CountEnd::Off),
             CountStep::LoadCounter => CountStep::Ended(CountEnd::Counted(value)),
             CountStep::Ended(_) => self.step,

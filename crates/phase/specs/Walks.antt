@@ -2,6 +2,7 @@
 use Rattle.std.specs.Prelude.{◌==◌, ℕ, nat_le, nat_lt, if◌then◌else◌}
 use Rattle.segment_head.specs.HeadWord.{version_in, is_live}
 use Rattle.image_layout.specs.Places.{root_word}
+use Rattle.image_layout.specs.Volatile.{power_on}
 use Rattle.way.specs.Ways.{entry_word, head_word}
 use Rattle.op_core.specs.declared.want.Want.{Want}
 use Rattle.op_core.specs.declared.want.Want.TheVariants.{Load, Power as LoadPower}
@@ -25,7 +26,7 @@ module _ (site : Site) (hash : ℕ) where
   walk_wanted (Head root segment) = Load (head_word site.geometry segment)
 
   abbrev pub walk_taken : Walk → ℕ → Walked
-  walk_taken Power seen = if seen == 0 then On Root else Off
+  walk_taken Power seen = if seen == power_on then On Root else Off
   walk_taken Root seen = if nat_le seen site.geometry.depth then On (Entry seen) else Amiss root_word seen
   walk_taken (Entry root) seen =
       if nat_lt seen site.geometry.segments then On (Head root seen) else Amiss (entry_word site.geometry hash root) seen

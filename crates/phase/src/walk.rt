@@ -3,7 +3,7 @@
 ghost use Rattle.std.specs.Prelude.{◌≡◌};
 ghost use Rattle.phase.specs.Walks.{walk_wanted, walk_taken, head_taken};
 
-use image_layout::ROOT_WORD;
+use image_layout::{POWER_ON, ROOT_WORD};
 use op_core::Want;
 use segment_head::word::{is_live, version_of};
 use way::{entry_word, head_word};
@@ -104,7 +104,7 @@ pub fn walk_next(site: &Site, hash: u64, walk: &Walk, seen: u64) -> Walked
     ensures { result ≡ walk_taken site.now hash walk.now seen }
 {
     match walk {
-        Walk::Power if seen == 0 => Walked::On(Walk::Root),
+        Walk::Power if seen == POWER_ON => Walked::On(Walk::Root),
         Walk::Power => Walked::Off,
         Walk::Root if seen <= site.geometry.depth() => Walked::On(Walk::Entry { root: seen }),
         Walk::Root => Walked::Amiss {

@@ -3,6 +3,7 @@ use Rattle.std.specs.Prelude.{◌≡◌, ◌≢◌, ℕ, ⊤, ◌+◌, ◌<◌, 
 use Rattle.op_core.specs.declared.want.Want.{Want}
 use Rattle.op_core.specs.declared.want.Want.TheVariants.{Power, Done}
 use Rattle.op_core.specs.declared.why.Why.TheVariants.{Busy}
+use Rattle.image_layout.specs.Volatile.{power_on}
 use Rattle.map_model.specs.declared.call.Call.{Call}
 use Rattle.map_model.specs.declared.call.Call.TheVariants.{Get}
 use Rattle.map_model.specs.declared.entry.Reply.{Reply}
@@ -73,14 +74,14 @@ pub record IsGoing (site : Ground) (here : Site) (call : Call) (work : Work) (st
   pub remembers : op_part.Remembers site e.op (doings_of events)
   pub decided : (outcome : Outcome) → op_part.outcome e.op ≡ Some outcome → IsDecided site here call work p.view events outcome
 
--- THE SEAT HAS FOUND THE POWER OFF since it knew p: among the events that it took since then is a look at the power word, which found another value
--- than 0
+-- THE SEAT HAS FOUND THE POWER OFF since it knew p: among the events that it took since then is a look at the power word, which found another one
+-- than that of a power that is on
 pub record HasFoundOff (p q : Watch) : Type 0 where
   pub behind : List (Want × ℕ)
   pub found : ℕ
   pub before : List (Want × ℕ)
   pub took : q.took ≡ behind ++ (Power, found) ∷ (before ++ p.took)
-  pub off : found ≢ 0
+  pub off : found ≢ power_on
 
 -- a reply is at a place that is not before this
 abbrev pub IsPlaced : Option (Reply × ℕ) → ℕ → Type 0

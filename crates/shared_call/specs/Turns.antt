@@ -2,6 +2,7 @@
 use Rattle.std.specs.Prelude.{◌≡◌, ◌≢◌, ℕ, ◌^◌, ◌<◌, ◌∷◌, None, Some, ◌⊎◌}
 use Rattle.op_core.specs.declared.want.Want.TheVariants.{Power, Done}
 use Rattle.op_core.specs.declared.why.Why.TheVariants.{Busy}
+use Rattle.image_layout.specs.Volatile.{power_on}
 use Rattle.map_model.specs.declared.call.Call.{Call}
 use Rattle.world.specs.declared.site.Site.{Site}
 use Rattle.world.specs.Ground.{Ground}
@@ -20,10 +21,10 @@ use Rattle.engine.specs.OpPart.{op_part}
 use Rattle.vlock.specs.declared.knows.Watch.{Watch}
 use Rattle.shared_call.specs.Suited.{Suits, IsCaused}
 
--- THE POWER WAS FOUND OFF: the event was a look at it, which found a value that is not 0; and no reply was entered in this attempt
+-- THE POWER WAS FOUND OFF: the event was a look at it, which found a word that is not that of a power that is on; and no reply was entered in this attempt
 pub record FoundOff (e : Engine) (found : ℕ) (before v : View) : Type 0 where
   pub looked : wanted e ≡ Power
-  pub off : found ≢ 0
+  pub off : found ≢ power_on
   pub nothing : HasNoMore before v
 
 -- what the attempt did, with the event of this engine, which found this

@@ -41,7 +41,7 @@ has_none None = true
 has_none (Some r) = false
 
 -- WHY A CALL GAVE UP: the power of its caller was off before, and it took no event; or the gate has cut the power, and has no pass left where it told of them;
--- or among the events that it took is a look at the power word, which found another value than 0
+-- or among the events that it took is a look at the power word, which found another one than that of a power that is on
 abbrev pub GaveUpFor : Bool → Watch → Option (Option ℕ) → Watch → Option (Option ℕ) → ℕ → Type 0
 GaveUpFor off p left q now cuts = ((off ≡ true) × (q ≡ p)) ⊎ ((HasNoneLeft left now × (0 < cuts)) ⊎ HasFoundOff p q)
 

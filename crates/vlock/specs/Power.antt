@@ -3,10 +3,11 @@ use Rattle.std.specs.Prelude.{◌≡◌, ℕ, true, List}
 use mathlib.Core.Option.{some}
 use lib.ListN.{get_elem?}
 use Rattle.trace.specs.Events.{Words}
-use Rattle.image_layout.specs.Volatile.{power_word}
+use Rattle.image_layout.specs.Volatile.{power_word, power_off}
 use Rattle.world.specs.Ground.{Ground}
 use Rattle.vlock.specs.declared.knows.Watch.{Watch}
 
--- THE POWER STAYS OFF: where the view of a seat has stored the power word, the word is 1, and so not 0
+-- THE POWER STAYS OFF: where the view of a seat has stored the power word, the word is the one that a cut stores, and so
+-- not that of a power that is on
 abbrev pub StaysOff : Ground → Words → List Watch → Type 0
-StaysOff site words seats = (i : ℕ) (p : Watch) → get_elem? seats i ≡ some p → p.view.stored_power ≡ true → words (power_word site.shape) ≡ 1
+StaysOff site words seats = (i : ℕ) (p : Watch) → get_elem? seats i ≡ some p → p.view.stored_power ≡ true → words (power_word site.shape) ≡ power_off

@@ -45,7 +45,7 @@ pub record IsIdle (p : Watch) : Type 0 where
   pub past : p.past ≡ []
 
 -- THE RULE: the words and all views meet the invariant of the world; what was taken in owes nothing, a seat that stands
--- for no caller is idle, where a seat's view has stored the power word, it is 1, and where it was replied that no slot is free, none is that
+-- for no caller is idle, where a seat's view has stored the power word, it is `power_off`, and where it was replied that no slot is free, none is that
 -- was free at the start
 pub record Kept (site : Ground) (s : State ℕ Watch) : Type 0 where
   pub words : length s.words ≡ all_words_of site.shape

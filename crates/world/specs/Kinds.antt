@@ -7,7 +7,7 @@ use Rattle.bucket_meta.specs.Bucket.{lock_bit, locked}
 pub use Rattle.hash_word.specs.Hash.{first_hash_of}
 use Rattle.segment_head.specs.HeadWord.{version_in, depth_in, pattern_in, is_live}
 use Rattle.image_layout.specs.Places.{Shape, block, root_word, entry_at, header_word}
-use Rattle.image_layout.specs.Volatile.{counter_word, power_word}
+use Rattle.image_layout.specs.Volatile.{counter_word, power_word, power_off}
 use Rattle.map_model.specs.declared.call.Call.{Call}
 use Rattle.map_model.specs.declared.call.Call.TheVariants.{Get}
 use Rattle.map_model.specs.declared.entry.Reply.{Reply}
@@ -101,7 +101,7 @@ wanted shape (flushes l) = Flush l
 wanted shape fences = Fence
 wanted shape (draws_place call) = Draw
 wanted shape (unlocks lock next) = Store lock next
-wanted shape cuts_power = Store (power_word shape) 1
+wanted shape cuts_power = Store (power_word shape) power_off
 
 -- ---- what becomes of the lists of a view
 -- the pairs of other words

@@ -3,7 +3,7 @@
 use Rattle.std.specs.Prelude.{◌≡◌, ◌≢◌, ℕ, ◌+◌, ◌<◌, ◌≤◌, true, Some, List, [], ◌∷◌, ◌⊎◌, length, filter}
 use Rattle.bucket_meta.specs.Bucket.{lock_bit}
 use Rattle.trace.specs.Events.{Words}
-use Rattle.image_layout.specs.Volatile.{counter_word, power_word}
+use Rattle.image_layout.specs.Volatile.{counter_word, power_word, power_on}
 use Rattle.map_model.specs.declared.call.Call.{Call}
 use Rattle.map_model.specs.declared.entry.Reply.TheVariants.{Done, Spent}
 use Rattle.map_model.specs.declared.entry.Entry.{Entry}
@@ -99,4 +99,4 @@ pub record Spending (site : Ground) (words : Words) (views : List View) (log : L
 
 -- POWER: it is off only where some view stored the power word
 abbrev pub Powered : Ground → Words → List View → Type 0
-Powered site words views = words (power_word site.shape) ≢ 0 → (j : ℕ) × (v : View) × At views j v × (v.stored_power ≡ true)
+Powered site words views = words (power_word site.shape) ≢ power_on → (j : ℕ) × (v : View) × At views j v × (v.stored_power ≡ true)
