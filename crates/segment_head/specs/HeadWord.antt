@@ -67,9 +67,13 @@ is_live h1 = (state_in h1 == normal) || (state_in h1 == splitting)
 abbrev pub HasLiveState : ℕ → Type 0
 HasLiveState h1 = (state_in h1 ≡ normal) ⊎ (state_in h1 ≡ splitting)
 
--- THE LINK, the header word behind that one, where it links this slot; where it links none it is 0
+-- THE LINK, the header word behind that one, where it links this slot
 abbrev pub link_to : ℕ → ℕ
 link_to slot = suc slot
+
+-- and where it links none
+abbrev pub no_link : ℕ
+no_link = 0
 
 -- and the slot that a link names, where it names one
 abbrev pub linked_in : ℕ → Option ℕ

@@ -1,20 +1,23 @@
-//! The link of a segment, the header word behind the one that has its fields: one more than the number of the slot that it names, or 0 for none.
+//! The link of a segment, the header word behind the one that has its fields: one more than the number of the slot that it names, or [`NO_LINK`].
 
 ghost use Rattle.std.specs.Prelude.{◌≡◌, ◌%◌, ◌^◌, IfSome, IfNone};
-ghost use Rattle.segment_head.specs.HeadWord.{link_to, linked_in};
+ghost use Rattle.segment_head.specs.HeadWord.{link_to, no_link, linked_in};
 
-/// The link that names this slot. Of number `u64::MAX`, which no slot has, it would be 0, which names none.
+/// The link that names no slot.
+pub const NO_LINK: u64 = 0;
+
+/// The link that names this slot. Of number `u64::MAX`, which no slot has, it would be [`NO_LINK`].
 pub fn link_to(slot: u64) -> u64
     ensures { result ≡ link_to slot % 2 ^ 64 }
 {
     slot.wrapping_add(1)
 }
 
-/// The slot that a link names; none where it is 0.
+/// The slot that a link names; none where it is [`NO_LINK`].
 pub fn linked_slot(link: u64) -> Option<u64>
     ensures is { result ≡ linked_in link }
     ensures some { IfSome result (λ slot. link ≡ link_to slot) }
-    ensures none { IfNone result (link ≡ 0) }
+    ensures none { IfNone result (link ≡ no_link) }
 {
-    if link > 0 { Some(link - 1) } else { None }
+    if link > NO_LINK { Some(link - 1) } else { None }
 }

@@ -2,7 +2,7 @@
 use Rattle.std.specs.Prelude.{◌≡◌, ◌≢◌, ℕ, ◌+◌, ◌*◌, ◌/◌, ◌^◌, ◌<◌, ◌≤◌, ◌⊎◌}
 use Rattle.trace.specs.Events.{with_word}
 use Rattle.hash_word.specs.Hash.{index_of}
-use Rattle.segment_head.specs.HeadWord.{version_in, state_in, depth_in, pattern_in, free, normal, splitting, fresh, link_to}
+use Rattle.segment_head.specs.HeadWord.{version_in, state_in, depth_in, pattern_in, free, normal, splitting, fresh, link_to, no_link}
 use Rattle.sound_image.specs.Places.{Shape, root_word, state_word, entry_at, header_word, link_word}
 use Rattle.sound_image.specs.StateWord.{first_version, image_version_in}
 use Rattle.sound_image.specs.Segments.{ImageWords, Frame, frame_of, image_version, state_at, depth_at, pattern_at, InOneSide, IsReadySide, HasReadySide}
@@ -41,7 +41,7 @@ module _ (frame : Frame) where
   pub record TakesSlot (greatest n x : ℕ) : Type 0 where
     pub slot : n < frame.segments
     pub was : state_at frame n ≡ free
-    pub unlinked : frame.link n ≡ 0
+    pub unlinked : frame.link n ≡ no_link
     pub becomes : state_in x ≡ fresh
     pub depth : depth_in x ≤ greatest
     pub pattern : pattern_in x < 2 ^ depth_in x

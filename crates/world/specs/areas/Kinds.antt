@@ -4,7 +4,7 @@ use Rattle.std.specs.Prelude.{◌==◌, ◌&&◌, ◌||◌, not, ℕ, suc, ◌+�
 use Rattle.op_core.specs.declared.want.Want.{Want}
 use Rattle.op_core.specs.declared.want.Want.TheVariants.{Load, Store, Exchange, Fence}
 use Rattle.hash_word.specs.Hash.{first_hash_of}
-use Rattle.segment_head.specs.HeadWord.{version_in, state_in, depth_in, pattern_in, free, fresh, is_live}
+use Rattle.segment_head.specs.HeadWord.{version_in, state_in, depth_in, pattern_in, free, fresh, is_live, no_link}
 use Rattle.segment_head.specs.Prefixes.{one_side_down_to}
 use Rattle.image_layout.specs.Places.{Shape, block, root_word, first_segment, entry_at, head_at, segment_words}
 use Rattle.image_layout.specs.Volatile.{allocation_guard, directory_guard, segment_guard, free_guard}
@@ -213,7 +213,7 @@ view_then shape (gives guard) n v =
 view_then shape (finds_stale s version) n v = with_area (not (version_in n == version)) (Stale s) (header_word shape s) n v
 view_then shape (closes s i) n v = with_area true (Whole s) i n v
 view_then shape (finds_free m) n v = with_slot (state_in n == free) m (header_word shape m) n v
-view_then shape (finds_link p depth pattern) n v = with_facts (told_by_link (n == 0) p depth pattern) (record v { known = (link_word shape p, n) ∷ v.known })
+view_then shape (finds_link p depth pattern) n v = with_facts (told_by_link (n == no_link) p depth pattern) (record v { known = (link_word shape p, n) ∷ v.known })
 view_then shape (finds_side p m depth pattern) n v =
     with_facts (told_by_side (is_ready_side depth pattern n) p m depth pattern) (with_area (is_new_side depth pattern n) (Side m) (header_word shape m) n v)
 view_then shape (finds_entry e i) n v = with_facts (Lives n ∷ []) (record v { known = (entry_at e i, n) ∷ v.known })

@@ -4,7 +4,7 @@ use Rattle.std.specs.Prelude.{◌≡◌, ◌≢◌, ℕ, suc, ◌+◌, ◌*◌, 
 use Rattle.trace.specs.Events.{Words}
 use Rattle.hash_word.specs.Hash.{first_hash_of, Covers}
 use Rattle.bucket_meta.specs.Bucket.{mark_place, fingers_place, rest_place, lock_bit, record_slots, allocated, member}
-use Rattle.segment_head.specs.HeadWord.{version_in, state_in, depth_in, pattern_in, free, fresh, normal, splitting, link_to}
+use Rattle.segment_head.specs.HeadWord.{version_in, state_in, depth_in, pattern_in, free, fresh, normal, splitting, link_to, no_link}
 pub use Rattle.segment_head.specs.SplitHeads.{side_depth_in, side_pattern_in}
 use Rattle.image_layout.specs.Places.{block, root_word, entry_at, bucket_at, homes, buckets}
 use Rattle.sound_image.specs.Records.{key_hash, HasExactNotes}
@@ -63,7 +63,7 @@ pub record MayTakeBack (site : Ground) (v : View) : Type 0 where
       → MayAt site (moves (frees s) n x) v
   -- the segment is normal again, as deep as before: it is known to link nothing, or claims its 1-side, so that it has no ready side
   pub unmarks : (s x : ℕ) (word : Words) → HasStale site v s word → HasNoSides v.areas → state_in (head_now site s word) ≡ splitting
-      → KnowsWord v (link_word site.shape s) 0 ⊎ Has (owns_side site s word) v.facts
+      → KnowsWord v (link_word site.shape s) no_link ⊎ Has (owns_side site s word) v.facts
       → IsHeader x normal (depth_in (head_now site s word)) (pattern_in (head_now site s word)) (version_in (head_now site s word))
       → MayAt site (moves unmarks s x) v
 

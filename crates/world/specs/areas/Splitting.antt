@@ -4,7 +4,7 @@ use Rattle.std.specs.Prelude.{◌≡◌, ◌≢◌, ℕ, suc, ◌+◌, ◌*◌, 
 use Rattle.trace.specs.Events.{Words}
 use Rattle.hash_word.specs.Hash.{Covers}
 use Rattle.bucket_meta.specs.Bucket.{mark_place, rest_place, lock_bit, record_slots, allocated, member}
-use Rattle.segment_head.specs.HeadWord.{version_in, state_in, depth_in, pattern_in, free, fresh, normal, splitting, HasLiveState, link_to}
+use Rattle.segment_head.specs.HeadWord.{version_in, state_in, depth_in, pattern_in, free, fresh, normal, splitting, HasLiveState, link_to, no_link}
 use Rattle.image_layout.specs.Places.{Shape, block, root_word, entry_at, bucket_at, key_at, value_at, homes, buckets}
 use Rattle.segment_head.specs.SplitHeads.{side_depth_in, side_pattern_in}
 use Rattle.sound_image.specs.Records.{key_hash, HasExactNotes}
@@ -80,7 +80,7 @@ pub record MayBegin (site : Ground) (v : View) : Type 0 where
       → MayAt site (moves (marks n) s x) v
   pub news : (s n x : ℕ) (word : Words) → IsSettledHolder site.shape v → Has (Whole s) v.areas → Has (Free n) v.areas → KnowsHead site.shape v s word → KnowsHead site.shape v n word
       → state_in (word (header_word site.shape s)) ≡ splitting → word (link_word site.shape s) ≡ link_to n
-      → state_in (word (header_word site.shape n)) ≡ free → word (link_word site.shape n) ≡ 0 → depth_in (word (header_word site.shape s)) < site.shape.depth
+      → state_in (word (header_word site.shape n)) ≡ free → word (link_word site.shape n) ≡ no_link → depth_in (word (header_word site.shape s)) < site.shape.depth
       → IsHeader x fresh (side_depth_in (word (header_word site.shape s))) (side_pattern_in (word (header_word site.shape s))) (version_of site)
       → MayAt site (moves (news s) n x) v
 
