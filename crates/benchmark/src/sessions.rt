@@ -3,7 +3,7 @@
 ghost use Rattle.std.specs.Prelude.{◌≡◌, length, IfOk};
 
 use image_file::format;
-use image_layout::Geometry;
+use image_layout::{Geometry, IDENTITY_KIND};
 use map_model::{Call, Entry, Lists, MOST_CALLERS, NoMemory, Reply};
 use reply_text::Session;
 use std::alloc::{AllocError, Global};
@@ -73,7 +73,7 @@ fn lists_of(alloc: Global, lines: u32, longest: bool) -> Result<Lists, NoMemory>
 pub(crate) fn session_of(alloc: Global, lines: u32, longest: bool) -> Result<Session, NoMemory>
     ensures one_list { IfOk result (λ session. length session.lists ≡ 1) }
 {
-    let Ok(geometry) = Geometry::new(1, 0, 0) else {
+    let Ok(geometry) = Geometry::new(1, 0, IDENTITY_KIND) else {
         return Err(NoMemory);
     };
     let medium = format(alloc, geometry)?;

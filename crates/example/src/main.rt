@@ -9,7 +9,7 @@ ghost use Rattle.example.specs.Leaves.{Leaves};
 
 use anyhow::Result;
 use image_file::{format, list};
-use image_layout::Geometry;
+use image_layout::{Geometry, IDENTITY_KIND};
 use play::play;
 use script_text::{Mode, parse};
 use std::alloc::Global;
@@ -26,7 +26,7 @@ fn pairs_after(alloc: Global, script: &[u8]) -> Result<Vec<(u64, u64)>>
     ensures pairs { IfOk result (λ pairs. Leaves script.now pairs.items) }
     ensures rising { IfOk result (λ pairs. IsStrictlyIncreasing (keys_of pairs.items)) }
 {
-    let image = format(alloc, Geometry::new(1, 0, 0)?)?;
+    let image = format(alloc, Geometry::new(1, 0, IDENTITY_KIND)?)?;
     let lines = parse(alloc, Mode::Play, script)?;
     let session = play(alloc, image, &lines)?;
     let pairs = list(alloc, &session.medium)?;

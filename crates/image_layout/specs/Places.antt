@@ -10,6 +10,10 @@ most_segments = 16384
 abbrev pub most_kind : ℕ
 most_kind = 1
 
+-- the kind of hash by which a key is its own hash; any other kind mixes it
+abbrev pub identity_kind : ℕ
+identity_kind = 0
+
 -- the number of the format, and from which bit on the kind of hash stands above it, in one word
 abbrev pub format_number : ℕ
 format_number = 1

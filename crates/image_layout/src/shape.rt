@@ -61,6 +61,8 @@ const FIRST_SEGMENT_OF_LARGEST: u64 = (BLOCK + (1u64 << (MOST_DEPTH + 1)) - 1 + 
 pub const MOST_WORDS: u64 = FIRST_SEGMENT_OF_LARGEST + SEGMENT_WORDS * MOST_SEGMENTS;
 /// The greatest kind of hash.
 pub const MOST_KIND: u64 = 1;
+/// The kind of hash by which a key is its own hash; any other kind mixes it.
+pub const IDENTITY_KIND: u64 = 0;
 /// How many words behind the commit counter the power word stands.
 const POWER: u64 = 1;
 /// How many words behind it the guard of free slots for segments stands.

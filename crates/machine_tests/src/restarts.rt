@@ -1,7 +1,7 @@
 //! Restarts of images of one slot and of nine, event for event. Each is told by the number of slots. Bit 8 of the state word is the marker.
 use crate::memory::Memory;
 use crate::rows::Follows;
-use image_layout::Geometry;
+use image_layout::{Geometry, IDENTITY_KIND};
 use op_core::{Machine, Want};
 use restart_op::{RestartOp, Started};
 use row_file::number_of;
@@ -12,7 +12,7 @@ impl Follows for RestartOp {
     type Stand = Option<Started>;
 
     fn begun(_memory: &mut Memory, case: &str) -> Result<RestartOp, Fail> {
-        Ok(RestartOp::new(Geometry::new(number_of(case)?, 0, 0)?))
+        Ok(RestartOp::new(Geometry::new(number_of(case)?, 0, IDENTITY_KIND)?))
     }
 
     fn stands(&self) -> Self::Stand {

@@ -21,7 +21,7 @@
 //! | `stands STAND` | how it stands; the type `Stand` of a machine says what that is |
 //! | `reply REPLY` | how the last attempt is answered |
 use crate::memory::Memory;
-use image_layout::Geometry;
+use image_layout::{Geometry, IDENTITY_KIND};
 use op_core::{Ans, Machine, Want};
 use row_file::number_of;
 use std::alloc::Global;
@@ -147,7 +147,7 @@ fn has(memory: &Memory, text: &str) -> Result<bool, Fail> {
 fn memory_of(text: &str) -> Result<Memory, Fail> {
     let told = numbers(text)?;
     Ok(Memory::new(Site {
-        geometry: Geometry::new(told[0], told[1], 0)?,
+        geometry: Geometry::new(told[0], told[1], IDENTITY_KIND)?,
         version: u8::try_from(told[2])?,
         caller: u8::try_from(told[3])?,
     }))

@@ -6,7 +6,7 @@ ghost use Rattle.image_layout.specs.Volatile.{all_words_of};
 
 use crate::rows::{TellsOfNumbers, hex, said, shown, walk_numbers};
 use image_file::format;
-use image_layout::Geometry;
+use image_layout::{Geometry, IDENTITY_KIND};
 use pm_trace::{Device, next_number};
 use std::alloc::Global;
 use std::test::Fail;
@@ -16,7 +16,7 @@ const STORED: [(u64, u64); 6] = [(4, 2), (9, 3), (17, 4), (100, 5), (2000, 6), (
 
 /// A memory over a new image of one segment, for callers 0 to 2.
 fn new_device(alloc: Global) -> Result<Device, Fail> {
-    let medium = format(alloc, Geometry::new(1, 0, 0)?)?;
+    let medium = format(alloc, Geometry::new(1, 0, IDENTITY_KIND)?)?;
     Ok(Device::new(alloc, medium, 2)?)
 }
 

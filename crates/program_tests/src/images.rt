@@ -1,7 +1,7 @@
 //! Images whose words come in pieces, and what is said of bytes that are no image. Files word by word are rows of `rows`.
 use crate::rows::holds;
 use image_file::{ImageFault, Words, format, from_words, read_of_written, to_bytes};
-use image_layout::Geometry;
+use image_layout::{Geometry, IDENTITY_KIND};
 use image_rules::Rule;
 use map_model::NoMemory;
 use script_text::ScriptFault;
@@ -20,7 +20,7 @@ fn pieced(alloc: Global, room: usize, bytes: &[u8]) -> Result<Words, Fail> {
 #[test]
 fn words_in_pieces(rt: HostRuntime) -> Result<(), Fail> {
     let alloc = rt.alloc();
-    let medium = format(alloc, Geometry::new(1, 0, 0)?)?;
+    let medium = format(alloc, Geometry::new(1, 0, IDENTITY_KIND)?)?;
     let kept = read_of_written(alloc, &medium).is_ok();
     let bytes = to_bytes(alloc, &medium)?;
     let again = to_bytes(alloc, &from_words(alloc, pieced(alloc, 1, &bytes)?)?)?;

@@ -11,14 +11,14 @@ ghost use Rattle.image_layout.specs.Places.{buckets, most_words};
 ghost use Rattle.way.specs.Ways.{entry_word, head_word, bucket_word};
 
 use hash_word::{HASH_BITS, Kind, dir_index, hash};
-use image_layout::{Geometry, HEADER, ROOT_WORD};
+use image_layout::{Geometry, HEADER, IDENTITY_KIND, ROOT_WORD};
 use segment_head::word::{NORMAL, depth_of, pattern_of, state_of};
 
 /// The hash of a key in an image that is laid out so.
 pub fn key_hash(geometry: &Geometry, key: u64) -> u64
     ensures { result ≡ key_hash geometry.now key }
 {
-    if geometry.kind() == 0 {
+    if geometry.kind() == IDENTITY_KIND {
         hash(Kind::Identity, key)
     } else {
         hash(Kind::Mix, key)
