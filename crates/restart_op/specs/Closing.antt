@@ -14,7 +14,7 @@ use Rattle.sound_image.specs.Image.{SaysShape, IsSoundImage}
 use Rattle.session.specs.Left.{HasPairsOf}
 use Rattle.bucket_words.specs.Owners.{IsStructure}
 use Rattle.bucket_words.specs.Hits.{find}
-use Rattle.world.specs.Ground.{Ground}
+use Rattle.world.specs.Ground.{Ground, callers_bound}
 use Rattle.world.specs.Views.{View, At}
 use Rattle.world.specs.Wants.{answer_to}
 use Rattle.world.specs.World.{World}
@@ -85,7 +85,7 @@ FitsByEvents = (start : Words) (e : Event) (es : Trace) → ((i x : ℕ) → Wri
 
 -- a restart of a sound image leaves the world quiet, as long as no caller begins
 abbrev pub QuietAfterRestart : Type 0
-QuietAfterRestart = (shape : Shape) (words : List ℕ) (callers : ℕ) → IsSoundImage shape words → callers < 2 ^ 32
+QuietAfterRestart = (shape : Shape) (words : List ℕ) (callers : ℕ) → IsSoundImage shape words → callers < callers_bound
     → AllAreQuiet (site_of shape words callers) (slice_index words) (world_of shape words callers)
 
 -- ---- what it keeps

@@ -1,5 +1,5 @@
 -- What a restart does to the image that it is run on: after any number of its events, and at its end.
-use Rattle.std.specs.Prelude.{◌≡◌, ◌≢◌, ℕ, ◌+◌, ◌^◌, ◌<◌, ◌≤◌, ◌↔◌, true, List, [], ◌∷◌, length, replicate, slice_index}
+use Rattle.std.specs.Prelude.{◌≡◌, ◌≢◌, ℕ, ◌+◌, ◌<◌, ◌≤◌, ◌↔◌, true, List, [], ◌∷◌, length, replicate, slice_index}
 use Rattle.std.specs.FinMap.{get}
 use Rattle.segment_head.specs.Versions.{unversioned}
 use Rattle.trace.specs.Events.{Words, Trace, HasLine, most_unfenced}
@@ -14,7 +14,7 @@ use Rattle.session.specs.Left.{HasPairsOf}
 use Rattle.bucket_words.specs.Hits.{find}
 use Rattle.op_core.specs.declared.want.Want.TheVariants as want
 use Rattle.op_core.specs.declared.want.Want.TheVariants.{Done}
-use Rattle.world.specs.Ground.{Ground}
+use Rattle.world.specs.Ground.{Ground, callers_bound}
 use Rattle.world.specs.Views.{View, At}
 use Rattle.world.specs.Wants.{word_of}
 use Rattle.world.specs.World.{World, fresh_view}
@@ -109,14 +109,14 @@ views_of callers = fresh_view 0 ∷ replicate callers (fresh_view 1)
 abbrev pub world_of : Shape → List ℕ → ℕ → World
 world_of shape words callers = record { words = words_at_end shape words; trace = (restarted_wholly shape words).trace; views = views_of callers }
 
--- THE WORLD IS THAT OF A RESTART of the image, for fewer than 2^32 callers
+-- THE WORLD IS THAT OF A RESTART of the image, for fewer callers than `callers_bound`
 abbrev pub IsRestart : Type 0
-IsRestart = (shape : Shape) (words : List ℕ) (callers : ℕ) → IsSoundImage shape words → callers < 2 ^ 32
+IsRestart = (shape : Shape) (words : List ℕ) (callers : ℕ) → IsSoundImage shape words → callers < callers_bound
     → IsRestartOf (site_of shape words callers) words (world_of shape words callers)
 
 -- SO IT BEGINS
 abbrev pub RestartBegins : Type 0
-RestartBegins = (shape : Shape) (words : List ℕ) (callers : ℕ) → IsSoundImage shape words → callers < 2 ^ 32
+RestartBegins = (shape : Shape) (words : List ℕ) (callers : ℕ) → IsSoundImage shape words → callers < callers_bound
     → Begins (site_of shape words callers) (slice_index words) (world_of shape words callers)
 
 -- each caller has its seat

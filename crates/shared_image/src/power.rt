@@ -1,12 +1,13 @@
 //! An image is powered on: its medium is laid out, restarted and opened.
 
-ghost use Rattle.std.specs.Prelude.{◌≡◌, ℕ, ◌+◌, ◌<◌, ◌^◌, IfOk, length, slice_index};
+ghost use Rattle.std.specs.Prelude.{◌≡◌, ℕ, ◌+◌, ◌<◌, IfOk, length, slice_index};
 ghost use Rattle.std.specs.FinMap.{get};
 ghost use Rattle.image_layout.specs.Places.{words_of, state_word};
 ghost use Rattle.image_layout.specs.Volatile.{all_words_of};
 ghost use Rattle.map_model.specs.Map.{Map};
 ghost use Rattle.sound_image.specs.Image.{IsSoundImage};
 ghost use Rattle.session.specs.Left.{HasPairsOf};
+ghost use Rattle.world.specs.Ground.{callers_bound};
 ghost use Rattle.restart_op.specs.Restart.{started_for};
 ghost use Rattle.restart_op.specs.Restarted.{words_at_end};
 ghost use Rattle.vlock.specs.Ruling.{word};
@@ -68,7 +69,7 @@ pub fn power_on(
     callers: u64,
 ) -> Result<(SharedImage, Keeper), NoMemory>
     requires sound { IsSoundImage medium.now.geometry medium.now.words }
-    requires callers { callers + 1 < 2 ^ 32 }
+    requires callers { callers + 1 < callers_bound }
     ensures on { IfOk result (λ made. IsOn made.0) }
     ensures keeper { IfOk result (λ made. IsKeeperOf made.0 made.1) }
     ensures shape { IfOk result (λ made. (ground_in made.0).shape ≡ medium.now.geometry) }

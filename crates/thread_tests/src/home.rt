@@ -1,6 +1,7 @@
 //! A small image with the pair 5, 7, and what passes do at the home bucket of key 5.
 
-ghost use Rattle.std.specs.Prelude.{◌≡◌, ℕ, ◌+◌, ◌-◌, ◌<◌, ◌^◌, IfOk, IfSome};
+ghost use Rattle.std.specs.Prelude.{◌≡◌, ℕ, ◌+◌, ◌-◌, ◌<◌, IfOk, IfSome};
+ghost use Rattle.world.specs.Ground.{callers_bound};
 ghost use Rattle.shared_image.specs.Powered.{IsOn, IsKeeperOf, IsPassOf, ground_in, callers_left};
 ghost use Rattle.shared_image.specs.Calling.{Rests};
 ghost use Rattle.thread_tests.specs.Ready.{IsReady, HoldsFirst};
@@ -31,7 +32,7 @@ const PAIR: [(usize, u64); 11] = [
 
 /// That image, powered on for so many callers, with its keeper.
 pub(crate) fn shared(alloc: Global, callers: u64) -> Result<(SharedImage, Keeper), Fail>
-    requires { callers + 1 < 2 ^ 32 }
+    requires { callers + 1 < callers_bound }
     ensures on { IfOk result (λ made. IsOn made.0 × IsKeeperOf made.0 made.1) }
     ensures callers { IfOk result (λ made. callers_left made.1 ≡ callers + 1) }
     ensures all { IfOk result (λ made. (ground_in made.0).callers ≡ callers + 1) }

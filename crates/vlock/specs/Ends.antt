@@ -1,5 +1,5 @@
 -- How an image is opened, and what is known of it when all callers have ended, or where its power was cut.
-use Rattle.std.specs.Prelude.{◌≡◌, ◌⊎◌, ℕ, suc, ◌^◌, ◌<◌, ◌≤◌, List, [], length, map}
+use Rattle.std.specs.Prelude.{◌≡◌, ◌⊎◌, ℕ, suc, ◌<◌, ◌≤◌, List, [], length, map}
 use Rattle.std.specs.FinMap.{get}
 use Rattle.map_model.specs.declared.call.Call.{Call}
 use Rattle.map_model.specs.declared.entry.Entry.{Entry}
@@ -13,7 +13,7 @@ use Rattle.image_layout.specs.Volatile.{all_words_of, free_guard}
 use Rattle.bucket_words.specs.Standing.{IsTable}
 use Rattle.world.specs.Claims.{HasSoundFrame}
 use Rattle.world.specs.Hits.{find}
-use Rattle.world.specs.Ground.{Ground, IsGround, IsStructured, IsCurrentIn, HasSpentLock}
+use Rattle.world.specs.Ground.{Ground, callers_bound, IsGround, IsStructured, IsCurrentIn, HasSpentLock}
 use Rattle.world.specs.Views.{View, Has, At}
 use Rattle.world.specs.History.{Log, map_now, reply_by}
 use Rattle.world.specs.Media.{IsPossible}
@@ -82,7 +82,7 @@ pub record IsPowerCut (site : Ground) (words : Words) (views : List View) : Type
 -- an opening of what was left: the words of the image, with 0 in those behind it, for callers that are few enough
 pub record IsOfWhatWasLeft (site : Ground) (words : Words) (key : Opening) : Type 0 where
   pub geometry : key.geometry ≡ site.shape
-  pub few : key.callers < 2 ^ 32
+  pub few : key.callers < callers_bound
   pub length_is : length key.words.value.items ≡ all_words_of key.geometry
   pub same : (i : ℕ) → i < words_of site.shape → word key.words.value.items i ≡ words i
   pub behind : (i : ℕ) → words_of key.geometry ≤ i → i < all_words_of key.geometry → word key.words.value.items i ≡ 0

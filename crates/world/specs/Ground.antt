@@ -16,10 +16,15 @@ pub record Ground : Type 0 where
   pub start : ℕ → Option ℕ
   pub callers : ℕ
 
+-- how many callers there are stays below this number: so the commit counter, which each of them may raise once after it was found below
+-- `spent_count`, never wraps
+abbrev pub callers_bound : ℕ
+callers_bound = 2 ^ 32
+
 -- the image has a shape, and the callers are too few to spend the commit counter
 pub record IsGround (site : Ground) : Type 0 where
   pub shape : IsShape site.shape
-  pub few : site.callers < 2 ^ 32
+  pub few : site.callers < callers_bound
 
 -- a word is the lock word of a bucket
 abbrev pub IsLockWord : Shape → ℕ → Type 0

@@ -1,6 +1,6 @@
 -- A restart of any sound image. Of an image that was closed it keeps the version; of any other it raises it, and where there is none above
 -- it sets the version bytes of all headers to 0 before. Of the marker nothing is asked here. So begins the invariant.
-use Rattle.std.specs.Prelude.{◌≡◌, ◌≢◌, ℕ, ◌^◌, ◌<◌, ◌⊎◌, List, slice_index}
+use Rattle.std.specs.Prelude.{◌≡◌, ◌≢◌, ℕ, ◌<◌, ◌⊎◌, List, slice_index}
 use Rattle.trace.specs.Events.{Words, value}
 use Rattle.trace.specs.Steps.{HadSinceSettled}
 use Rattle.segment_head.specs.HeadWord.{version_in, state_in, depth_in, pattern_in}
@@ -8,7 +8,7 @@ use Rattle.image_layout.specs.Places.{Shape, root_word, state_word, words_of, bl
 use Rattle.sound_image.specs.Segments.{frame_of, image_version, IsClean}
 use Rattle.sound_image.specs.Image.{IsSoundImage}
 use Rattle.frame_facts.specs.Hits.{find}
-use Rattle.world.specs.Ground.{Ground}
+use Rattle.world.specs.Ground.{Ground, callers_bound}
 use Rattle.world.specs.Views.{View, At}
 use Rattle.world.specs.Parts.{total}
 use Rattle.world.specs.World.{World, fresh_view}
@@ -42,7 +42,7 @@ module _ (shape : Shape) (image words : Words) where
 -- anything
 pub record IsRestartOf (site : Ground) (image : List ℕ) (world : World) : Type 0 where
   pub sound : IsSoundImage site.shape image
-  pub few : site.callers < 2 ^ 32
+  pub few : site.callers < callers_bound
   pub words_are : world.words ≡ value (slice_index image) world.trace
   pub settled : (i y : ℕ) → i < words_of site.shape → HadSinceSettled (slice_index image) world.trace i y → y ≡ world.words i
   pub left : IsLeftOf site.shape (slice_index image) world.words
