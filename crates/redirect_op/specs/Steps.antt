@@ -1,6 +1,6 @@
 -- What the redirecting of entries wants in each step, and what an answer makes of it; and how it ends.
 use Rattle.std.specs.Prelude.{ℕ, ◌+◌, nat_le, nat_lt, min, Bool, true, false, Option, None, Some, if◌then◌else◌}
-use Rattle.segment_head.specs.HeadWord.{depth_in}
+use Rattle.segment_head.specs.HeadWord.{depth_in, free}
 use Rattle.segment_head.specs.SplitHeads.{one_side_head}
 use Rattle.image_layout.specs.Places.{Shape, root_word}
 use Rattle.image_layout.specs.Volatile.{directory_guard, free_guard}
@@ -25,9 +25,10 @@ abbrev pub shape_of : RedirectOp → Shape
 shape_of op = op.guarded.site.geometry
 
 -- ---- which entries
--- a header with the depth and the pattern of the 1-side
+-- a header with the depth and the pattern of the 1-side; entries are found by these two alone, so its version and its state do not matter: it has
+-- version 0, which no image has, and is that of a free slot
 abbrev pub side_head : ℕ → ℕ
-side_head head = one_side_head 0 0 head
+side_head head = one_side_head 0 free head
 
 -- the first and the last entry of the 1-side
 abbrev pub first_entry : RedirectOp → ℕ

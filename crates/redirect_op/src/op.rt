@@ -11,7 +11,7 @@ use op_core::{Ans, Machine, Want, Why};
 use repair_op::Guarded;
 use rounds::Rounds;
 use segment_head::split::one_side_head;
-use segment_head::word::depth_of;
+use segment_head::word::{FREE, depth_of};
 use way::head_word;
 
 /// The redirecting of the entries of a stale segment's 1-side.
@@ -27,11 +27,12 @@ pub struct RedirectOp {
     pub step: RedirectStep,
 }
 
-/// A header with the depth and the pattern of the 1-side.
+/// A header with the depth and the pattern of the 1-side. Entries are found by these two alone, so its version and its state do not matter: it
+/// has version 0, which no image has, and is that of a free slot.
 fn side_head(head: u64) -> u64
     ensures { result ≡ side_head head }
 {
-    one_side_head(0, 0, head)
+    one_side_head(0, FREE, head)
 }
 
 /// The end of an attempt that found this word of a guard taken, by this number.
