@@ -48,6 +48,7 @@ pub(crate) fn rule_one(geometry: &Geometry, words: &[u64]) -> Option<u64>
     if words[ROOT_WORD as usize] > geometry.depth() {
         return Some(ROOT_WORD);
     }
+    // 0 alone is below the first version.
     if state::version_of(words[STATE_WORD as usize]) == 0 {
         return Some(STATE_WORD);
     }
