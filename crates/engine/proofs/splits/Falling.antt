@@ -3,6 +3,7 @@
 use Rattle.std.proofs.Common.{◌≡◌, ℕ, ◌+◌, ◌-◌, ◌^◌, ◌<◌, ◌≤◌, ◌⊎◌, inl, inr, Bool, true, false, refl, sym, ap, ◌∙◌, arith}
 use Rattle.std.specs.Prelude.{min}
 use Rattle.std.proofs.Math.Pow.{pow_mono}
+use Rattle.std.proofs.lemmas.Bool.{false≢true}
 use Rattle.op_core.specs.declared.want.Ans.{Ans}
 use Rattle.op_core.specs.Answers.{IsAnswer}
 use Rattle.image_layout.specs.Places.{most_segments, most_depth}
@@ -30,9 +31,6 @@ use Rattle.engine.specs.OpPart.{CallState, named, call_part, op_part, split_and_
 use Rattle.engine.specs.Short.{left_once_made, left_once_enclosed, left_once_guarded, work_left, FallsOrWaits, RepairsFall, BeginsShort, RepairBeginsShort, StaysWithin, RepairStaysWithin}
 use Rattle.engine.specs.Engine.{running}
 use Rattle.engine.proofs.splits.Images.{enclosed_site, made_whole, guarded_site}
-
-no_wait : false ≡ true → ⊥
-no_wait e = cc
 
 -- ---- of which as many are counted as are left of the attempt
 own_left : (m : CallState) → work_left (named (one m)) ≡ op_part.left (named (one m))
@@ -82,14 +80,14 @@ module _ (begins : BeginsWithinImage) (mending : EndsInTime mend_part) where
           let most = guarded_left later (repair_part.hands_on later) in
           let same = ap (λ (s : Site). left_once_guarded s.geometry) (guarded_site op op.step a) in
           omega (arith, most, low, same)
-      | inr wait ↦ absurd (no_wait wait.0)
+      | inr wait ↦ absurd (false≢true wait.0)
     ]
 
     by_whole : (op : Op) (a : Ans) → op_part.is_waiting op ≡ false → work_left op ≡ op_part.left op → work_left (op_part.taken op a) ≡ op_part.left (op_part.taken op a) → IsAnswer (op_part.wanted op) a
         → work_left (op_part.taken op a) < work_left op
     by_whole op a steady now later i = elim (whole.falls op a i) [
       | inl low ↦ omega (arith, now, later, low)
-      | inr wait ↦ absurd (no_wait (sym steady ∙ wait.0))
+      | inr wait ↦ absurd (false≢true (sym steady ∙ wait.0))
     ]
 
     -- A REPAIR NEVER WAITS
@@ -120,7 +118,7 @@ module _ (whole : EndsInTime op_part) (enclosing : EndsInTime enclose_part) (mak
         let most = enclosed_left later (enclose_part.hands_on later) in
         let same = ap (λ (s : Site). left_once_enclosed s.geometry) (enclosed_site op.enclosed op.step a) in
         omega (arith, most, low, same)
-    | inr wait ↦ absurd (no_wait wait.0)
+    | inr wait ↦ absurd (false≢true wait.0)
   ]
 
   make_falls : (op : SplitOp) (a : Ans) → IsAnswer (split_part.wanted op) a → work_left (op_part.taken (Split op) a) < work_left (Split op)
@@ -130,7 +128,7 @@ module _ (whole : EndsInTime op_part) (enclosing : EndsInTime enclose_part) (mak
         let most = made_left later (split_part.hands_on later) in
         let same = ap (λ w. left_once_made w.site.geometry) (made_whole op op.step a) in
         omega (arith, most, low, same)
-    | inr wait ↦ absurd (no_wait wait.0)
+    | inr wait ↦ absurd (false≢true wait.0)
   ]
 
   falls_at : (op : Op) (a : Ans) → IsAnswer (op_part.wanted op) a → Fewer op a
