@@ -1,7 +1,6 @@
 -- A device stays whole: its flushes are of lines of the image by its callers, 8 of each at most, and there is room.
-use Rattle.std.proofs.Common.{◌≡◌, ℕ, ◌+◌, ◌*◌, ◌<◌, ◌≤◌, inl, inr, Bool, not, cond, eqb, List, [], ◌∷◌, ◌++◌, length, take, filter, sym, ◌∙◌, ap, subst, arith}
+use Rattle.std.proofs.Common.{◌≡◌, ℕ, ◌+◌, ◌*◌, ◌<◌, ◌≤◌, inl, inr, Bool, not, cond, eqb, List, [], ◌∷◌, ◌++◌, length, filter, sym, ◌∙◌, ap, subst, arith}
 use Rattle.std.specs.Prelude.{All}
-use Rattle.std.proofs.Math.Seq.{take-append_seam}
 use Rattle.std.proofs.lemmas.Bool.{cases_eq, eq-eqb, ne_eqb}
 use Rattle.std.proofs.lemmas.List.{length-append}
 use Rattle.std.proofs.lemmas.List.Elements.{All-append, All-filter, filter-append}
@@ -14,10 +13,6 @@ use Rattle.pm_trace.proofs.Elements.{all_of_has, has_of_all, filter_has, filter_
 use Rattle.pm_trace.proofs.Renews.{renewed_from, renewed_eight, renewed_count}
 use Rattle.pm_trace.proofs.Settles.{Fits}
 use Rattle.pm_trace.proofs.Room.{few_in_all}
-
--- what a slice of a whole vector gives back
-pub whole_again : {X : Type 0} (n : ℕ) (ws xs : List X) → n ≡ length ws → take n (ws ++ xs) ≡ ws
-whole_again n ws xs h = ap (λ k. take k (ws ++ xs)) h ∙ take-append_seam ws xs
 
 -- one flush has its caller alone
 one_of : (c : ℕ) (new : Flush) → length (flushes_of c (new ∷ [])) ≤ 1

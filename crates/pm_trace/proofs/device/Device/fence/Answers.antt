@@ -1,5 +1,5 @@
 -- What the caller flushed settles, and the flushes that are left are as many as before or fewer.
-use Rattle.std.proofs.Common.{◌≡◌, ℕ, List, ◌∷◌, ◌++◌, ◌≤◌, ◌+◌, ◌*◌, ap, subst, sym, ◌∙◌, arith, length, take, drop}
+use Rattle.std.proofs.Common.{◌≡◌, ℕ, List, ◌∷◌, ◌++◌, ◌≤◌, ◌+◌, ◌*◌, ap, subst, sym, ◌∙◌, arith, length, take, drop, take_at}
 use Rattle.std.specs.Prelude.{All}
 use Rattle.image_layout.specs.Places.{Shape}
 use Rattle.trace.specs.Events.Event.{fenced}
@@ -12,7 +12,7 @@ use Rattle.pm_trace.specs.TraceOf.{IsTraceOf}
 use Rattle.pm_trace.specs.FlushLists.{IsFlush, settled_by, left_by}
 use Rattle.pm_trace.proofs.Settles.{Fits, length-settled_by}
 use Rattle.pm_trace.proofs.AfterFence.{fence_follows}
-use Rattle.pm_trace.proofs.Within.{whole_again, left_fit, left_few, lines_fit}
+use Rattle.pm_trace.proofs.Within.{left_fit, left_few, lines_fit}
 use Rattle.pm_trace.proofs.device.Device.fence.Goals as goal
 
 -- the lines of a device lie within its words
@@ -26,7 +26,7 @@ written : (len : ℕ) (words items : List ℕ) (caller : ℕ) (flushes lent : Li
     → words ≡ settled_by caller lent slice → lent ≡ flushes → slice ≡ items → take len (words ++ drop (length words) items) ≡ settled_by caller flushes items
 written len words items caller flushes lent slice long fit is same_flushes same_words =
     let e : words ≡ settled_by caller flushes items = is ∙ ap (λ fs. settled_by caller fs slice) same_flushes ∙ ap (λ ws. settled_by caller flushes ws) same_words in
-    whole_again len words (drop (length words) items) (long ∙ sym (ap length e ∙ length-settled_by caller flushes items fit)) ∙ e
+    take_at words (drop (length words) items) len (ap length e ∙ length-settled_by caller flushes items fit ∙ sym long) ∙ e
 
 pub invariant_of-self : goal.invariant_of-self
 invariant_of-self c =
