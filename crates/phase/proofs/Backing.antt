@@ -1,7 +1,7 @@
 -- The way again.
 use Rattle.std.proofs.Common.{◌≡◌, ◌≢◌, ℕ, ◌+◌, ◌<◌, ◌≤◌, Bool, true, false, refl, sym, ap, ◌∙◌, arith}
 use Rattle.std.specs.Prelude.{◌==◌, ◌&&◌, if◌then◌else◌}
-use Rattle.std.proofs.lemmas.Bool.{eqb-true, lt-ltb, and_parts, false≢true}
+use Rattle.std.proofs.lemmas.Bool.{eqb-true, lt-ltb, and_parts, false≢true, cond_both}
 use Rattle.op_core.specs.declared.want.Want.TheVariants.{Load as LoadWord}
 use Rattle.image_layout.specs.Places.{Shape, root_word, head_at}
 use Rattle.way.specs.Ways.{is_leading}
@@ -25,12 +25,7 @@ module _ (P : Backed → Type 0) (here : Site) (hash : ℕ) (path : Path) (at : 
   test = (n == back_before path at) && back_leads here hash path at
 
   pub back_by_test : (test ≡ true → P (back_on at)) → (test ≡ false → P (Moved (back_word here hash path at) (back_before path at) n)) → P (back_taken here hash path at n)
-  back_by_test same moved = by test same moved
-    where
-      by : (t : Bool) → (t ≡ true → P (back_on at)) → (t ≡ false → P (Moved (back_word here hash path at) (back_before path at) n))
-          → P (if t then back_on at else Moved (back_word here hash path at) (back_before path at) n)
-      by true p q = p refl
-      by false p q = q refl
+  back_by_test same moved = cond_both test (back_on at) (Moved (back_word here hash path at) (back_before path at) n) P same moved
 
   pub back_cases : P (back_on at) → P (Moved (back_word here hash path at) (back_before path at) n) → P (back_taken here hash path at n)
   back_cases same moved = back_by_test (λ t. same) (λ f. moved)

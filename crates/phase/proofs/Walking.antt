@@ -1,7 +1,7 @@
 -- The way: what it wants is of its kind, who relies on what it loaded may take it, it keeps that, and leaves all else of the view as it was.
 use Rattle.std.proofs.Common.{◌≡◌, ℕ, ◌+◌, ◌^◌, ◌<◌, ◌≤◌, Bool, true, false, List, [], ◌∷◌, ◌++◌, Option, None, inl, inr, refl, sym, ap, ◌∙◌, subst, arith}
 use Rattle.std.specs.Prelude.{◌==◌, ◌&&◌, nat_lt, nat_le, if◌then◌else◌}
-use Rattle.std.proofs.lemmas.Bool.{le-leb, lt-ltb, leb-true, ltb-false, leb-false, eqb-false, both_ways}
+use Rattle.std.proofs.lemmas.Bool.{le-leb, lt-ltb, leb-true, ltb-false, leb-false, eqb-false, both_ways, cond_both}
 use Rattle.hash_word.specs.Hash.{index_of}
 use Rattle.segment_head.specs.HeadWord.{version_in, is_live, HasLiveState}
 use Rattle.segment_head.proofs.Headers.{live_test}
@@ -25,7 +25,7 @@ use Rattle.phase.specs.declared.walk.Walked.TheVariants.{On, There, Off, Amiss, 
 use Rattle.phase.specs.Walks.{walk_wanted, walk_taken}
 use Rattle.phase.specs.Stands.{walk_kind, IsCurrent, IsWalking, HasWalked, IsBare, HasBegun, head_note, NotesWay, IsButWay, walk_left, walked_left}
 use Rattle.phase.specs.Laws.{WalkFits, WalkStands, WalkNotes, WalkNeverStale}
-use Rattle.phase.proofs.locks.Choosing.{by_test, by_both}
+use Rattle.phase.proofs.locks.Choosing.{by_both}
 
 -- ---- its events
 -- a word is asked for where the image has it, and else the root's
@@ -91,8 +91,8 @@ module _ (P : Walked → Type 0) (here : Site) (hash root segment n : ℕ) where
   pub by_head : (is_live n ≡ true → (version_in n == here.version) ≡ true → P there) → (is_live n ≡ true → (version_in n == here.version) ≡ false → P stale) → (is_live n ≡ false → P amiss)
       → P (walk_taken here hash (Head root segment) n)
   by_head current old dead =
-      by_test P (is_live n) (if version_in n == here.version then there else stale) amiss
-      (λ live. by_test P (version_in n == here.version) there stale (λ is. current live is) (λ is. old live is)) dead
+      cond_both (is_live n) (if version_in n == here.version then there else stale) amiss P
+      (λ live. cond_both (version_in n == here.version) there stale P (λ is. current live is) (λ is. old live is)) dead
 
 pub walk_falls : (here : Site) (hash : ℕ) (w : Walk) (n : ℕ) → walked_left (walk_taken here hash w n) < walk_left w
 walk_falls here hash Power n = by_both (λ (x : Walked). walked_left x < 4) (n == 0) (On Root) Off (omega arith) (omega arith)
@@ -163,13 +163,13 @@ module _ (site : Ground) (here : Site) (hash : ℕ) (same : here.geometry ≡ si
         → HasWalked site (walk_taken here hash w n) (view_after site.shape (walk_kind here hash w) n v).facts
     walk_on Power known n found = by_both (λ (x : Walked). HasWalked site x v.facts) (n == 0) (On Root) Off tt tt
     walk_on Root known n found =
-        by_test (λ (x : Walked). HasWalked site x (Rooted n ∷ v.facts)) (nat_le n here.geometry.depth) (On (Entry n)) (Amiss root_word n)
+        cond_both (nat_le n here.geometry.depth) (On (Entry n)) (Amiss root_word n) (λ (x : Walked). HasWalked site x (Rooted n ∷ v.facts))
         (λ t. let low = leb-true n here.geometry.depth t in let d = depth_is in (inl refl, omega (arith, low, d)))
         (λ f. let high = leb-false n here.geometry.depth f in let d = depth_is in let r = root_low in omega (arith, high, found, d, r))
     walk_on (Entry root) known n found =
         let live : IsLiveSlot (frame_of site.shape words) n = subst (IsLiveSlot (frame_of site.shape words)) (sym found) (named root known.0 known.1) in
         subst (λ (u : View). HasWalked site (walk_taken here hash (Entry root) n) u.facts) (sym (after_entry root n v known.1))
-        (by_test (λ (x : Walked). HasWalked site x (Lives n ∷ v.facts)) (nat_lt n here.geometry.segments) (On (Head root n)) (Amiss (entry_word here.geometry hash root) n)
+        (cond_both (nat_lt n here.geometry.segments) (On (Head root n)) (Amiss (entry_word here.geometry hash root) n) (λ (x : Walked). HasWalked site x (Lives n ∷ v.facts))
         (λ t. (inl refl, live.slot))
         (λ f. let high = ltb-false n here.geometry.segments f in let s = segments_are in let within = live.slot in omega (arith, high, s, within)))
     walk_on (Head root segment) known n found =

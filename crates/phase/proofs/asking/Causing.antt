@@ -1,7 +1,7 @@
 -- What a way keeps was loaded, and each end of a way, and of a way again, has its cause.
 use Rattle.std.proofs.Common.{◌≡◌, ℕ, Bool, true, false, List, [], ◌∷◌, ◌++◌, inl, inr, ◌⊎◌, refl, sym, ◌∙◌, subst}
 use Rattle.std.specs.Prelude.{◌==◌, ◌&&◌, nat_lt, nat_le}
-use Rattle.std.proofs.lemmas.Bool.{eqb-true, eqb-false, leb-true, ltb-true}
+use Rattle.std.proofs.lemmas.Bool.{eqb-true, eqb-false, leb-true, ltb-true, cond_both}
 use Rattle.segment_head.specs.HeadWord.{version_in}
 use Rattle.trace.specs.Events.{Words}
 use Rattle.image_layout.specs.Places.{root_word}
@@ -23,7 +23,7 @@ use Rattle.phase.specs.Causes.{WasNamed, WasFound, RemembersWalked, HasWalkCause
 use Rattle.phase.specs.Laws.{WalkRemembers, WalkHasCauses, BackHasCauses}
 use Rattle.phase.proofs.Walking.{by_head}
 use Rattle.phase.proofs.Backing.{back_by_test}
-use Rattle.phase.proofs.locks.Choosing.{by_test, by_both}
+use Rattle.phase.proofs.locks.Choosing.{by_both}
 
 -- ---- what was loaded stays so with more
 pub has_more : (more loads : List (ℕ × ℕ)) (p : ℕ × ℕ) → Has p loads → Has p (more ++ loads)
@@ -45,10 +45,10 @@ found_named here hash loads path r = (path.root, r.0.0, r.0.1)
 pub walk_remembers : WalkRemembers
 walk_remembers here hash loads Power n r = by_both (RemembersWalked here hash loads) (n == 0) (On Root) Off tt tt
 walk_remembers here hash loads Root n r =
-    by_test (RemembersWalked here hash ((root_word, n) ∷ loads)) (nat_le n here.geometry.depth) (On (Entry n)) (Amiss root_word n)
+    cond_both (nat_le n here.geometry.depth) (On (Entry n)) (Amiss root_word n) (RemembersWalked here hash ((root_word, n) ∷ loads))
     (λ t. (inl refl, leb-true n here.geometry.depth t)) (λ f. tt)
 walk_remembers here hash loads (Entry root) n r =
-    by_test (RemembersWalked here hash ((entry_word here.geometry hash root, n) ∷ loads)) (nat_lt n here.geometry.segments) (On (Head root n)) (Amiss (entry_word here.geometry hash root) n)
+    cond_both (nat_lt n here.geometry.segments) (On (Head root n)) (Amiss (entry_word here.geometry hash root) n) (RemembersWalked here hash ((entry_word here.geometry hash root, n) ∷ loads))
     (λ t. ((inr r.0, r.1), inl refl, ltb-true n here.geometry.segments t)) (λ f. tt)
 walk_remembers here hash loads (Head root segment) n r =
     by_head (RemembersWalked here hash ((head_word here.geometry segment, n) ∷ loads)) here hash root segment n
@@ -56,7 +56,7 @@ walk_remembers here hash loads (Head root segment) n r =
 
 pub walk_caused : WalkHasCauses
 walk_caused here hash words did call same Power r n is =
-    by_test (HasWalkCause here hash words did call Power) (n == 0) (On Root) Off (λ t. tt) (λ f. (refl, λ zero. eqb-false n 0 f (is ∙ zero)))
+    cond_both (n == 0) (On Root) Off (HasWalkCause here hash words did call Power) (λ t. tt) (λ f. (refl, λ zero. eqb-false n 0 f (is ∙ zero)))
 walk_caused here hash words did call same Root r n is =
     by_both (HasWalkCause here hash words did call Root) (nat_le n here.geometry.depth) (On (Entry n)) (Amiss root_word n) tt tt
 walk_caused here hash words did call same (Entry root) r n is =

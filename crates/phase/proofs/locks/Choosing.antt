@@ -1,18 +1,14 @@
 -- What a test chooses of two, as a loaded word what it makes of a way, or the locks that are held what comes next: what is so of both is so of it.
-use Rattle.std.proofs.Common.{◌≡◌, ℕ, Bool, true, false, Option, None, Some, refl}
+use Rattle.std.proofs.Common.{◌≡◌, ℕ, Bool, Option, None, Some, refl}
 use Rattle.std.specs.Prelude.{if◌then◌else◌}
+use Rattle.std.proofs.lemmas.Bool.{cond_both}
 use Rattle.phase.specs.declared.role.Role.{Role}
 use Rattle.phase.specs.declared.held.Held.{Held}
 use Rattle.phase.specs.Helds.{give_next, give_step_of, give_step}
 
-pub by_test : {A : Type 0} (P : A → Type 0) (b : Bool) (s t : A) → (b ≡ true → P s) → (b ≡ false → P t) → P (if b then s else t)
-by_test P true s t p q = p refl
-by_test P false s t p q = q refl
-
--- whatever the test says
+-- what is so of both is so of the one that a test chooses
 pub by_both : {A : Type 0} (P : A → Type 0) (b : Bool) (s t : A) → P s → P t → P (if b then s else t)
-by_both P true s t p q = p
-by_both P false s t p q = q
+by_both P b s t p q = cond_both b s t P (λ e. p) (λ e. q)
 
 -- ---- the step in which a lock is given back, and the one where none is held
 by_next : {A : Type 0} (P : A → Type 0) (held : Held) (give ended : A) → P give → (give_next held ≡ None → P ended) → (next : Option (Role × ℕ)) → give_next held ≡ next

@@ -1,7 +1,7 @@
 -- Each end of a get has its cause, whatever values its events find.
 use Rattle.std.proofs.Common.{◌≡◌, ℕ, inl, inr, ◌⊎◌, List, [], ◌∷◌, ◌++◌, refl, sym, ◌∙◌, ap, subst}
 use Rattle.std.specs.Prelude.{◌==◌, nat_lt, nat_le}
-use Rattle.std.proofs.lemmas.Bool.{leb-false, ltb-false}
+use Rattle.std.proofs.lemmas.Bool.{leb-false, ltb-false, cond_both}
 use Rattle.op_core.specs.declared.want.Want.TheVariants as want
 use Rattle.op_core.specs.declared.want.Ans.TheVariants.{Value}
 use Rattle.op_core.specs.declared.why.Why.TheVariants.{Busy, Moved}
@@ -19,7 +19,7 @@ use Rattle.phase.specs.declared.walk.Walked.{Walked}
 use Rattle.phase.specs.declared.walk.Walked.TheVariants as walked
 use Rattle.phase.specs.Walks.{walk_wanted, walk_taken}
 use Rattle.phase.proofs.Walking.{by_head}
-use Rattle.phase.proofs.locks.Choosing.{by_test, by_both}
+use Rattle.phase.proofs.locks.Choosing.{by_both}
 use Rattle.read_op.specs.declared.step.ReadStep.TheVariants.{Way}
 use Rattle.read_op.specs.declared.step.Task.{Task}
 use Rattle.read_op.specs.declared.op.ReadOp.{ReadOp}
@@ -54,11 +54,11 @@ module _ (task : Task) (n word seen : ℕ) where
   amiss_is : (w : Walk) → ToldIf w (walk_taken task.site task.hash w n)
   amiss_is walk.Power = by_both (ToldIf walk.Power) (n == 0) (walked.On walk.Root) walked.Off (λ e. absurd (cc)) (λ e. absurd (cc))
   amiss_is walk.Root =
-      by_test (ToldIf walk.Root) (nat_le n task.site.geometry.depth) (walked.On (walk.Entry n)) (walked.Amiss root_word n)
+      cond_both (nat_le n task.site.geometry.depth) (walked.On (walk.Entry n)) (walked.Amiss root_word n) (ToldIf walk.Root)
       (λ t e. absurd (cc)) (λ f. told walk.Root root_word refl (leb-false n task.site.geometry.depth f))
   amiss_is (walk.Entry root) =
       let i = entry_word task.site.geometry task.hash root in
-      by_test (ToldIf (walk.Entry root)) (nat_lt n task.site.geometry.segments) (walked.On (walk.Head root n)) (walked.Amiss i n)
+      cond_both (nat_lt n task.site.geometry.segments) (walked.On (walk.Head root n)) (walked.Amiss i n) (ToldIf (walk.Entry root))
       (λ t e. absurd (cc)) (λ f. told (walk.Entry root) i refl (ltb-false n task.site.geometry.segments f))
   amiss_is (walk.Head root segment) =
       by_head (ToldIf (walk.Head root segment)) task.site task.hash root segment n (λ live current e. absurd (cc)) (λ live old e. absurd (cc))
