@@ -6,6 +6,7 @@ use Rattle.std.proofs.lemmas.Nat.{pow-add}
 use Rattle.trace.specs.Events.{Words}
 use Rattle.hash_word.specs.Hash.{top, first_hash_of, Covers}
 use Rattle.segment_head.specs.HeadWord.{state_in, depth_in, pattern_in, is_live, HasLiveState}
+use Rattle.segment_head.specs.Prefixes.{one_side_down_to}
 use Rattle.segment_head.proofs.Headers.{live_test, live_by_test}
 use Rattle.sound_image.specs.Segments.{frame_of, depth_at, pattern_at, IsReadySide, HasReadySide}
 use Rattle.frame_facts.proofs.frames.Regions.{fewer}
@@ -34,20 +35,20 @@ use Rattle.world.proofs.moving.Known.{grounds, possible_now, own_leaves}
 record IsReadyHead (depth pattern head : ℕ) : Type 0 where
   live : HasLiveState head
   deeper : depth < depth_in head
-  zeros : pattern_in head ≡ (2 * pattern + 1) * 2 ^ (depth_in head - depth - 1)
+  zeros : pattern_in head ≡ one_side_down_to (depth_in head) depth pattern
 
 ready_by_test : (depth pattern head : ℕ) → is_ready_side depth pattern head ≡ true → IsReadyHead depth pattern head
 ready_by_test depth pattern head e =
-    let a = and_parts (is_live head) (nat_lt depth (depth_in head) && eqb (pattern_in head) ((2 * pattern + 1) * 2 ^ (depth_in head - depth - 1))) e in
-    let b = and_parts (nat_lt depth (depth_in head)) (eqb (pattern_in head) ((2 * pattern + 1) * 2 ^ (depth_in head - depth - 1))) a.1 in record {
+    let a = and_parts (is_live head) (nat_lt depth (depth_in head) && eqb (pattern_in head) (one_side_down_to (depth_in head) depth pattern)) e in
+    let b = and_parts (nat_lt depth (depth_in head)) (eqb (pattern_in head) (one_side_down_to (depth_in head) depth pattern)) a.1 in record {
       live = live_by_test head a.0;
       deeper = ltb-true depth (depth_in head) b.0;
-      zeros = eqb-true (pattern_in head) ((2 * pattern + 1) * 2 ^ (depth_in head - depth - 1)) b.1;
+      zeros = eqb-true (pattern_in head) (one_side_down_to (depth_in head) depth pattern) b.1;
     }
 
 test_of_ready : (depth pattern head : ℕ) → IsReadyHead depth pattern head → is_ready_side depth pattern head ≡ true
 test_of_ready depth pattern head r = and_from (is_live head) _ (live_test head r.live)
-    (and_from (nat_lt depth (depth_in head)) _ (lt-ltb depth (depth_in head) r.deeper) (eq-eqb (pattern_in head) ((2 * pattern + 1) * 2 ^ (depth_in head - depth - 1)) r.zeros))
+    (and_from (nat_lt depth (depth_in head)) _ (lt-ltb depth (depth_in head) r.deeper) (eq-eqb (pattern_in head) (one_side_down_to (depth_in head) depth pattern) r.zeros))
 
 -- ---- the first hash of a ready side
 powers : (w d e : ℕ) → d < e → e ≤ 64 → w * 2 ^ (e - d - 1) * 2 ^ (64 - e) ≡ w * 2 ^ (64 - suc d)
@@ -152,8 +153,8 @@ module _ (site : Ground) (words : Words) (views : List View) (j : ℕ) (v : View
             slot = near;
             live = r.live;
             deeper = subst (λ z. z < depth_in head) (sym depth_is) r.deeper;
-            zeros = r.zeros ∙ ap (λ z. (2 * z + 1) * 2 ^ (depth_in head - d - 1)) (sym pattern_is)
-                ∙ ap (λ z. (2 * pattern_at (frame_of site.shape words) p + 1) * 2 ^ (depth_in head - z - 1)) (sym depth_is);
+            zeros = r.zeros ∙ ap (λ z. one_side_down_to (depth_in head) d z) (sym pattern_is)
+                ∙ ap (λ z. one_side_down_to (depth_in head) z (pattern_at (frame_of site.shape words) p)) (sym depth_is);
           }
 
       unready_now : is_ready_side d q (words (header_word site.shape n)) ≡ false → HasReadySide (frame_of site.shape words) p → ⊥
@@ -173,8 +174,8 @@ module _ (site : Ground) (words : Words) (views : List View) (j : ℕ) (v : View
               record {
                 live = side.live;
                 deeper = subst (λ z. z < depth_in head) depth_is side.deeper;
-                zeros = side.zeros ∙ ap (λ z. (2 * z + 1) * 2 ^ (depth_in head - depth_at (frame_of site.shape words) p - 1)) pattern_is
-                    ∙ ap (λ z. (2 * q + 1) * 2 ^ (depth_in head - z - 1)) depth_is;
+                zeros = side.zeros ∙ ap (λ z. one_side_down_to (depth_in head) (depth_at (frame_of site.shape words) p) z) pattern_is
+                    ∙ ap (λ z. one_side_down_to (depth_in head) z q) depth_is;
               }
 
   -- WHAT THE LINKED SLOT TELLS
