@@ -4,7 +4,7 @@ use Rattle.std.specs.List.{flat_map}
 use Rattle.std.proofs.lemmas.Bool.{cases_lt}
 use Rattle.std.proofs.lemmas.Grind.{flat_map-append}
 use Rattle.std.proofs.lemmas.List.Elements.{filter-append}
-use Rattle.bucket_meta.specs.Notes.{OverflowNote, how_often, numbers_below}
+use Rattle.bucket_meta.specs.Notes.{OverflowNote, how_often, numbers_below, note_piece}
 
 -- a number of a list that is the sum of those of its two parts
 pub record IsSum (f : List OverflowNote → ℕ) : Type 0 where
@@ -20,6 +20,10 @@ how_often-is_sum note = record { none = refl; both = how_often-append note }
 
 pub length-is_sum : IsSum length
 length-is_sum = record { none = refl; both = λ a b. length-append a b }
+
+-- note slots with the same fields give the same
+pub same_note_piece : (side u m f i v n g j : ℕ) → u ≡ v → m ≡ n → f ≡ g → i ≡ j → note_piece side u m f i ≡ note_piece side v n g j
+same_note_piece side u m f i v n g j p q r s = cc
 
 -- the pieces below n + 1 are those below n, and then piece n
 pub pieces_more : (p : ℕ → List OverflowNote) (n : ℕ) → flat_map p (numbers_below (suc n)) ≡ flat_map p (numbers_below n) ++ p n

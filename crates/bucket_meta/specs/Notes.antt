@@ -20,11 +20,15 @@ pub record IsNoteOn (w1 side i : ℕ) : Type 0 where
   pub used : note_used i w1 ≡ 1
   pub on_side : note_member i w1 ≡ side
 
+-- what a note slot gives the notes of this side: its note, with this fingerprint and index, if it is used and of that side, or nothing
+abbrev pub note_piece : (side used side_of finger index : ℕ) → List OverflowNote
+note_piece side used side_of finger index = if (used == 1) && (side_of == side) then (finger, index) ∷ [] else []
+
 -- the notes on the four note slots of a bucket that are its own home's (`home_side`), or those of the home that has
 -- it as its probing bucket (`probing_side`), where each place is used or not, is of a side, and has a fingerprint and an index
 abbrev pub notes_on : (used side_of finger_on index_on : ℕ → ℕ) → ℕ → List OverflowNote
 notes_on used side_of finger_on index_on side =
-    flat_map (λ i. if (used i == 1) && (side_of i == side) then (finger_on i, index_on i) ∷ [] else []) (numbers_below note_slots)
+    flat_map (λ i. note_piece side (used i) (side_of i) (finger_on i) (index_on i)) (numbers_below note_slots)
 
 -- the notes of a bucket of one side, by its words 1 and 3
 abbrev pub notes_by : ℕ → ℕ → ℕ → List OverflowNote

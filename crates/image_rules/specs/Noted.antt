@@ -1,10 +1,11 @@
 -- Notes and stash records that are counted: all, or those that are the one that is sought.
-use Rattle.std.specs.Prelude.{◌≡◌, ℕ, ◌+◌, ◌<◌, ◌≤◌, ◌==◌, ◌&&◌, Bool, true, Option, None, Some, List, [], ◌∷◌, length, filter, if◌then◌else◌}
+use Rattle.std.specs.Prelude.{◌≡◌, ℕ, ◌+◌, ◌<◌, ◌≤◌, ◌==◌, ◌&&◌, Bool, true, Option, None, Some, List, length, filter}
 use Rattle.std.specs.List.{flat_map}
-use Rattle.hash_word.specs.Hash.{home_of, finger_of}
+use Rattle.hash_word.specs.Hash.{home_of}
 use Rattle.bucket_meta.specs.Bucket.{allocated, mark_place, rest_place, note_used, note_member, note_index, note_finger}
-use Rattle.bucket_meta.specs.Notes.{OverflowNote, numbers_below, how_often, IsNoteOn}
+use Rattle.bucket_meta.specs.Notes.{OverflowNote, numbers_below, how_often, IsNoteOn, note_piece}
 use Rattle.image_layout.specs.Places.{Shape, homes}
+use Rattle.image_layout.specs.Standing.{stash_piece}
 use Rattle.sound_image.specs.Segments.{ImageWords}
 use Rattle.sound_image.specs.Records.{word_in, slot_hash, notes_of, stashed_of}
 use Rattle.image_rules.specs.declared.record_slot.RecordSlot.{RecordSlot}
@@ -20,7 +21,7 @@ how_many sought notes = length (filter (matches sought) notes)
 
 -- the note on a note slot of a bucket, if there is one for records of this side
 abbrev pub piece_on : ℕ → ℕ → ℕ → ℕ → List OverflowNote
-piece_on w1 w3 side i = if (note_used i w1 == 1) && (note_member i w1 == side) then (note_finger i w1 w3, note_index i w1) ∷ [] else []
+piece_on w1 w3 side i = note_piece side (note_used i w1) (note_member i w1) (note_finger i w1 w3) (note_index i w1)
 
 -- those on its note slots below a limit
 abbrev pub noted : ℕ → ℕ → ℕ → ℕ → List OverflowNote
@@ -34,10 +35,7 @@ module _ (shape : Shape) (word : ImageWords) where
 
   -- the record in a slot of stash bucket k, if there is one of home b
   abbrev pub piece_in : ℕ → ℕ → ℕ → ℕ → List OverflowNote
-  piece_in s b k r =
-      if (allocated r (word_in shape word s (homes + k) mark_place) == 1) && (home_of (slot_hash shape word s (homes + k) r) == b)
-      then (finger_of (slot_hash shape word s (homes + k) r), k) ∷ []
-      else []
+  piece_in s b k r = stash_piece b k (allocated r (word_in shape word s (homes + k) mark_place)) (slot_hash shape word s (homes + k) r)
 
   -- those in its slots below a limit
   abbrev pub stashed_below : ℕ → ℕ → ℕ → ℕ → List OverflowNote

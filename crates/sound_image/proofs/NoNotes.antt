@@ -5,10 +5,11 @@ use Rattle.std.specs.List.{flat_map}
 use Rattle.std.proofs.lemmas.Bool.{cases_lt}
 use Rattle.std.proofs.lemmas.List.Concat.{flat_map-append}
 use Rattle.std.proofs.lemmas.Bool.Decides.{nat_tests}
-use Rattle.hash_word.specs.Hash.{home_of, finger_of, probing_of}
+use Rattle.hash_word.specs.Hash.{probing_of}
 use Rattle.image_layout.specs.Bucket.{allocated, note_used, note_member, note_finger, note_index, overflow_count}
-use Rattle.image_layout.specs.Notes.{numbers_below}
+use Rattle.image_layout.specs.Notes.{numbers_below, note_piece}
 use Rattle.image_layout.specs.Places.{Shape}
+use Rattle.image_layout.specs.Standing.{stash_piece}
 use Rattle.sound_image.specs.Segments.{ImageWords}
 use Rattle.sound_image.specs.Records.{word_in, slot_hash, notes_in, notes_of, stashed_in, stashed_of, HasExactNotes}
 use Rattle.sound_image.proofs.Unnoted.{HasNote, IsUnnoted, IsUnstashed}
@@ -41,9 +42,8 @@ module _ (shape : Shape) (word : ImageWords) (s : ℕ) where
   -- the note on place i of bucket b
   abbrev piece : ℕ → ℕ → ℕ → List (ℕ × ℕ)
   piece b side i =
-      if (note_used i (word_in shape word s b 1) == 1) && (note_member i (word_in shape word s b 1) == side)
-      then (note_finger i (word_in shape word s b 1) (word_in shape word s b 3), note_index i (word_in shape word s b 1)) ∷ []
-      else []
+      note_piece side (note_used i (word_in shape word s b 1)) (note_member i (word_in shape word s b 1))
+      (note_finger i (word_in shape word s b 1) (word_in shape word s b 3)) (note_index i (word_in shape word s b 1))
 
   none_in : (b side : ℕ) → (HasNote (word_in shape word s b 1) side → ⊥) → notes_in shape word s b side ≡ []
   none_in b side none =
@@ -55,10 +55,7 @@ module _ (shape : Shape) (word : ImageWords) (s : ℕ) where
       something_there _ _ _ _ _ (each_empty (piece b side) 4 none n.note_slot n.within) n.used n.on_side
 
   abbrev stashed_piece : ℕ → ℕ → ℕ → List (ℕ × ℕ)
-  stashed_piece b k r =
-      if (allocated r (word_in shape word s (64 + k) 1) == 1) && (home_of (slot_hash shape word s (64 + k) r) == b)
-      then (finger_of (slot_hash shape word s (64 + k) r), k) ∷ []
-      else []
+  stashed_piece b k r = stash_piece b k (allocated r (word_in shape word s (64 + k) 1)) (slot_hash shape word s (64 + k) r)
 
   none_stashed : (b k : ℕ) → k < 2 → IsUnstashed shape word s b → stashed_in shape word s b k ≡ []
   none_stashed b k two none = all_empty (stashed_piece b k) 14 (λ r slot. nothing_there _ _ _ _ _ (λ taken home. none k r two slot taken home))

@@ -1,9 +1,8 @@
 -- The records of an image, its pairs, and its overflow notes.
-use Rattle.std.specs.Prelude.{◌≡◌, ℕ, ◌+◌, ◌<◌, Option, None, Some, List, ◌++◌}
-use Rattle.hash_word.specs.Hash.{probing_of}
+use Rattle.std.specs.Prelude.{◌≡◌, ℕ, ◌+◌, ◌<◌, Option, None, Some, List}
 pub use Rattle.image_layout.specs.Keys.{key_hash}
-use Rattle.image_layout.specs.Notes.{OverflowNote, notes_by, AreExact}
-use Rattle.image_layout.specs.Bucket.{mark_place, rest_place, allocated, overflow_count, record_slots, home_side, probing_side}
+use Rattle.image_layout.specs.Notes.{OverflowNote, notes_by}
+use Rattle.image_layout.specs.Bucket.{mark_place, rest_place, allocated, record_slots}
 use Rattle.image_layout.specs.Places.{Shape, buckets, bucket_at, key_at, value_at}
 use Rattle.image_layout.specs.Standing as standing
 use Rattle.sound_image.specs.Segments.{ImageWords, frame_of, Owns}
@@ -54,8 +53,9 @@ module _ (shape : Shape) (word : ImageWords) where
   abbrev pub notes_in : ℕ → ℕ → ℕ → List OverflowNote
   notes_in s b side = notes_by (word_in s b mark_place) (word_in s b rest_place) side
 
+  -- and those of home b in its bucket and its probing bucket
   abbrev pub notes_of : ℕ → ℕ → List OverflowNote
-  notes_of s b = notes_in s b home_side ++ notes_in s (probing_of b) probing_side
+  notes_of s b = standing.notes_of (λ c. word_in s c mark_place) (λ c. word_in s c rest_place) b
 
   -- the records of home b in stash bucket k, and in both
   abbrev pub stashed_in : ℕ → ℕ → ℕ → List OverflowNote
@@ -66,4 +66,4 @@ module _ (shape : Shape) (word : ImageWords) where
 
   -- the notes and the count of home b are exact for its records in the stash
   abbrev pub HasExactNotes : ℕ → ℕ → Type 0
-  HasExactNotes s b = AreExact (notes_of s b) (overflow_count (word_in s b mark_place)) (stashed_of s b)
+  HasExactNotes s b = standing.HasExactNotes (λ c. word_in s c mark_place) (λ c. word_in s c rest_place) b (stashed_of s b)

@@ -1,16 +1,15 @@
 -- The notes of a side are pieces of one note slot each, and a change of one note slot changes them by that note slot's note.
-use Rattle.std.proofs.Common.{◌≡◌, ◌≢◌, ℕ, ◌+◌, ◌<◌, ◌==◌, ◌&&◌, List, [], ◌∷◌, ap, sym, subst, ◌∙◌, refl, inl, inr}
-use Rattle.std.specs.Prelude.{if◌then◌else◌}
+use Rattle.std.proofs.Common.{◌≡◌, ◌≢◌, ℕ, ◌+◌, ◌<◌, List, [], ap, sym, subst, ◌∙◌, refl, inl, inr}
 use Rattle.std.proofs.lemmas.Bool.{cases_eq}
 use Rattle.bucket_meta.specs.declared.metadata.Meta.{Meta}
-use Rattle.bucket_meta.specs.Notes.{OverflowNote}
+use Rattle.bucket_meta.specs.Notes.{OverflowNote, note_piece}
 use Rattle.stash.specs.Exact.{notes_at}
 use Rattle.stash.specs.NoteSlots.{NoteSlot, note_slot_at, NoteSlotBecomes}
 use Rattle.bucket_meta.proofs.Counts.{IsSum, same_pieces, changed_piece}
 
 -- the note of a note slot, if it is of this side
 abbrev pub piece : ℕ → NoteSlot → List OverflowNote
-piece side note_slot = if (note_slot.used == 1) && (note_slot.side == side) then (note_slot.finger, note_slot.index) ∷ [] else []
+piece side note_slot = note_piece side note_slot.used note_slot.side note_slot.finger note_slot.index
 
 pub piece_of_unused : (side : ℕ) (note_slot : NoteSlot) → note_slot.used ≡ 0 → piece side note_slot ≡ []
 piece_of_unused side note_slot unused = rw unused refl

@@ -12,7 +12,7 @@ use Rattle.stash.specs.Segment.{Stashed}
 use Rattle.whole_segment.specs.Slots.{set_below}
 use Rattle.whole_segment.specs.Records.{is_covered, covered_set}
 use Rattle.whole_segment.specs.Rebuilding.{no_overflow, all_noted, rebuilt}
-use Rattle.image_layout.specs.Standing.{stashed_in, stashed_of}
+use Rattle.image_layout.specs.Standing.{stash_piece, stashed_in, stashed_of}
 use Rattle.whole_segment.specs.Notes.{entry_of, entries_below, stash_entries}
 
 -- lists of the numbers below another, by equal lists of each
@@ -36,12 +36,12 @@ module _ (first later_first : ℕ → ℕ) (key later_key : ℕ → ℕ → ℕ)
     (keys : (b r : ℕ) → b < buckets → r < record_slots → later_key b r ≡ key b r) where
   in_same : (b c : ℕ) → c < stash_buckets → stashed_in later_first later_key hash b c ≡ stashed_in first key hash b c
   in_same b c low = flat_same
-      (λ r. if (allocated r (later_first (homes + c)) == 1) && (home_of (hash (later_key (homes + c) r)) == b) then (finger_of (hash (later_key (homes + c) r)), c) ∷ [] else [])
-      (λ r. if (allocated r (first (homes + c)) == 1) && (home_of (hash (key (homes + c) r)) == b) then (finger_of (hash (key (homes + c) r)), c) ∷ [] else [])
+      (λ r. stash_piece b c (allocated r (later_first (homes + c))) (hash (later_key (homes + c) r)))
+      (λ r. stash_piece b c (allocated r (first (homes + c))) (hash (key (homes + c) r)))
       record_slots
       (λ r slot. ap
-      (λ w. if (allocated r w == 1) && (home_of (hash (later_key (homes + c) r)) == b) then (finger_of (hash (later_key (homes + c) r)), c) ∷ [] else []) (words (homes + c) (omega arith) (omega (arith, low)))
-      ∙ ap (λ k. if (allocated r (first (homes + c)) == 1) && (home_of (hash k) == b) then (finger_of (hash k), c) ∷ [] else []) (keys (homes + c) r (omega (arith, low)) slot))
+      (λ w. stash_piece b c (allocated r w) (hash (later_key (homes + c) r))) (words (homes + c) (omega arith) (omega (arith, low)))
+      ∙ ap (λ k. stash_piece b c (allocated r (first (homes + c))) (hash k)) (keys (homes + c) r (omega (arith, low)) slot))
 
   -- THE RECORDS OF A HOME in the stash are the same
   pub stashed_same : (b : ℕ) → stashed_of later_first later_key hash b ≡ stashed_of first key hash b

@@ -1,9 +1,9 @@
--- The records in the stash of a segment, and exact overflow data of its homes, by words 1 and 3 of each bucket.
+-- The records in the stash of a segment, and what keeps the record slots of a bucket, by words 1 and 3 of each bucket.
 use Rattle.std.specs.Prelude.{◌≡◌, ℕ, ◌+◌, ◌==◌, List, [], ◌∷◌, ◌++◌, if◌then◌else◌}
 use Rattle.std.specs.List.{flat_map}
-use Rattle.hash_word.specs.Hash.{home_of, finger_of, probing_of}
-use Rattle.bucket_meta.specs.Bucket.{allocated, overflow_count, record_slots, home_side, probing_side, slots_part, slot_fingers_part}
-use Rattle.bucket_meta.specs.Notes.{OverflowNote, numbers_below, AreExact, notes_by}
+use Rattle.hash_word.specs.Hash.{home_of, finger_of}
+use Rattle.bucket_meta.specs.Bucket.{allocated, record_slots, slots_part, slot_fingers_part}
+use Rattle.bucket_meta.specs.Notes.{numbers_below}
 use Rattle.image_layout.specs.Places.{homes}
 use Rattle.stash.specs.Segment.{Stashed}
 
@@ -19,10 +19,6 @@ module _ (first : ℕ → ℕ) (key : ℕ → ℕ → ℕ) (hash : ℕ → ℕ) 
   -- all records in the stash, by stash bucket, then slot
   abbrev pub stash_entries : List Stashed
   stash_entries = entries_below 0 record_slots ++ entries_below 1 record_slots
-
--- EXACT NOTES of home b, by words 1 and 3 of each bucket, for records that stand in the stash
-abbrev pub HasExactNotes : (first third : ℕ → ℕ) → ℕ → List OverflowNote → Type 0
-HasExactNotes first third b stashed = AreExact (notes_by (first b) (third b) home_side ++ notes_by (first (probing_of b)) (third (probing_of b)) probing_side) (overflow_count (first b)) stashed
 
 -- words 1 and 3 of a bucket say of its record slots what they said
 pub record KeepsRecords (w1 w3 x1 x3 : ℕ) : Type 0 where

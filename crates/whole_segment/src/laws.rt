@@ -1,12 +1,10 @@
 //! What the functions of this crate make together. The functions here do nothing: each stands for the law that its contract says.
 
 ghost use Rattle.std.specs.Prelude.{◌≡◌, ℕ, ◌^◌, ◌<◌, ◌≤◌, ◌⊎◌, ◌↔◌, IsTrue, List, [], length, Contains};
-ghost use Rattle.bucket_meta.specs.Bucket.{mark_place, rest_place, record_slots};
+ghost use Rattle.bucket_meta.specs.Bucket.{mark_place, record_slots};
 ghost use Rattle.bucket_meta.specs.Marks.{copied_mark, cleared_mark};
 ghost use Rattle.sound_image.specs.Segments.{ImageWords};
-ghost use Rattle.sound_image.specs.Records.{word_in, slot_key, key_hash, HasRecord};
-ghost use Rattle.image_layout.specs.Standing.{stashed_of};
-ghost use Rattle.whole_segment.specs.Notes.{HasExactNotes};
+ghost use Rattle.sound_image.specs.Records.{word_in, slot_key, HasRecord};
 ghost use Rattle.whole_segment.specs.Slots.{IsSetOf, AreHalves};
 ghost use Rattle.image_layout.specs.Places.{Shape, buckets};
 ghost use Rattle.whole_segment.specs.Records.{Stands, IsCovered, covered_set, AreSides};
@@ -59,12 +57,8 @@ pub fn rounds_keep_their_lines()
     ensures few { (lines : List ℕ) (line : ℕ) → length lines ≤ most_lines → IsTrue (takes lines line) → length (touched lines line) ≤ most_lines }
 {}
 
-/// By the words of a segment of an image, a record that stands is a record of the image, and exact notes are exact notes of the image.
+/// By the words of a segment of an image, a record that stands is a record of the image.
 pub fn loaded_segments_are_of_images()
-    ensures records { (shape : Shape) (word : ImageWords) (s b r k : ℕ) → s < shape.segments
+    ensures { (shape : Shape) (word : ImageWords) (s b r k : ℕ) → s < shape.segments
         → Stands (λ c. word_in shape word s c mark_place) (λ c t. slot_key shape word s c t) b r k ↔ (HasRecord shape word s b r × (slot_key shape word s b r ≡ k)) }
-    ensures notes { (shape : Shape) (word : ImageWords) (s b : ℕ)
-        → HasExactNotes (λ c. word_in shape word s c mark_place) (λ c. word_in shape word s c rest_place) b
-        (stashed_of (λ c. word_in shape word s c mark_place) (λ c t. slot_key shape word s c t) (key_hash shape) b)
-        → Rattle.sound_image.specs.Records.HasExactNotes shape word s b }
 {}

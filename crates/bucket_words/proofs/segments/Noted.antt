@@ -1,9 +1,8 @@
 -- What a home has noted depends on the metadata words of its bucket and of its probing bucket, and exact notes stay exact beside records that stay.
-use Rattle.std.proofs.Common.{◌≡◌, ℕ, zero, suc, ◌+◌, ◌/◌, ◌^◌, ◌<◌, ◌≤◌, List, ◌++◌, [], ◌∷◌, refl, sym, ap, subst, ◌∙◌, inl, inr, arith}
-use Rattle.std.specs.Prelude.{◌==◌, ◌&&◌, if◌then◌else◌}
+use Rattle.std.proofs.Common.{◌≡◌, ℕ, zero, suc, ◌+◌, ◌/◌, ◌^◌, ◌<◌, ◌≤◌, ◌++◌, refl, sym, ap, subst, ◌∙◌, inl, inr, arith}
 use Rattle.std.proofs.lemmas.Bool.{cases_eq}
 use Rattle.hash_word.specs.Hash.{probing_of}
-use Rattle.bucket_meta.specs.Notes.{OverflowNote, AreExact, notes_by}
+use Rattle.bucket_meta.specs.Notes.{AreExact, note_piece, notes_by}
 use Rattle.bucket_meta.specs.Bucket.{note_used, note_member, note_index, note_finger, overflow_count}
 use Rattle.bucket_meta.proofs.Counts.{same_pieces}
 use Rattle.trace.specs.Events.{Words, with_word}
@@ -61,9 +60,6 @@ module _ (w x : ℕ) (same : x / 2 ^ 28 ≡ w / 2 ^ 28) where
 
   pub count_same : overflow_count x ≡ overflow_count w
   count_same = omega (arith, same)
-
-  abbrev note_piece : ℕ → ℕ → ℕ → ℕ → ℕ → List OverflowNote
-  note_piece side u m f n = if (u == 1) && (m == side) then (f, n) ∷ [] else []
 
   pub overflow_same : (w3 side : ℕ) → notes_by x w3 side ≡ notes_by w w3 side
   overflow_same w3 side =

@@ -9,6 +9,7 @@ use Rattle.bucket_meta.proofs.Counts.{IsSum, same_pieces, changed_piece, piece_a
 use Rattle.bucket_meta.proofs.ExactNotes.{same_or_other, often_head, each_is_named}
 use Rattle.trace.specs.Events.{Words}
 use Rattle.image_layout.specs.Places.{Shape, bucket_at, key_at, homes, stash_buckets}
+use Rattle.image_layout.specs.Standing.{stash_piece}
 use Rattle.segment_table.specs.Records.{key_hash, word_in, notes_of, stashed_in, stashed_of, HasExactNotes}
 use Rattle.bucket_words.specs.Buckets.{IsTaken}
 use Rattle.bucket_words.specs.Slots.{SameSlot}
@@ -19,7 +20,7 @@ use Rattle.bucket_words.proofs.segments.changes.OneSlot.{cases_place, new_key, o
 
 -- what a slot of stash bucket c gives home d, by its allocation bit and its key: its note, or nothing
 abbrev pub piece_by : Shape → ℕ → ℕ → ℕ → ℕ → List OverflowNote
-piece_by shape d c bit key = if (bit == 1) && (home_of (key_hash shape key) == d) then (finger_of (key_hash shape key), c) ∷ [] else []
+piece_by shape d c bit key = stash_piece d c bit (key_hash shape key)
 
 pub taken_piece : (shape : Shape) (d c bit key : ℕ) → bit ≡ 1 → home_of (key_hash shape key) ≡ d → piece_by shape d c bit key ≡ (finger_of (key_hash shape key), c) ∷ []
 taken_piece shape d c bit key taken home = rw (eq-eqb bit 1 taken, eq-eqb (home_of (key_hash shape key)) d home) refl

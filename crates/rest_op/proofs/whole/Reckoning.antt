@@ -12,8 +12,8 @@ use Rattle.image_layout.specs.Places.{homes, buckets}
 use Rattle.sound_image.specs.Records.{key_hash}
 use Rattle.whole_segment.specs.Words.{words_by}
 use Rattle.whole_segment.specs.Records.{first_in, third_in, key_in, covered_set}
-use Rattle.image_layout.specs.Standing.{stashed_of}
-use Rattle.whole_segment.specs.Notes.{HasExactNotes, KeepsRecords}
+use Rattle.image_layout.specs.Standing.{stashed_of, HasExactNotes}
+use Rattle.whole_segment.specs.Notes.{KeepsRecords}
 use Rattle.whole_segment.specs.Rebuilding.{first_with, third_with, rebuilt}
 use Rattle.whole_segment.specs.declared.loaded.Loaded.{Loaded}
 use Rattle.whole_segment.specs.declared.notes.Notes.{Notes}

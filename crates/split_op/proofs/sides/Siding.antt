@@ -14,8 +14,7 @@ use Rattle.sound_image.specs.Records.{key_hash}
 use Rattle.sound_image.proofs.LowBits.{same_allocated, same_member, same_finger}
 use Rattle.whole_segment.specs.Slots.{AreHalves}
 use Rattle.whole_segment.specs.Records.{Stands}
-use Rattle.image_layout.specs.Standing.{stashed_of}
-use Rattle.whole_segment.specs.Notes.{HasExactNotes}
+use Rattle.image_layout.specs.Standing.{stashed_of, HasExactNotes}
 use Rattle.whole_segment.specs.Rebuilding.{first_with, third_with}
 use Rattle.whole_segment.proofs.marking.MarkHalves.{are_halves, bits_small}
 use Rattle.whole_segment.proofs.marking.Marking.{copy_has}

@@ -9,6 +9,7 @@ use Rattle.bucket_meta.specs.Notes.{OverflowNote, numbers_below, AreExact}
 use Rattle.bucket_meta.proofs.Counts.{pieces_more}
 use Rattle.trace.specs.Events.{Words}
 use Rattle.image_layout.specs.Places.{Shape}
+use Rattle.image_layout.specs.Standing.{stash_piece}
 use Rattle.sound_image.specs.Records.{word_in, slot_hash, stashed_in, stashed_of}
 
 one_piece : (b : Bool) (x : OverflowNote) → length (if b then x ∷ [] else []) ≤ 1
@@ -27,7 +28,7 @@ pieces_most p few (suc n) =
 module _ (shape : Shape) (word : Words) (s b : ℕ) where
   stashed_few : (k : ℕ) → length (stashed_in shape word s b k) ≤ 14
   stashed_few k = pieces_most
-      (λ r. if (allocated r (word_in shape word s (64 + k) 1) == 1) && (home_of (slot_hash shape word s (64 + k) r) == b) then (finger_of (slot_hash shape word s (64 + k) r), k) ∷ [] else [])
+      (λ r. stash_piece b k (allocated r (word_in shape word s (64 + k) 1)) (slot_hash shape word s (64 + k) r))
       (λ r. one_piece ((allocated r (word_in shape word s (64 + k) 1) == 1) && (home_of (slot_hash shape word s (64 + k) r) == b)) (finger_of (slot_hash shape word s (64 + k) r), k)) 14
 
   pub few_uncounted : (note : OverflowNote) (notes : List OverflowNote) (count : ℕ) → AreExact (note ∷ notes) count (stashed_of shape word s b) → count < 31

@@ -5,11 +5,10 @@ use Rattle.std.specs.Prelude.{◌==◌, if◌then◌else◌}
 use Rattle.std.proofs.lemmas.Bool.{cases_eq, eqb-false, eq-eqb, ne_eqb, not-true}
 use Rattle.std.proofs.lemmas.Option.{none-some, same_Some}
 use Rattle.bucket_meta.specs.Bucket.{note_used, note_member, note_index, note_finger, overflow_count}
-use Rattle.bucket_meta.specs.Notes.{OverflowNote, AreExact, notes_by}
+use Rattle.bucket_meta.specs.Notes.{OverflowNote, AreExact, note_piece, notes_by}
 use Rattle.bucket_meta.specs.NoteWords.{is_unused, unused_place, raised_count, FillsPlace}
 use Rattle.bucket_meta.proofs.Counts.{same_pieces, changed_piece}
 use Rattle.bucket_meta.proofs.ExactNotes.{IsOneMore, one_more_by_sums, often_head}
-use Rattle.world.proofs.holding.Preparing.{note_piece}
 
 -- ---- an unused place
 bit_zero : (x : ℕ) → (x % 2 ^ 1 ≡ 1 → ⊥) → x % 2 ^ 1 ≡ 0

@@ -1,30 +1,24 @@
 -- What the fields of a bucket say of notes and record slots is what its words say.
-use Rattle.std.proofs.Common.{◌≡◌, ℕ, ◌%◌, ◌^◌, ◌<◌, ◌==◌, ◌&&◌, cond, List, [], ◌∷◌, ◌++◌, slice_index, sym, ap, ◌∙◌, subst, arith, lit<}
+use Rattle.std.proofs.Common.{◌≡◌, ℕ, ◌%◌, ◌^◌, ◌<◌, List, ◌++◌, slice_index, sym, ap, ◌∙◌, subst, arith, lit<}
 use Rattle.word_bits.specs.Bits.{bit, bits}
 use Rattle.bucket_meta.specs.declared.metadata.Meta.{Meta}
 use Rattle.bucket_meta.specs.Bucket.{note_used, note_member, note_index, note_finger, finger}
 use Rattle.bucket_meta.specs.MetaWords.{IsMetaOf}
-use Rattle.bucket_meta.specs.Notes.{OverflowNote, AreExact, notes_by}
+use Rattle.bucket_meta.specs.Notes.{OverflowNote, AreExact, note_piece, notes_by}
 use Rattle.bucket_meta.proofs.fields.FieldBits.{note_used_is, note_member_is, note_index_is}
 use Rattle.hash_word.specs.Hash.{probing_of}
 use Rattle.stash.specs.Exact.{notes_at, IsExactFor}
 use Rattle.stash.specs.NoteSlots.{SameSlots}
-use Rattle.bucket_meta.proofs.Counts.{same_pieces}
-use Rattle.whole_segment.specs.Notes.{HasExactNotes, KeepsRecords}
-
--- a note slot that has the same in both
-abbrev piece : (used member finger index side : ℕ) → List OverflowNote
-piece used member finger index side = cond ((used == 1) && (member == side)) ((finger, index) ∷ []) []
-
-same_piece : (u m f i v n g j side : ℕ) → u ≡ v → m ≡ n → f ≡ g → i ≡ j → piece u m f i side ≡ piece v n g j side
-same_piece u m f i v n g j side p q r s = cc
+use Rattle.bucket_meta.proofs.Counts.{same_note_piece, same_pieces}
+use Rattle.image_layout.specs.Standing.{HasExactNotes}
+use Rattle.whole_segment.specs.Notes.{KeepsRecords}
 
 pub notes_are : (m : Meta) (w1 w2 w3 side : ℕ) → IsMetaOf m w1 w2 w3 → notes_at m side ≡ notes_by w1 w3 side
 notes_are m w1 w2 w3 side is =
-    same_pieces (λ i. piece (note_used i w1) (note_member i w1) (note_finger i w1 w3) (note_index i w1) side)
-    (λ i. piece (bit i m.used) (bit i m.omember) (slice_index m.ofps i) (bit i m.oindex) side) 4
+    same_pieces (λ i. note_piece side (note_used i w1) (note_member i w1) (note_finger i w1 w3) (note_index i w1))
+    (λ i. note_piece side (bit i m.used) (bit i m.omember) (slice_index m.ofps i) (bit i m.oindex)) 4
     (λ i low.
-    same_piece (bit i m.used) (bit i m.omember) (slice_index m.ofps i) (bit i m.oindex) (note_used i w1) (note_member i w1) (note_finger i w1 w3) (note_index i w1) side
+    same_note_piece side (bit i m.used) (bit i m.omember) (slice_index m.ofps i) (bit i m.oindex) (note_used i w1) (note_member i w1) (note_finger i w1 w3) (note_index i w1)
     (sym (note_used_is m w1 w2 w3 i is low)) (sym (note_member_is m w1 w2 w3 i is low)) (is.ofps i low) (sym (note_index_is m w1 w2 w3 i is low)))
 
 pub exact_by_words : (own probe : Meta) (first third : ℕ → ℕ) (b w2 u2 : ℕ) (stashed : List OverflowNote) → IsMetaOf own (first b) w2 (third b)

@@ -1,5 +1,5 @@
 -- THE REBUILT NOTES of a segment, as values: words 1 and 3 that are made of them say them, and are exact.
-use Rattle.std.proofs.Common.{◌≡◌, ℕ, zero, suc, ◌+◌, ◌*◌, ◌/◌, ◌%◌, ◌^◌, ◌<◌, ◌≤◌, ◌==◌, ◌&&◌, cond, Bool, true, false, List, [], ◌∷◌, ◌++◌, length, sym, ap, ◌∙◌, subst, arith, length-append}
+use Rattle.std.proofs.Common.{◌≡◌, ℕ, zero, suc, ◌+◌, ◌*◌, ◌/◌, ◌%◌, ◌^◌, ◌<◌, ◌≤◌, ◌==◌, cond, Bool, true, false, List, [], ◌∷◌, ◌++◌, length, sym, ap, ◌∙◌, subst, arith, length-append}
 use Rattle.std.specs.Prelude.{All}
 use Rattle.std.specs.List.{flat_map}
 use Rattle.std.proofs.lemmas.Grind.{flat_map-append}
@@ -7,15 +7,15 @@ use Rattle.std.proofs.lemmas.Nat.{shr-shr}
 use Rattle.word_bits.specs.Bits.{bit}
 use Rattle.std.proofs.lemmas.List.Elements.{All-nil, All-cons, All-append}
 use Rattle.bucket_meta.specs.Bucket.{allocated, note_used, note_member, note_index, note_finger, overflow_count, record_slots}
-use Rattle.bucket_meta.specs.Notes.{OverflowNote, numbers_below, AreExact, notes_by}
+use Rattle.bucket_meta.specs.Notes.{OverflowNote, numbers_below, AreExact, note_piece, notes_by}
 use Rattle.hash_word.specs.Hash.{probing_of}
 use Rattle.image_layout.specs.Places.{homes, stash_buckets}
 use Rattle.stash.specs.Segment.{Stashed}
-use Rattle.bucket_meta.proofs.Counts.{same_pieces}
+use Rattle.bucket_meta.proofs.Counts.{same_note_piece, same_pieces}
 use Rattle.stash.proofs.Pieces.{piece}
 use Rattle.stash.proofs.Buckets.{of_home_at_most}
-use Rattle.image_layout.specs.Standing.{stashed_of}
-use Rattle.whole_segment.specs.Notes.{entry_of, entries_below, stash_entries, HasExactNotes, KeepsRecords}
+use Rattle.image_layout.specs.Standing.{stashed_of, HasExactNotes}
+use Rattle.whole_segment.specs.Notes.{entry_of, entries_below, stash_entries, KeepsRecords}
 use Rattle.bucket_meta.specs.NoteWords.{four}
 use Rattle.whole_segment.specs.Rebuilding.{Overflow, no_overflow, first_with, third_with, rebuilt}
 use Rattle.whole_segment.proofs.StashLists.{entries_of_home}
@@ -94,13 +94,6 @@ bits_of_four v at f small is i low = ap (λ q. q % 2 ^ 1) (sym (shr-shr v at i))
     in_four q same = by_four (λ i. q / 2 ^ i % 2 ^ 1 ≡ f i) (omega (arith, same, small 0)) (omega (arith, same, small 0, small 1))
         (omega (arith, same, small 0, small 1, small 2)) (omega (arith, same, small 0, small 1, small 2, small 3))
 
--- the note of a note slot of these fields, where it is of a side
-abbrev piece_by : (used side finger index on : ℕ) → List OverflowNote
-piece_by used side finger index on = cond ((used == 1) && (side == on)) ((finger, index) ∷ []) []
-
-same_piece : (u s f x v t g y on : ℕ) → u ≡ v → s ≡ t → f ≡ g → x ≡ y → piece_by u s f x on ≡ piece_by v t g y on
-same_piece u s f x v t g y on p q r e = cc
-
 -- word 1 has these fields
 record HasFields (v low u s x n f2 f3 : ℕ) : Type 0 where
   small : v < 2 ^ 64
@@ -163,8 +156,8 @@ module _ (w1 w3 : ℕ) (o : Overflow) (ranges : (i : ℕ) → IsInRange (o.slots
   finger_is = by_four (λ i. note_finger i v1 v3 ≡ (o.slots i).finger) (omega (arith, (ranges 0).finger)) (omega (arith, (ranges 0).finger, (ranges 1).finger)) fields.second fields.last
 
   pub said_is : (side : ℕ) → notes_by v1 v3 side ≡ said o side
-  said_is side = same_pieces (λ i. piece side (o.slots i)) (λ i. piece_by (note_used i v1) (note_member i v1) (note_finger i v1 v3) (note_index i v1) side) 4
-      (λ i low. same_piece (note_used i v1) (note_member i v1) (note_finger i v1 v3) (note_index i v1) (o.slots i).used (o.slots i).side (o.slots i).finger (o.slots i).index side
+  said_is side = same_pieces (λ i. piece side (o.slots i)) (λ i. note_piece side (note_used i v1) (note_member i v1) (note_finger i v1 v3) (note_index i v1)) 4
+      (λ i low. same_note_piece side (note_used i v1) (note_member i v1) (note_finger i v1 v3) (note_index i v1) (o.slots i).used (o.slots i).side (o.slots i).finger (o.slots i).index
       (used_is i low) (side_is i low) (finger_is i low) (index_is i low))
 
   pub count_is : overflow_count v1 ≡ o.count

@@ -1,9 +1,8 @@
 -- The stores that change no pair: to the key, the value and the fingerprint of a free slot.
-use Rattle.std.proofs.Common.{◌≡◌, ◌⊎◌, ℕ, zero, suc, ◌+◌, ◌/◌, ◌%◌, ◌^◌, ◌<◌, ◌≤◌, List, [], ◌∷◌, ◌++◌, cond, eqb, inl, inr, refl, sym, ap, ◌∙◌, arith}
-use Rattle.std.specs.Prelude.{◌==◌, ◌&&◌, if◌then◌else◌}
+use Rattle.std.proofs.Common.{◌≡◌, ◌⊎◌, ℕ, zero, suc, ◌+◌, ◌/◌, ◌%◌, ◌^◌, ◌<◌, ◌≤◌, ◌++◌, cond, eqb, inl, inr, refl, sym, ap, ◌∙◌, arith}
 use Rattle.std.proofs.lemmas.Bool.{cases_eq}
 use Rattle.bucket_meta.specs.Bucket.{allocated, finger, overflow_count, note_used, note_member, note_index, note_finger}
-use Rattle.bucket_meta.specs.Notes.{OverflowNote, notes_by}
+use Rattle.bucket_meta.specs.Notes.{note_piece, notes_by}
 use Rattle.hash_word.specs.Hash.{probing_of}
 use Rattle.trace.specs.Events.{Words, with_word}
 use Rattle.trace.proofs.Replaced.{cases_at}
@@ -27,9 +26,6 @@ use Rattle.world.specs.Holders.{KnowsMeta, SparesTaken, MayPrepare}
 use Rattle.frame_facts.proofs.segments.Stashed.{stashed_same}
 
 -- ---- the overflow fingerprints of word 3
-abbrev pub note_piece : ℕ → ℕ → ℕ → ℕ → ℕ → List OverflowNote
-note_piece side u m f n = if (u == 1) && (m == side) then (f, n) ∷ [] else []
-
 finger_kept : (w1 w3 x i : ℕ) → x / 2 ^ 48 % 2 ^ 16 ≡ w3 / 2 ^ 48 % 2 ^ 16 → i < 4 → note_finger i w1 x ≡ note_finger i w1 w3
 finger_kept w1 w3 x zero same l = omega (arith, same)
 finger_kept w1 w3 x (suc zero) same l = omega (arith, same)

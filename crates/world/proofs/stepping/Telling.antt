@@ -5,7 +5,7 @@ use Rattle.std.proofs.lemmas.Bool.{ltb-false, or_parts}
 use Rattle.std.proofs.lemmas.Option.{none-some}
 use Rattle.hash_word.specs.Hash.{home_of, probing_of, finger_of}
 use Rattle.bucket_meta.specs.Bucket.{note_used, note_member, note_index, note_finger, overflow_count, record_slots}
-use Rattle.bucket_meta.specs.Notes.{how_often, notes_by}
+use Rattle.bucket_meta.specs.Notes.{how_often, note_piece, notes_by}
 use Rattle.bucket_meta.specs.Visits.{is_note, is_named, must_visit}
 use Rattle.frame_facts.proofs.Counts.{how_often-is_sum, how_often-append, no_piece}
 use Rattle.trace.specs.Events.{Words}
@@ -62,7 +62,7 @@ module _ (shape : Shape) (m : Words) (table : IsTable shape m) (s k : ℕ) (segm
 
 -- ---- a stash bucket without a note
 piece_none : (u m side f n finger c : ℕ) → ((u == 1) && ((m == side) && ((n == c) && (f == finger)))) ≡ false
-    → how_often (finger, c) (if (u == 1) && (m == side) then (f, n) ∷ [] else []) ≡ 0
+    → how_often (finger, c) (note_piece side u m f n) ≡ 0
 piece_none u m side f n finger c e = by (u == 1) (m == side) (n == c) (f == finger) refl refl e
   where
     by : (a b d g : Bool) → (n == c) ≡ d → (f == finger) ≡ g → (a && (b && (d && g))) ≡ false → how_often (finger, c) (if a && b then (f, n) ∷ [] else []) ≡ 0
@@ -81,11 +81,11 @@ unnamed w1 w3 side finger c e =
     let a = or_parts (is_note w1 w3 side finger c 0) _ e in
     let b = or_parts (is_note w1 w3 side finger c 1) _ a.1 in
     let d = or_parts (is_note w1 w3 side finger c 2) (is_note w1 w3 side finger c 3) b.1 in
-    no_piece (how_often (finger, c)) (how_often-is_sum (finger, c)) (λ i. if (note_used i w1 == 1) && (note_member i w1 == side) then (note_finger i w1 w3, note_index i w1) ∷ [] else []) 4
+    no_piece (how_often (finger, c)) (how_often-is_sum (finger, c)) (λ i. note_piece side (note_used i w1) (note_member i w1) (note_finger i w1 w3) (note_index i w1)) 4
     (λ i within. at i within a.0 b.0 d.0 d.1)
   where
     at : (i : ℕ) → i < 4 → is_note w1 w3 side finger c 0 ≡ false → is_note w1 w3 side finger c 1 ≡ false → is_note w1 w3 side finger c 2 ≡ false → is_note w1 w3 side finger c 3 ≡ false
-        → how_often (finger, c) (if (note_used i w1 == 1) && (note_member i w1 == side) then (note_finger i w1 w3, note_index i w1) ∷ [] else []) ≡ 0
+        → how_often (finger, c) (note_piece side (note_used i w1) (note_member i w1) (note_finger i w1 w3) (note_index i w1)) ≡ 0
     at zero l p q r t = piece_none (note_used 0 w1) (note_member 0 w1) side (note_finger 0 w1 w3) (note_index 0 w1) finger c p
     at (suc zero) l p q r t = piece_none (note_used 1 w1) (note_member 1 w1) side (note_finger 1 w1 w3) (note_index 1 w1) finger c q
     at (suc (suc zero)) l p q r t = piece_none (note_used 2 w1) (note_member 2 w1) side (note_finger 2 w1 w3) (note_index 2 w1) finger c r

@@ -4,12 +4,11 @@ use Rattle.std.specs.Prelude.{◌==◌, ◌||◌, if◌then◌else◌}
 use Rattle.std.proofs.lemmas.Bool.{cases_eq, eqb-true, eq-eqb, ne_eqb, and_parts}
 use Rattle.std.proofs.lemmas.Option.{none-some, same_Some}
 use Rattle.bucket_meta.specs.Bucket.{note_used, note_member, note_index, note_finger, overflow_count}
-use Rattle.bucket_meta.specs.Notes.{OverflowNote, notes_by}
+use Rattle.bucket_meta.specs.Notes.{OverflowNote, note_piece, notes_by}
 use Rattle.bucket_meta.specs.Visits.{is_note, is_named}
 use Rattle.bucket_meta.specs.NoteWords.{note_place, lowered_count, FreesPlace}
 use Rattle.bucket_meta.proofs.Counts.{same_pieces, changed_piece}
 use Rattle.bucket_meta.proofs.ExactNotes.{IsOneMore, one_more_by_sums}
-use Rattle.world.proofs.holding.Preparing.{note_piece}
 
 -- ---- a note that is there
 pub record IsThere (w1 w3 side finger index i : ℕ) : Type 0 where
