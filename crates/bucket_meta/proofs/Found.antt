@@ -1,6 +1,6 @@
 -- What the searches of a bucket's slots find.
-use Rattle.std.proofs.Common.{◌≡◌, ◌==◌, ◌&&◌, ℕ, zero, suc, ◌+◌, ◌*◌, ◌<◌, ◌≤◌, inl, inr, Bool, true, false, cond, Option, Some, None, List, refl, sym, subst, arith, slice_index}
-use Rattle.std.proofs.lemmas.Bool.{cases_eq, eq-eqb, ne_eqb, eqb-false, eqb-true}
+use Rattle.std.proofs.Common.{◌≡◌, ◌==◌, ◌&&◌, ℕ, zero, suc, ◌+◌, ◌*◌, ◌<◌, ◌≤◌, inl, inr, Bool, true, false, cond, Option, Some, None, List, refl, sym, ◌∙◌, subst, arith, slice_index}
+use Rattle.std.proofs.lemmas.Bool.{cases_eq, eq-eqb, eqb-false, eqb-true, and_parts, and_from, true≢false}
 use Rattle.bucket_meta.specs.Bucket.{allocated}
 use Rattle.bucket_meta.specs.Search.{is_taken, IsThere, slot_with, slot_free, lowest_with, lowest_free}
 
@@ -10,30 +10,14 @@ module _ (ws : List ℕ) (key s : ℕ) where
   is_there = is_taken (slice_index ws 1) s && (slice_index ws (4 + 2 * s) == key)
 
   there : is_there ≡ true → IsThere ws key s
-  there e = elim (cases_eq (allocated s (slice_index ws 1)) 1) [
-    | inl taken ↦ elim (cases_eq (slice_index ws (4 + 2 * s)) key) [
-      | inl same ↦ record { taken = taken; has_key = same }
-      | inr other ↦ absurd (not_both (is_taken (slice_index ws 1) s) (slice_index ws (4 + 2 * s) == key) (ne_eqb _ _ other) e)
-    ]
-    | inr free ↦ absurd (not_first (is_taken (slice_index ws 1) s) (slice_index ws (4 + 2 * s) == key) (ne_eqb _ _ free) e)
-  ]
-    where
-      not_first : (a b : Bool) → a ≡ false → (a && b) ≡ true → ⊥
-      not_first true b e h = absurd (cc)
-      not_first false b e h = absurd (cc)
-
-      not_both : (a b : Bool) → b ≡ false → (a && b) ≡ true → ⊥
-      not_both true true e h = absurd (cc)
-      not_both true false e h = absurd (cc)
-      not_both false b e h = absurd (cc)
+  there e =
+      let parts = and_parts (is_taken (slice_index ws 1) s) (slice_index ws (4 + 2 * s) == key) e in
+      record { taken = eqb-true (allocated s (slice_index ws 1)) 1 parts.0; has_key = eqb-true (slice_index ws (4 + 2 * s)) key parts.1 }
 
   not_there : is_there ≡ false → IsThere ws key s → ⊥
-  not_there e h = clash (is_taken (slice_index ws 1) s) (slice_index ws (4 + 2 * s) == key) (eq-eqb _ _ h.taken) (eq-eqb _ _ h.has_key) e
-    where
-      clash : (a b : Bool) → a ≡ true → b ≡ true → (a && b) ≡ false → ⊥
-      clash true true p q h = absurd (cc)
-      clash true false p q h = absurd (cc)
-      clash false b p q h = absurd (cc)
+  not_there e h =
+      true≢false (sym (and_from (is_taken (slice_index ws 1) s) (slice_index ws (4 + 2 * s) == key)
+      (eq-eqb (allocated s (slice_index ws 1)) 1 h.taken) (eq-eqb (slice_index ws (4 + 2 * s)) key h.has_key)) ∙ e)
 
 -- what a search for a key finds, of slots at to m - 1
 abbrev pub FindsKey : List ℕ → ℕ → ℕ → ℕ → Option ℕ → Type 0

@@ -1,7 +1,7 @@
 -- The lowest slot whose record has a membership bit; and the slot that `displace` gives is that one.
 use Rattle.std.proofs.Common.{◌≡◌, ◌⊎◌, ◌==◌, ◌&&◌, ℕ, zero, suc, ◌+◌, ◌<◌, ◌≤◌, inl, inr, Bool, true, false, cond, Option, Some, None, ◌↔◌, refl, sym, ap, ◌∙◌, subst, arith}
 use Rattle.std.specs.Option.{IfSome, IsNone}
-use Rattle.std.proofs.lemmas.Bool.{cases_eq, cases_lt, eq-eqb, ne_eqb}
+use Rattle.std.proofs.lemmas.Bool.{cases_eq, cases_lt, eq-eqb, eqb-true, and_parts, and_from, true≢false}
 use Rattle.word_bits.specs.Bits.{bit}
 use Rattle.bucket_meta.specs.declared.metadata.Meta.{Meta}
 use Rattle.bucket_meta.specs.Bucket.{allocated, member}
@@ -25,30 +25,11 @@ module _ (bit w1 s : ℕ) where
   has_bit = is_taken w1 s && (member s w1 == bit)
 
   there : has_bit ≡ true → HasBit bit w1 s
-  there e = elim (cases_eq (allocated s w1) 1) [
-    | inl taken ↦ elim (cases_eq (member s w1) bit) [
-      | inl same ↦ record { taken = taken; same = same }
-      | inr other ↦ absurd (not_both (is_taken w1 s) (member s w1 == bit) (ne_eqb _ _ other) e)
-    ]
-    | inr free ↦ absurd (not_first (is_taken w1 s) (member s w1 == bit) (ne_eqb _ _ free) e)
-  ]
-    where
-      not_first : (a b : Bool) → a ≡ false → (a && b) ≡ true → ⊥
-      not_first true b e h = absurd (cc)
-      not_first false b e h = absurd (cc)
-
-      not_both : (a b : Bool) → b ≡ false → (a && b) ≡ true → ⊥
-      not_both true true e h = absurd (cc)
-      not_both true false e h = absurd (cc)
-      not_both false b e h = absurd (cc)
+  there e =
+      let parts = and_parts (is_taken w1 s) (member s w1 == bit) e in record { taken = eqb-true (allocated s w1) 1 parts.0; same = eqb-true (member s w1) bit parts.1 }
 
   not_there : has_bit ≡ false → HasBit bit w1 s → ⊥
-  not_there e h = clash (is_taken w1 s) (member s w1 == bit) (eq-eqb _ _ h.taken) (eq-eqb _ _ h.same) e
-    where
-      clash : (a b : Bool) → a ≡ true → b ≡ true → (a && b) ≡ false → ⊥
-      clash true true p q h = absurd (cc)
-      clash true false p q h = absurd (cc)
-      clash false b p q h = absurd (cc)
+  not_there e h = true≢false (sym (and_from (is_taken w1 s) (member s w1 == bit) (eq-eqb (allocated s w1) 1 h.taken) (eq-eqb (member s w1) bit h.same)) ∙ e)
 
 -- what a search finds, of slots at to m - 1
 abbrev Finds : ℕ → ℕ → ℕ → ℕ → Option ℕ → Type 0
