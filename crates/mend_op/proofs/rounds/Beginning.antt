@@ -1,7 +1,7 @@
 -- Where the rounds of a stage go on, or are over, and where they begin.
 use Rattle.std.proofs.Common.{◌≡◌, ◌≢◌, ℕ, ◌*◌, ◌^◌, ◌<◌, ◌≤◌, Bool, true, false, Option, None, Some, List, slice_index, refl, sym, ap, ◌∙◌, subst, arith}
 use Rattle.std.specs.Prelude.{◌==◌, not, if◌then◌else◌, nat_lt}
-use Rattle.std.proofs.lemmas.Bool.{eq-eqb, ltb-true, ltb-false}
+use Rattle.std.proofs.lemmas.Bool.{eqb-false, not-true, ltb-true, ltb-false}
 use Rattle.std.proofs.lemmas.Option.{none-some}
 use Rattle.op_core.specs.declared.want.Want.{Want}
 use Rattle.segment_head.specs.HeadWord.{state_in, depth_in, normal}
@@ -35,7 +35,7 @@ use Rattle.mend_op.proofs.stages.Mended.{is_left_mended}
 
 -- the first word that is changed differs from what it is to be
 not_same : (a b : ℕ) → not (a == b) ≡ true → a ≢ b
-not_same a b differs same = absurd (let is : not true ≡ true = ap not (sym (eq-eqb a b same)) ∙ differs in let no : false ≡ true = is in cc)
+not_same a b differs = eqb-false a b (not-true (a == b) differs)
 
 pub changed_differs : (op : MendOp) (stage : Stage) (from : ℕ) → from ≤ most stage → changed_from op stage from < most stage
     → slice_index op.words (place stage (changed_from op stage from)) ≢ slice_index op.next (place stage (changed_from op stage from))

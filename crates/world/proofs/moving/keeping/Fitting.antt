@@ -1,7 +1,7 @@
 -- Each kind of step at the structure keeps locks and areas fitting, and owners and live segments in whatever a cut may leave.
 use Rattle.std.proofs.Common.{◌≡◌, ◌≢◌, ◌⊎◌, ℕ, suc, ◌+◌, ◌*◌, ◌≤◌, Bool, true, false, cond, eqb, List, set, inl, inr, refl, sym, ap, ◌∙◌, subst, arith}
 use Rattle.std.specs.Prelude.{not, ◌&&◌}
-use Rattle.std.proofs.lemmas.Bool.{eq-eqb, eqb-true, and_parts, false≢true}
+use Rattle.std.proofs.lemmas.Bool.{eq-eqb, eqb-true, eqb-false, not-true, and_parts, false≢true}
 use Rattle.trace.specs.Events.{Words, with_word, after}
 use Rattle.trace.specs.Events.Event.{loaded, exchanged}
 use Rattle.trace.proofs.Replaced.{replaced_other}
@@ -40,10 +40,7 @@ guard_behind shape of_free_slots = omega arith
 guard_behind shape of_directory = omega arith
 
 not_same : (a b : ℕ) → not (eqb a b) ≡ true → a ≢ b
-not_same a b e is = clash (ap not (eq-eqb a b is) ∙ refl) e
-  where
-    clash : not (eqb a b) ≡ false → not (eqb a b) ≡ true → ⊥
-    clash p q = absurd (false≢true (sym p ∙ q))
+not_same a b e = eqb-false a b (not-true (eqb a b) e)
 
 module _ (site : Ground) (words : Words) (views : List View) (j : ℕ) (v : View) (h : Holds site words views) (at : At views j v) where
   abbrev AllFit : Words → View → Type 0
