@@ -13,6 +13,7 @@ use Rattle.world.specs.declared.site.Site.{Site}
 use Rattle.world.specs.Ground.{Ground}
 use Rattle.world.specs.Views.{View, Has}
 use Rattle.world.specs.Kinds.{peeks, learns, refuses, unlocks}
+use Rattle.world.specs.Conditions.{FoundSpent}
 use Rattle.world.specs.Attempts.{HoldsOnly}
 use Rattle.world.specs.areas.Areas.{Segment}
 use Rattle.world.specs.areas.Kinds.{of_segment, takes, gives, reads}
@@ -121,10 +122,6 @@ module _ (site : Ground) (e : Enclosed) where
     pub buckets_are : KnowsBuckets site.shape v e.segment (kept_words e)
     pub no_room : has_no_room (kept_first e) (home_of e.hash) ≡ true
 
-  -- a lock word was found free with the last version
-  abbrev pub FoundSpent : View → Type 0
-  FoundSpent v = (lock : ℕ) × Has lock v.spent_locks
-
 -- IN EACH STEP
 module _ (site : Ground) (here : Site) (call : Call) (e : Enclosed) where
   abbrev pub SuitsStep : EncloseStep → View → Type 0
@@ -132,7 +129,7 @@ module _ (site : Ground) (here : Site) (call : Call) (e : Enclosed) where
   SuitsStep (Lock b take) v = IsTakingLock site e b v × (b < buckets) × IsTaking take × ((i : ℕ) → slice_index e.buckets i < 2 ^ 64)
   SuitsStep Head v = IsTakingLock site e buckets v × ((i : ℕ) → slice_index e.buckets i < 2 ^ 64)
   SuitsStep (Fill at) v = IsHeaded site e v × IsFilling site e at v
-  SuitsStep (CountSpent b) v = HoldsPart site e 0 b v × (b ≤ buckets) × FoundSpent site e v
+  SuitsStep (CountSpent b) v = HoldsPart site e 0 b v × (b ≤ buckets) × FoundSpent v
   SuitsStep CountDeep v = IsCrammed site e v × (depth_in e.head ≡ site.shape.depth)
   SuitsStep (Give give end) v = SuitsGive site e give v
   SuitsStep (Ended end) v = HoldsOnly [] v

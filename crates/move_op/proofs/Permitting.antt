@@ -18,7 +18,7 @@ use Rattle.world.specs.declared.site.Site.{Site}
 use Rattle.world.specs.Ground.{Ground}
 use Rattle.world.specs.Views.{Owed, Move, View, Has, HasLock}
 use Rattle.world.specs.Kinds.{refuses, copies, clears, publishes, draws_place}
-use Rattle.world.specs.Conditions.{May}
+use Rattle.world.specs.Conditions.{May, FoundSpent}
 use Rattle.world.specs.Holders.{KnowsBucket}
 use Rattle.world.proofs.holding.Holders.{may_place}
 use Rattle.world.proofs.holding.Moving.{may_move}
@@ -50,7 +50,7 @@ use Rattle.move_op.specs.declared.step.MoveStep.TheVariants.{Lock, Fill, CountSp
 use Rattle.move_op.specs.declared.step.MoveStep.TheVariants as step
 use Rattle.move_op.specs.Shifts.{source_of, target_of, home_place, shift_at, place_of, record_of}
 use Rattle.move_op.specs.Steps.{lock_of, lock_at, wanted_in}
-use Rattle.move_op.specs.Fits.{with_copy_ready, with_copy, with_insert_ready, with_insert, words_first, words_ready, moved, leg_kind, kind_at, CanMove, HoldsAll, IsPrepared, IsShifting, IsDrawing, FoundSpent, SuitsStep, MayMakeRoom}
+use Rattle.move_op.specs.Fits.{with_copy_ready, with_copy, with_insert_ready, with_insert, words_first, words_ready, moved, leg_kind, kind_at, CanMove, HoldsAll, IsPrepared, IsShifting, IsDrawing, SuitsStep, MayMakeRoom}
 use Rattle.move_op.proofs.shifting.Beside.{at_is, apart}
 use Rattle.move_op.proofs.shifting.Stored.{leaves, copy_fits, copy_ready, copy_value, copy_takes, source_ready, source_stands, copy_stood, clear_frees, insert_fits, insert_ready, insert_value, insert_takes, insert_stood}
 use Rattle.move_op.proofs.shifting.Nowhere.{insert_nowhere}
@@ -227,7 +227,7 @@ module _ (site : Ground) (kept : Kept) (v : View) (all : (place : Role) → AreW
       let is = s.all.shifts in
       subst (λ (z : Shift). IsDrawing site kept z v → May site (kind_at kept (Draw z)) v) (sym is.same) (λ t. draw_by site kept shift.direction is.from is.to is.can v t.all all t) s
 
-spent_may : (site : Ground) (kept : Kept) (v : View) → FoundSpent site kept v → May site (refuses (call_of kept.change) reply.Spent) v
+spent_may : (site : Ground) (kept : Kept) (v : View) → FoundSpent v → May site (refuses (call_of kept.change) reply.Spent) v
 spent_may site kept v spent = (refl, inl (λ a. change_by kept.change.key kept.change.effect), (λ m words newest map. tt), (λ is. spent), (λ full. absurd (let e : reply.Spent ≡ reply.Full = full in cc)))
 
 -- EACH STEP MAY BE TAKEN

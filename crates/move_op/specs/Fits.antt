@@ -14,6 +14,7 @@ use Rattle.world.specs.declared.site.Site.{Site}
 use Rattle.world.specs.Ground.{Ground}
 use Rattle.world.specs.Views.{Move, View, Has}
 use Rattle.world.specs.Kinds.{Kind, peeks, refuses, learns, copies, clears, publishes, draws_place}
+use Rattle.world.specs.Conditions.{FoundSpent}
 use Rattle.world.specs.Attempts.{HoldsOnly}
 use Rattle.part.specs.Outcomes.{Outcome, replied, again, off}
 use Rattle.phase.specs.declared.role.Role.{Role}
@@ -219,10 +220,6 @@ module _ (site : Ground) (kept : Kept) where
     pub located : IsLocated site kept.site kept.segment
     pub locks : HoldsLocks kept.site kept.hash kept.segment held v
     pub quiet : IsQuiet v
-
-  -- a lock word was found free with the last version
-  abbrev pub FoundSpent : View → Type 0
-  FoundSpent v = (lock : ℕ) × Has lock v.spent_locks
 
   -- at the ends: all locks are kept where no record can move, those of both third buckets among them, and else nothing is
   abbrev pub SuitsEnd : MoveEnd → View → Type 0

@@ -15,6 +15,7 @@ use Rattle.world.specs.declared.site.Site.{Site}
 use Rattle.world.specs.Ground.{Ground}
 use Rattle.world.specs.Views.{Owed, View, Has}
 use Rattle.world.specs.Kinds.{Kind, peeks, refuses, learns, stores, repays, stashes, draws_place}
+use Rattle.world.specs.Conditions.{FoundSpent}
 use Rattle.world.specs.Attempts.{HoldsOnly}
 use Rattle.part.specs.Outcomes.{Outcome, replied, again, off}
 use Rattle.phase.specs.declared.role.Role.{Role}
@@ -210,10 +211,6 @@ module _ (site : Ground) (kept : Kept) (seen : Seen) where
     pub located : IsLocated site kept.site kept.segment
     pub locks : HoldsLocks kept.site kept.hash kept.segment held v
     pub quiet : IsQuiet v
-
-  -- a lock word was found free with the last version
-  abbrev pub FoundSpent : View → Type 0
-  FoundSpent v = (lock : ℕ) × Has lock v.spent_locks
 
   -- ALL LOCKS ARE KEPT where both stash buckets are full, and the segment that was kept is told; else all is as before a call
   abbrev pub SuitsEnd : StashEnd → View → Type 0

@@ -48,6 +48,10 @@ IsMoveOf m s k b r c t = (s ≡ m.segment) × (k ≡ m.key)
 abbrev pub HasNoted : View → Type 0
 HasNoted v = (o : Owed) → Has o v.owed → o.added ≡ false
 
+-- a lock word was found free with the last version
+abbrev pub FoundSpent : View → Type 0
+FoundSpent v = (lock : ℕ) × Has lock v.spent_locks
+
 -- ---- what a view knows
 module _ (site : Ground) where
   -- a medium has the words that a view knows and has not loose. What a cut leaves has their cores alone; since those
@@ -213,7 +217,7 @@ module _ (site : Ground) where
 
   -- a reply that a number is spent comes from who found a lock word of the last version
   abbrev pub IsKnownSpent : View → Reply → Type 0
-  IsKnownSpent v reply = reply ≡ Spent → (lock : ℕ) × Has lock v.spent_locks
+  IsKnownSpent v reply = reply ≡ Spent → FoundSpent v
 
   -- and one that no slot is free from who knows each to be taken
   abbrev pub IsKnownFull : View → Reply → Type 0

@@ -15,6 +15,7 @@ use Rattle.world.specs.declared.site.Site.{Site}
 use Rattle.world.specs.Ground.{Ground, version_of}
 use Rattle.world.specs.Views.{Owed, View, Has}
 use Rattle.world.specs.Kinds.{Kind, peeks, pins, finds_room, refuses, learns, stores, repays, publishes, stashes, draws_place}
+use Rattle.world.specs.Conditions.{FoundSpent}
 use Rattle.world.specs.Attempts.{HoldsOnly}
 use Rattle.phase.specs.declared.role.Role.{Role}
 use Rattle.phase.specs.declared.role.Role.TheVariants.{Home, Probing, First, Second}
@@ -265,10 +266,6 @@ module _ (site : Ground) (task : Task) (seen : Seen) where
     pub located : IsLocated site task.site seen.path.segment
     pub locks : HoldsLocks task.site task.hash seen.path.segment held v
     pub quiet : IsQuiet v
-
-  -- a lock word was found free with the last version
-  abbrev pub FoundSpent : View → Type 0
-  FoundSpent v = (lock : ℕ) × Has lock v.spent_locks
 
   -- at the ends: all locks are kept where no slot is free, and else all is as at the beginning; a segment that is stale is relied on as live
   abbrev pub SuitsEnd : WriteEnd → View → Type 0

@@ -13,20 +13,19 @@ use Rattle.world.specs.Ground.{Ground}
 use Rattle.world.specs.Views.{View, At}
 use Rattle.world.specs.Wants.{answer_to, word_of}
 use Rattle.world.specs.Kinds.{refuses, view_after}
-use Rattle.world.specs.Conditions.{May}
+use Rattle.world.specs.Conditions.{May, FoundSpent}
 use Rattle.world.specs.Invariant.{Holds}
 use Rattle.world.specs.Attempts.{EntersReply}
 use Rattle.phase.specs.declared.role.Role.{Role}
-use Rattle.phase.specs.declared.make.Record.{Record}
 use Rattle.phase.specs.declared.make.Make.{Make}
 use Rattle.phase.specs.declared.make.Make.TheVariants as make
 use Rattle.phase.specs.declared.kept.Kept.{Kept}
 use Rattle.phase.specs.Helds.{give_next}
-use Rattle.phase.specs.Makes.{make_wanted}
 use Rattle.phase.specs.Buckets.{words_in}
 use Rattle.phase.specs.Making.{make_kind}
 use Rattle.phase.specs.AreWords.{AreWords}
 use Rattle.phase.proofs.Handing.{give_answer}
+use Rattle.phase.proofs.Wanting.{make_answer}
 use Rattle.phase.proofs.locks.Taking.{take_fits}
 use Rattle.phase.proofs.locks.Giving.{known_lock, give_stands}
 use Rattle.stash_op.specs.declared.step.NoteWords.{NoteWords}
@@ -38,7 +37,7 @@ use Rattle.stash_op.specs.declared.step.StashStep.TheVariants.{Lock, Fill, Note,
 use Rattle.stash_op.specs.declared.step.StashStep.TheVariants as step
 use Rattle.stash_op.specs.Search.{place_of, noted}
 use Rattle.stash_op.specs.Steps.{lock_of, note_wanted, wanted_in, next_in}
-use Rattle.stash_op.specs.Fits.{publish_kind, kind_at, IsChanging, FoundSpent, SuitsStep, IsIn}
+use Rattle.stash_op.specs.Fits.{publish_kind, kind_at, IsChanging, SuitsStep, IsIn}
 use Rattle.stash_op.proofs.finding.Standing.{newest_after}
 use Rattle.stash_op.proofs.keeping.Going.{reply_at, Goes}
 use Rattle.stash_op.proofs.keeping.Storing.{make_goes}
@@ -49,17 +48,6 @@ use Rattle.stash_op.proofs.permitting.Noting.{note_may}
 use Rattle.stash_op.proofs.permitting.Drawn.{draw_may}
 
 -- ---- answers
-make_answer : (lock : ℕ) (written : Record) (m : Make) (n : ℕ) → answer_to (make_wanted lock written m) n ≡ Passed
-make_answer lock written make.Key n = refl
-make_answer lock written make.Value n = refl
-make_answer lock written make.Fingers n = refl
-make_answer lock written make.FlushFingers n = refl
-make_answer lock written make.FlushRecord n = refl
-make_answer lock written make.FenceRecord n = refl
-make_answer lock written make.Publish n = refl
-make_answer lock written make.FlushPublished n = refl
-make_answer lock written make.FencePublished n = refl
-
 note_answer : (kept : Kept) (part : NoteWord) (note : NoteWords) (n : ℕ) → answer_to (note_wanted kept part note) n ≡ Passed
 note_answer kept Mark note n = refl
 note_answer kept Fingers note n = refl
@@ -70,7 +58,7 @@ change_by key (Insert value) i = tt
 change_by key (Update value) i = absurd i
 change_by key Remove i = absurd i
 
-spent_may : (site : Ground) (kept : Kept) (is : IsIn site kept) (seen : Seen) (v : View) → FoundSpent site kept seen v → May site (refuses (call_of kept.change) reply.Spent) v
+spent_may : (site : Ground) (kept : Kept) (is : IsIn site kept) (seen : Seen) (v : View) → FoundSpent v → May site (refuses (call_of kept.change) reply.Spent) v
 spent_may site kept is seen v spent = (refl, inl (λ a. change_by kept.change.key kept.change.effect is.insert), (λ m words newest map. tt), (λ spends. spent), (λ full. absurd (let e : reply.Spent ≡ reply.Full = full in cc)))
 
 module _ (site : Ground) (kept : Kept) (is : IsIn site kept) (words : Words) (views : List View) (j : ℕ) (before v : View) (h : Holds site words views) (at : At views j v) (seen : Seen)

@@ -9,7 +9,7 @@ use Rattle.map_model.specs.Changes.{doing, call_of}
 use Rattle.world.specs.Ground.{Ground}
 use Rattle.world.specs.Views.{View}
 use Rattle.world.specs.Kinds.{finds_room, refuses}
-use Rattle.world.specs.Conditions.{May}
+use Rattle.world.specs.Conditions.{May, FoundSpent}
 use Rattle.world.specs.Holders.{FoundNone, FoundAt}
 use Rattle.world.proofs.holding.Holders.{may_tell}
 use Rattle.phase.specs.Giving.{IsLocated, IsQuiet}
@@ -19,7 +19,7 @@ use Rattle.write_op.specs.declared.step.Task.{Task}
 use Rattle.write_op.specs.declared.step.Spot.{Spot}
 use Rattle.write_op.specs.declared.step.Seen.{Seen}
 use Rattle.write_op.specs.Search.{found}
-use Rattle.write_op.specs.Fits.{loaded, inserting_kind, changing_kind, deciding_kind, count_kind, IsVisiting, HasLoaded, IsPinned, FoundSpent, IsIn}
+use Rattle.write_op.specs.Fits.{loaded, inserting_kind, changing_kind, deciding_kind, count_kind, IsVisiting, HasLoaded, IsPinned, IsIn}
 use Rattle.write_op.proofs.keeping.Going.{located}
 use Rattle.write_op.proofs.finding.Searching.{found_some}
 use Rattle.write_op.proofs.finding.Finding.{asked_held, holds_buckets, nowhere, hits}
@@ -30,7 +30,7 @@ change_is key (Update value) = tt
 change_is key Remove = tt
 
 -- a lock word of the last version was found
-pub spent_may : (site : Ground) (task : Task) (seen : Seen) (v : View) → FoundSpent site task seen v → May site (refuses (call_of task.change) reply.Spent) v
+pub spent_may : (site : Ground) (task : Task) (seen : Seen) (v : View) → FoundSpent v → May site (refuses (call_of task.change) reply.Spent) v
 spent_may site task seen v spent = (refl, inl (λ a. change_is task.change.key task.change.effect), (λ m words newest map. tt), (λ is. spent), (λ full. absurd (let e : reply.Spent ≡ reply.Full = full in cc)))
 
 module _ (site : Ground) (task : Task) (is : IsIn site task) (seen : Seen) (v : View) (some : 0 < v.callers) (h : HasLoaded site task seen 4 4 v) (q : IsQuiet v) (vis : IsVisiting task seen)
