@@ -18,7 +18,8 @@ use Rattle.pm_trace.specs.declared.flushes.Flush.{Flush}
 use Rattle.pm_trace.specs.Memory.{Memory, flushes_of}
 use Rattle.pm_trace.specs.TraceOf.{moment_of, HoldsSettled, IsTraceOf, Follows}
 use Rattle.pm_trace.specs.FlushLists.{is_of, added}
-use Rattle.pm_trace.proofs.Elements.{has_at, all_of_has, has_of_all, any_of_has, has_of_any, has_append_left, has_append_right, filter_has, has_filter, filter_fewer, pairs_same, one_other, both_is}
+use Rattle.trace.proofs.Listed.{has_append_left, has_append_right}
+use Rattle.pm_trace.proofs.Elements.{has_at, all_of_has, has_of_all, any_of_has, has_of_any, filter_has, has_filter, filter_fewer, pairs_same, one_other, both_is}
 use Rattle.pm_trace.proofs.Calm.{holds_more, settled_more}
 
 is_no_fence : (c l d : ℕ) → flushed c l ≡ fenced d → ⊥

@@ -1,5 +1,5 @@
 -- What holds of the elements of a list, and of a filtered one, said by membership.
-use Rattle.std.proofs.Common.{◌≡◌, ℕ, zero, suc, ◌<◌, ◌≤◌, ◌⊎◌, inl, inr, Bool, true, false, not, cond, ◌&&◌, eqb, List, [], ◌∷◌, ◌++◌, length, get_or, refl, sym, ◌∙◌, ap, subst, arith, filter}
+use Rattle.std.proofs.Common.{◌≡◌, ℕ, zero, suc, ◌<◌, ◌≤◌, ◌⊎◌, inl, inr, Bool, true, false, not, cond, ◌&&◌, eqb, List, [], ◌∷◌, length, get_or, refl, sym, ◌∙◌, ap, subst, arith, filter}
 use Rattle.std.specs.Prelude.{All, Any, AllPairs, Contains}
 use Rattle.std.proofs.lemmas.Bool.{cases_Bool, eqb-true, eq-eqb, ne_eqb}
 use Rattle.trace.proofs.Listed.{has_of_contains, contains_of_has}
@@ -27,21 +27,6 @@ any_of_has P xs x h p =
 
 pub has_of_any : {X : Type 0} (P : X → Type 0) (xs : List X) → Any P xs → (x : X) × Has x xs × P x
 has_of_any P xs a = (a.1, has_of_contains a.1 xs (a.0, a.2, a.3), a.4)
-
-pub has_append_left : {X : Type 0} (x : X) (xs ys : List X) → Has x xs → Has x (xs ++ ys)
-has_append_left x [] ys h = absurd h
-has_append_left x (z ∷ xs) ys h = elim h [ inl e ↦ inl e | inr q ↦ inr (has_append_left x xs ys q) ]
-
-pub has_append_right : {X : Type 0} (x : X) (xs ys : List X) → Has x ys → Has x (xs ++ ys)
-has_append_right x [] ys h = h
-has_append_right x (z ∷ xs) ys h = inr (has_append_right x xs ys h)
-
-pub has_append_cases : {X : Type 0} (x : X) (xs ys : List X) → Has x (xs ++ ys) → Has x xs ⊎ Has x ys
-has_append_cases x [] ys h = inr h
-has_append_cases x (z ∷ xs) ys h = elim h [
-  | inl e ↦ inl (inl e)
-  | inr q ↦ elim (has_append_cases x xs ys q) [ inl r ↦ inl (inr r) | inr r ↦ inr r ]
-]
 
 -- ---- pairs of elements
 

@@ -1,5 +1,5 @@
 -- The lines of a round, and pairs of words on lines; the lines are those of words that were stored.
-use Rattle.std.proofs.Common.{◌≡◌, ℕ, zero, suc, ◌<◌, ◌⊎◌, inl, inr, cond, eqb, Option, Some, List, [], ◌∷◌, ◌++◌, length, refl, sym, ap, ◌∙◌, subst, arith}
+use Rattle.std.proofs.Common.{◌≡◌, ℕ, zero, suc, ◌<◌, ◌⊎◌, inl, inr, cond, eqb, Option, Some, List, [], ◌∷◌, length, refl, sym, ap, ◌∙◌, subst, arith}
 use Rattle.std.specs.Prelude.{slice_index}
 use Rattle.std.proofs.lemmas.Bool.{cases_Bool, eqb-true, eqb-false}
 use Rattle.trace.specs.Events.{line_of}
@@ -17,14 +17,6 @@ use Rattle.rounds.specs.Laws.{LinesAreStored}
 use Rattle.rounds.proofs.Events.{event_cases, events_end, cases_wanted}
 
 -- ---- lists
-pub has_left : {X : Type 0} (x : X) (xs ys : List X) → Has x xs → Has x (xs ++ ys)
-has_left x [] ys h = absurd h
-has_left x (y ∷ xs) ys h = elim h [ inl e ↦ inl e | inr r ↦ inr (has_left x xs ys r) ]
-
-pub has_right : {X : Type 0} (x : X) (xs ys : List X) → Has x ys → Has x (xs ++ ys)
-has_right x [] ys h = h
-has_right x (y ∷ xs) ys h = inr (has_right x xs ys h)
-
 pub none_left : {X : Type 0} (xs : List X) → ((x : X) → Has x xs → ⊥) → xs ≡ []
 none_left [] none = refl
 none_left (x ∷ xs) none = absurd (none x (inl refl))

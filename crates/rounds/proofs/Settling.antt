@@ -4,6 +4,7 @@ use Rattle.std.specs.Prelude.{slice_index}
 use Rattle.std.proofs.lemmas.Bool.{cases_lt, lt-ltb, le-ltb, eq-eqb}
 use Rattle.std.proofs.lemmas.List.{drop_more, drop_all, take_more}
 use Rattle.trace.specs.Events.{line_of}
+use Rattle.trace.proofs.Listed.{has_append_left, has_append_right}
 use Rattle.op_core.specs.declared.want.Want.{Want}
 use Rattle.image_layout.specs.Places.{Shape}
 use Rattle.world.specs.Facts.{Fact}
@@ -24,7 +25,7 @@ use Rattle.rounds.specs.Events.{IsFlush, IsFence, IsRoundEvent}
 use Rattle.rounds.specs.Stands.{kind_of, rounds_kind, AreOnLines, IsLooseOn, RoundStands, IsSettled}
 use Rattle.rounds.specs.Laws.{RoundsSettle}
 use Rattle.rounds.proofs.Events.{event_cases, events_end, cases_wanted}
-use Rattle.rounds.proofs.Lines.{has_right, has_left, none_left, has_touched, still_touched, on_line_is, off_line_has}
+use Rattle.rounds.proofs.Lines.{none_left, has_touched, still_touched, on_line_is, off_line_has}
 
 -- nothing is loose where all is settled
 pub settled_firm : (v : View) → IsSettled v → (p : ℕ × ℕ) → IsLoose v p → ⊥
@@ -78,8 +79,8 @@ module _ (lines : List ℕ) (i : ℕ) (low : i < length lines) (dirty flushed : 
   -- and what is not fenced on this one or before it
   before : AreOnLines (take (i + 1) lines) (on_line line dirty ++ flushed)
   before p has = subst (λ (l : List ℕ). Has (line_of p.0) l) (sym (take_more lines i 0 low)) (elim (has_joined (on_line line dirty) flushed p has) [
-    | inl here ↦ has_right (line_of p.0) (take i lines) (line ∷ []) (inl (on_line_is line p dirty here))
-    | inr old ↦ has_left (line_of p.0) (take i lines) (line ∷ []) (on_flushed p old)
+    | inl here ↦ has_append_right (line_of p.0) (take i lines) (line ∷ []) (inl (on_line_is line p dirty here))
+    | inr old ↦ has_append_left (line_of p.0) (take i lines) (line ∷ []) (on_flushed p old)
   ])
 
   -- behind the last line nothing is dirty

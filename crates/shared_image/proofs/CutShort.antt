@@ -7,6 +7,7 @@ use Rattle.std.proofs.lemmas.List.Elements.{Contains-append_right}
 use mathlib.Core.Option.{some-injective, some-ne-none}
 use Rattle.atomic_table.specs.declared.shared.Seat.{Seat}
 use Rattle.trace.specs.Events.{Words}
+use Rattle.trace.proofs.Listed.{has_append_left, has_append_right}
 use Rattle.image_layout.specs.Places.{Shape, IsShape, state_word, words_of}
 use Rattle.image_layout.specs.StateWord.{marker_in}
 use Rattle.map_model.specs.declared.call.Call.{Call}
@@ -37,14 +38,6 @@ use Rattle.shared_image.specs.Closed.{with_all, replies_of}
 use Rattle.shared_image.specs.Cutting.{views_of, planned_in, MayBeLeft, LeavesGoodMedia}
 
 -- ---- lists joined
-has_first : {X : Type 0} (xs ys : List X) (x : X) → Has x xs → Has x (xs ++ ys)
-has_first [] ys x h = absurd h
-has_first (z ∷ xs) ys x h = elim h [ inl e ↦ inl e | inr q ↦ inr (has_first xs ys x q) ]
-
-has_second : {X : Type 0} (xs ys : List X) (x : X) → Has x ys → Has x (xs ++ ys)
-has_second [] ys x h = h
-has_second (z ∷ xs) ys x h = inr (has_second xs ys x h)
-
 contained : (calls : List Call) (call : Call) → Has call calls → Contains calls call
 contained [] call h = absurd h
 contained (c ∷ calls) call h = elim h [
@@ -55,8 +48,8 @@ contained (c ∷ calls) call h = elim h [
 -- ---- what the keeper has that took passes in
 loose_joined : (p q : Watch) (x : ℕ × ℕ) → IsLoose p.view x ⊎ IsLoose q.view x → IsLoose (both p q).view x
 loose_joined p q x l = elim l [
-  | inl mine ↦ elim mine [ inl d ↦ inl (has_first p.view.dirty q.view.dirty x d) | inr f ↦ inr (has_first p.view.flushed q.view.flushed x f) ]
-  | inr its ↦ elim its [ inl d ↦ inl (has_second p.view.dirty q.view.dirty x d) | inr f ↦ inr (has_second p.view.flushed q.view.flushed x f) ]
+  | inl mine ↦ elim mine [ inl d ↦ inl (has_append_left x p.view.dirty q.view.dirty d) | inr f ↦ inr (has_append_left x p.view.flushed q.view.flushed f) ]
+  | inr its ↦ elim its [ inl d ↦ inl (has_append_right x p.view.dirty q.view.dirty d) | inr f ↦ inr (has_append_right x p.view.flushed q.view.flushed f) ]
 ]
 
 loose_stays : (p : Watch) (passes : List (Seat ℕ Watch)) (x : ℕ × ℕ) → IsLoose p.view x → IsLoose (with_all p passes).view x

@@ -1,5 +1,5 @@
--- Membership of a list by its first element and the rest, and that it is the library's.
-use Rattle.std.proofs.Common.{◌≡◌, ℕ, zero, suc, ◌<◌, inl, inr, List, [], ◌∷◌, length, get_or, sym, arith}
+-- Membership of a list by its first element and the rest: it is the library's, and what two lists joined have is what either has.
+use Rattle.std.proofs.Common.{◌≡◌, ◌⊎◌, ℕ, zero, suc, ◌<◌, inl, inr, List, [], ◌∷◌, ◌++◌, length, get_or, sym, arith}
 use Rattle.std.specs.Prelude.{Contains}
 use Rattle.trace.specs.Listed.{Has}
 
@@ -16,4 +16,20 @@ contains_of_has x [] h = absurd h
 contains_of_has x (y ∷ ys) h = elim h [
   | inl e ↦ (0, omega arith, sym e)
   | inr q ↦ let p : Contains ys x = contains_of_has x ys q in (suc p.0, omega arith, p.2)
+]
+
+-- ---- two lists joined
+pub has_append_left : {X : Type 0} (x : X) (xs ys : List X) → Has x xs → Has x (xs ++ ys)
+has_append_left x [] ys h = absurd h
+has_append_left x (z ∷ xs) ys h = elim h [ inl e ↦ inl e | inr q ↦ inr (has_append_left x xs ys q) ]
+
+pub has_append_right : {X : Type 0} (x : X) (xs ys : List X) → Has x ys → Has x (xs ++ ys)
+has_append_right x [] ys h = h
+has_append_right x (z ∷ xs) ys h = inr (has_append_right x xs ys h)
+
+pub has_append_cases : {X : Type 0} (x : X) (xs ys : List X) → Has x (xs ++ ys) → Has x xs ⊎ Has x ys
+has_append_cases x [] ys h = inr h
+has_append_cases x (z ∷ xs) ys h = elim h [
+  | inl e ↦ inl (inl e)
+  | inr q ↦ elim (has_append_cases x xs ys q) [ inl r ↦ inl (inr r) | inr r ↦ inr r ]
 ]

@@ -4,6 +4,7 @@ use Rattle.std.specs.Prelude.{◌==◌, ◌&&◌, nat_lt, nat_le}
 use Rattle.std.proofs.lemmas.Bool.{eqb-true, eqb-false, leb-true, ltb-true, cond_both}
 use Rattle.segment_head.specs.HeadWord.{version_in}
 use Rattle.trace.specs.Events.{Words}
+use Rattle.trace.proofs.Listed.{has_append_right}
 use Rattle.image_layout.specs.Places.{root_word}
 use Rattle.way.specs.Ways.{entry_word, head_word, is_leading}
 use Rattle.sound_image.specs.Records.{key_hash}
@@ -27,8 +28,7 @@ use Rattle.phase.proofs.locks.Choosing.{by_both}
 
 -- ---- what was loaded stays so with more
 pub has_more : (more loads : List (ℕ × ℕ)) (p : ℕ × ℕ) → Has p loads → Has p (more ++ loads)
-has_more [] loads p has = has
-has_more (x ∷ more) loads p has = inr (has_more more loads p has)
+has_more more loads p has = has_append_right p more loads has
 
 module _ (here : Site) (hash : ℕ) (more loads : List (ℕ × ℕ)) where
   pub named_more : (root segment : ℕ) → WasNamed here hash loads root segment → WasNamed here hash (more ++ loads) root segment

@@ -3,6 +3,7 @@ use Rattle.std.proofs.Common.{◌≡◌, ◌≢◌, ◌⊎◌, ℕ, zero, suc, �
 use Rattle.std.specs.Prelude.{replicate}
 use mathlib.Core.Option.{some, some-injective, some-ne-none}
 use lib.ListN.{get_elem?}
+use Rattle.trace.proofs.Listed.{has_append_cases}
 use Rattle.world.specs.Views.{View, Has, At}
 use Rattle.world.specs.Parts.{total}
 
@@ -32,8 +33,7 @@ module _ {A : Type 0} where
 
   -- an element of two lists joined is one of either
   pub has_joined : (xs ys : List A) (a : A) → Has a (xs ++ ys) → Has a xs ⊎ Has a ys
-  has_joined [] ys a h = inr h
-  has_joined (x ∷ xs) ys a h = elim h [ inl e ↦ inl (inl e) | inr r ↦ elim (has_joined xs ys a r) [ inl s ↦ inl (inr s) | inr s ↦ inr s ] ]
+  has_joined xs ys a h = has_append_cases a xs ys h
 
 -- pairs with the same parts are the same
 pub pair_same : (a b x y : ℕ) → a ≡ b → x ≡ y → ◌≡◌ {A = ℕ × ℕ} (a, x) (b, y)

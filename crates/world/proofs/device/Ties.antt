@@ -9,7 +9,7 @@ use Rattle.trace.specs.Events.Event.{loaded, stored, exchanged, drawn, flushed, 
 use Rattle.trace.specs.Progress.{pending}
 use Rattle.trace.specs.Steps.{Writes}
 use Rattle.trace.proofs.Replaced.{replaced_same, replaced_other}
-use Rattle.trace.proofs.Listed.{has_of_contains, contains_of_has}
+use Rattle.trace.proofs.Listed.{has_of_contains, contains_of_has, has_append_left, has_append_right}
 use Rattle.trace.proofs.Moments.{since_more}
 use Rattle.trace.proofs.Flushes.{flush_pending, pending_more, pending_fence_other}
 use Rattle.trace.proofs.Media.{may_more, flush_since, fence_since}
@@ -31,14 +31,6 @@ use Rattle.world.proofs.basics.Lists.{set_here, set_there, has_joined}
 use Rattle.world.proofs.basics.Seats.{each, is_v, carry}
 
 -- ---- lists of a view
-has_left : (xs ys : List (ℕ × ℕ)) (p : ℕ × ℕ) → Has p xs → Has p (xs ++ ys)
-has_left [] ys p h = absurd h
-has_left (x ∷ xs) ys p h = elim h [ inl e ↦ inl e | inr r ↦ inr (has_left xs ys p r) ]
-
-has_right : (xs ys : List (ℕ × ℕ)) (p : ℕ × ℕ) → Has p ys → Has p (xs ++ ys)
-has_right [] ys p h = h
-has_right (x ∷ xs) ys p h = inr (has_right xs ys p h)
-
 on_line_is : (l : ℕ) (d : List (ℕ × ℕ)) (p : ℕ × ℕ) → Has p (on_line l d) → line_of p.0 ≡ l
 on_line_is l [] p h = absurd h
 on_line_is l (q ∷ d) p h = elim (cases_Bool (eqb (line_of q.0) l)) [
@@ -213,7 +205,7 @@ module _ (site : Ground) (start : Words) (es : Trace) (views : List View) (j : �
         | inl e ↦ inl e
         | inr s ↦ leaves site start es views j v _ at o (value start es) n y (λ x loose. elim loose [
           | inl d ↦ moves n x d
-          | inr f ↦ inr (has_right (on_line l v.dirty) v.flushed (n, x) f)
+          | inr f ↦ inr (has_append_right {X = ℕ × ℕ} (n, x) (on_line l v.dirty) v.flushed f)
         ]) s.0 s.1 s.2 s.3 s.4 s.5
       ]
     ];
@@ -229,7 +221,7 @@ module _ (site : Ground) (start : Words) (es : Trace) (views : List View) (j : �
     where
       moves : (n x : ℕ) → Has (n, x) v.dirty → Has (n, x) (off_line l v.dirty) ⊎ Has (n, x) (on_line l v.dirty ++ v.flushed)
       moves n x d = dite (ℕ_discrete (line_of n) l)
-          (λ (q : line_of n ≡ l). inr (has_left (on_line l v.dirty) v.flushed (n, x) (on_line_stays l v.dirty (n, x) q d)))
+          (λ (q : line_of n ≡ l). inr (has_append_left {X = ℕ × ℕ} (n, x) (on_line l v.dirty) v.flushed (on_line_stays l v.dirty (n, x) q d)))
           (λ (q : line_of n ≢ l). inl (off_line_stays l v.dirty (n, x) q d))
 
       still : (c : ℕ) (p : ℕ × ℕ) → Contains (pending c es) p → Contains (pending c (flushed j l ∷ es)) p

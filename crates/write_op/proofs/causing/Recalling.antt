@@ -47,7 +47,7 @@ use Rattle.phase.specs.Causes.{WasFound, RemembersWalked}
 use Rattle.phase.proofs.asking.Asked.{one_place, none_before, near_asked, upto_more, upto_less}
 use Rattle.phase.proofs.Wording.{words_this, words_other}
 use Rattle.phase.proofs.locks.Giving.{held_this, held_other}
-use Rattle.phase.proofs.asking.Causing.{found_more, walk_remembers}
+use Rattle.phase.proofs.asking.Causing.{has_more, found_more, walk_remembers}
 use Rattle.phase.proofs.locks.Taking.{take_remembers}
 use Rattle.phase.proofs.Loading.{load_begins, load_stands}
 use Rattle.write_op.specs.declared.step.Task.{Task}
@@ -70,10 +70,6 @@ use Rattle.write_op.specs.Fits.{is_asked, Upto}
 use Rattle.write_op.specs.ChangePart.{HasReason, WasThere, ChangedOwn, LoadedUpto, LoadedHeld, AsksFor, RemembersIn}
 use Rattle.write_op.proofs.finding.Rooms.{room_none}
 use Rattle.write_op.proofs.keeping.Stepping.{walk_answer}
-
-has_more : (more loads : List (ℕ × ℕ)) (p : ℕ × ℕ) → Has p loads → Has p (more ++ loads)
-has_more [] loads p has = has
-has_more (x ∷ more) loads p has = inr (has_more more loads p has)
 
 walk_changes : (task : Task) (w : Walk) (a : Ans) → change_of (walk_wanted task.site task.hash w) a ≡ []
 walk_changes task walk.Power a = refl
