@@ -23,20 +23,12 @@ use Rattle.repair_op.proofs.Holding.{has_area, was_area}
 use Rattle.world.proofs.fitting.OneHolder.{head_in_slot, link_in_slot}
 use Rattle.rounds.proofs.Settling.{settled_firm}
 use Rattle.directory_op.proofs.Words.{slot_behind}
+use Rattle.directory_op.proofs.guard.Guarding.{not_directory}
 use Rattle.redirect_op.specs.declared.step.RedirectStep.TheVariants.{Guard}
 use Rattle.redirect_op.specs.declared.op.RedirectOp.{RedirectOp}
 use Rattle.redirect_op.specs.Steps.{next_in}
 use Rattle.redirect_op.specs.Stands.{deep_of, IsGuarding, AreSettled, SuitsStep}
 use Rattle.redirect_op.proofs.Holding.{has_directory}
-
--- a word of a slot is none of the directory
-not_directory : (f i : ℕ) → 32 ≤ f → f ≤ i → not ((i == root_word) || (nat_le block i && nat_lt i f)) ≡ true
-not_directory f i front far = ap (λ b. not (b || (nat_le block i && nat_lt i f))) (ne_eqb i 8 (λ e. omega (arith, e, front, far)))
-    ∙ ap (λ b. not (nat_le block i && b)) (le-ltb i f far) ∙ ends (nat_le block i)
-  where
-    ends : (b : Bool) → not (b && false) ≡ true
-    ends true = refl
-    ends false = refl
 
 module _ (site : Ground) (ground : IsGround site) (here : Site) (call : Call) (op : RedirectOp) (v : View) where
   abbrev g : Guarded

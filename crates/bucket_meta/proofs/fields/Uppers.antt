@@ -21,7 +21,7 @@ set_upper n i low =
     let none : mask i / 2 ^ 28 ≡ 0 = omega (arith, small) in
     or_shr n (mask i) 28 ∙ ap (bit_or (n / 2 ^ 28)) none ∙ or_none (n / 2 ^ 28)
 
-ones_above : (m : ℕ) → m < 2 ^ 28 → (2 ^ 64 - 1 - m) / 2 ^ 28 ≡ 2 ^ 36 - 1
+pub ones_above : (m : ℕ) → m < 2 ^ 28 → (2 ^ 64 - 1 - m) / 2 ^ 28 ≡ 2 ^ 36 - 1
 ones_above m small = omega (arith, small)
 
 clear_upper : (n i : ℕ) → n < 2 ^ 64 → i < 28 → bit_and n (bit_not w64 (mask i)) / 2 ^ 28 ≡ n / 2 ^ 28

@@ -39,6 +39,15 @@ use Rattle.directory_op.proofs.Keeping.{Keeps, locks_stay, kept_in_slot, new_sta
 use Rattle.directory_op.proofs.Sides.{split_state, split_depth, head_kept}
 use Rattle.directory_op.proofs.stages.Staying.{filling_stays}
 
+-- a word of a slot is no word of the directory
+pub not_directory : (f i : ℕ) → 32 ≤ f → f ≤ i → not ((i == root_word) || (nat_le block i && nat_lt i f)) ≡ true
+not_directory f i front far = ap (λ b. not (b || (nat_le block i && nat_lt i f))) (ne_eqb i 8 (λ e. omega (arith, e, front, far)))
+    ∙ ap (λ b. not (nat_le block i && b)) (le-ltb i f far) ∙ ends (nat_le block i)
+  where
+    ends : (b : Bool) → not (b && false) ≡ true
+    ends true = refl
+    ends false = refl
+
 -- ---- a word is loaded
 module _ (shape : Shape) (i n : ℕ) (v : View) where
   abbrev read : View
@@ -197,15 +206,6 @@ module _ (site : Ground) (here : Site) (call : Call) (words : Words) (views : Li
   module _ (n : ℕ) (s : IsDirected site here op call v) where
     abbrev left : View
     left = view_then shape (gives of_directory) n v
-
-    -- a word of a slot is no word of the directory
-    not_directory : (f i : ℕ) → 32 ≤ f → f ≤ i → not ((i == root_word) || (nat_le block i && nat_lt i f)) ≡ true
-    not_directory f i front far = ap (λ b. not (b || (nat_le block i && nat_lt i f))) (ne_eqb i 8 (λ e. omega (arith, e, front, far)))
-        ∙ ap (λ b. not (nat_le block i && b)) (le-ltb i f far) ∙ ends (nat_le block i)
-      where
-        ends : (b : Bool) → not (b && false) ≡ true
-        ends true = refl
-        ends false = refl
 
     said : (fact : Fact) → is_claim fact ≡ false → Has fact v.facts → Has fact left.facts
     said fact none has = has_filtered (λ f. not (is_claim f)) v.facts fact has (ap not none)

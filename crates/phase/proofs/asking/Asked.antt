@@ -29,7 +29,7 @@ one_place p q e = sym (place_of p) ∙ ap place_at e ∙ place_of q
 pub cases_place : (p q : Role) → (p ≡ q) ⊎ (index p ≡ index q → ⊥)
 cases_place p q = elim (cases_eq (index p) (index q)) [ inl e ↦ inl (one_place p q e) | inr other ↦ inr other ]
 
-never : {A : Type 0} → true ≡ false → A
+pub never : {A : Type 0} → true ≡ false → A
 never e = cc
 
 -- ---- those that are asked for

@@ -68,15 +68,8 @@ use Rattle.stash_op.proofs.Over.{over_done, full}
 use Rattle.stash_op.proofs.parts.Parted.{never_finished}
 use Rattle.stash_op.proofs.finding.Standing.{located}
 use Rattle.stash_op.proofs.keeping.Going.{giving_outcome, filled_quiet}
+use Rattle.stash_op.proofs.permitting.Publishing.{bucket_is, index_low}
 use Rattle.stash_op.proofs.causing.Recalling.{recalls_next}
-
-index_low : (b : StashBucket) → index_of b < stash_buckets
-index_low First = omega arith
-index_low Second = omega arith
-
-bucket_is : (hash : ℕ) (b : StashBucket) → bucket_of hash (place_of b) ≡ homes + index_of b
-bucket_is hash First = refl
-bucket_is hash Second = refl
 
 -- ---- in a world, for the caller with this view
 module _ (site : Ground) (kept : Kept) (is : IsIn site kept) (words : Words) (seen : Seen) (v : View) (did : Doings) (call : Call) (hash_is : kept.hash ≡ key_hash kept.site.geometry (key_of call)) (insert : IsInsert call) where

@@ -7,6 +7,7 @@ use Rattle.std.proofs.lemmas.Nat.Bits.{bit_at_and, bit_at_not, bit_at-lt, bit_at
 use Rattle.word_bits.specs.Bits.{bit}
 use Rattle.bucket_meta.specs.Bucket.{allocated, member}
 use Rattle.bucket_meta.specs.Marks.{slot_bits, copied_mark, cleared_mark}
+use Rattle.bucket_meta.proofs.fields.Uppers.{ones_above}
 use Rattle.whole_segment.specs.Slots.{SameSlot, IsFreeSlot, AreHalves}
 
 module _ (slots : ℕ) (set : slots < 2 ^ 14) where
@@ -90,9 +91,6 @@ module _ (w1 slots : ℕ) (word : w1 < 2 ^ 64) (set : slots < 2 ^ 14) where
 
   no_overflow : copied_mark w1 slots < 2 ^ 28
   no_overflow = let most = and_le_r w1 (slot_bits slots) in let small = bits_small slots set in omega (arith, most, small)
-
-  ones_above : (m : ℕ) → m < 2 ^ 28 → (2 ^ 64 - 1 - m) / 2 ^ 28 ≡ 2 ^ 36 - 1
-  ones_above m small = omega (arith, small)
 
   upper : cleared_mark w1 slots / 2 ^ 28 ≡ w1 / 2 ^ 28
   upper =

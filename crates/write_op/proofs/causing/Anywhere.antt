@@ -32,7 +32,7 @@ use Rattle.phase.specs.Takes.{take_taken}
 use Rattle.phase.specs.Backs.{back_taken}
 use Rattle.phase.specs.Loads.{load_taken}
 use Rattle.phase.specs.Makes.{make_taken}
-use Rattle.phase.proofs.asking.Asked.{few, near_asked, none_before, upto_up}
+use Rattle.phase.proofs.asking.Asked.{never, few, near_asked, none_before, upto_up}
 use Rattle.phase.proofs.locks.Giving.{none_free}
 use Rattle.write_op.specs.declared.step.Task.{Task}
 use Rattle.write_op.specs.declared.step.Spot.{Spot}
@@ -51,7 +51,7 @@ use Rattle.write_op.specs.Search.{found, room_in, leaves_note, unnoted, has_fing
 use Rattle.write_op.specs.Steps.{go, end_of, giving, answered, walked_to, locked_to, lock_of, backed_to, visit_second, with_visits, filled, filled_to, inserting, changing, decided, made_to, unnoted_to, begun, next_in, wanted, taken}
 use Rattle.write_op.specs.Fits.{is_asked, HoldsUpto}
 use Rattle.write_op.specs.AnyMemory.{after_all, did_all, HasLoadedKept, KeepsLoads}
-use Rattle.write_op.proofs.finding.Places.{never, holds_more, holds_less, held_asked}
+use Rattle.write_op.proofs.finding.Places.{holds_more, holds_less, held_asked}
 use Rattle.write_op.proofs.causing.Recalling.{recalls_next}
 
 -- the locks that are held are those before the one that is taken, and before the words that are loaded

@@ -17,7 +17,7 @@ use Rattle.phase.specs.Buckets.{words_in}
 use Rattle.phase.specs.Giving.{IsLocated, IsHeld, IsOfHeld}
 use Rattle.phase.specs.Knows.{Knows}
 use Rattle.phase.specs.Finding.{HasLoadedHeld, HoldsBuckets, SparesStash, StandsNowhere}
-use Rattle.phase.proofs.asking.Asked.{few}
+use Rattle.phase.proofs.asking.Asked.{never, few}
 use Rattle.phase.proofs.locks.Giving.{lock_at}
 use Rattle.phase.proofs.locks.Finding.{loads_are_known, words_stand, search_tells}
 use Rattle.write_op.specs.declared.step.Task.{Task}
@@ -25,7 +25,6 @@ use Rattle.write_op.specs.declared.step.Spot.{Spot}
 use Rattle.write_op.specs.declared.step.Seen.{Seen}
 use Rattle.write_op.specs.Search.{found, visits}
 use Rattle.write_op.specs.Fits.{is_asked, HoldsUpto, IsVisiting, HasLoaded, IsPinned, IsIn, loaded}
-use Rattle.write_op.proofs.finding.Places.{never}
 use Rattle.write_op.proofs.finding.Searching.{IsFound, found_none}
 use Rattle.write_op.proofs.keeping.Going.{located}
 

@@ -5,13 +5,10 @@ use Rattle.phase.specs.declared.role.Role.{Role}
 use Rattle.phase.specs.Asked.{index}
 use Rattle.phase.specs.Helds.{with_held, free_of}
 use Rattle.phase.specs.Giving.{IsHeld}
-use Rattle.phase.proofs.asking.Asked.{cases_place, few, upto_more, upto_less, upto_up}
+use Rattle.phase.proofs.asking.Asked.{never, cases_place, few, upto_more, upto_less, upto_up}
 use Rattle.phase.proofs.locks.Giving.{held_this, held_other}
 use Rattle.write_op.specs.declared.step.Seen.{Seen}
 use Rattle.write_op.specs.Fits.{is_asked, Upto, HoldsUpto}
-
-pub never : {A : Type 0} → true ≡ false → A
-never e = cc
 
 -- with one more
 module _ (s : Seen) (p : Role) (free : ℕ) (asked : is_asked s p ≡ true) (h : HoldsUpto s (index p)) where

@@ -29,6 +29,7 @@ use Rattle.write_op.specs.declared.step.Task.{Task}
 use Rattle.write_op.specs.declared.step.Spot.{Spot}
 use Rattle.write_op.specs.declared.step.Seen.{Seen}
 use Rattle.phase.specs.declared.ending.Ending.TheVariants as ending
+use Rattle.phase.proofs.asking.Asked.{never}
 use Rattle.write_op.specs.declared.step.WriteEnd.TheVariants as ends
 use Rattle.write_op.specs.declared.step.WriteStep.TheVariants as step
 use Rattle.write_op.specs.declared.step.Stage.{Stage}
@@ -38,7 +39,6 @@ use Rattle.write_op.specs.Fits.{loaded, prepared_by, prepared, inserting_kind, c
 use Rattle.write_op.proofs.keeping.Going.{located, give_suits}
 use Rattle.write_op.proofs.finding.Finding.{holds_buckets, nowhere}
 use Rattle.write_op.proofs.finding.Rooms.{room_none}
-use Rattle.write_op.proofs.finding.Places.{never}
 use Rattle.write_op.proofs.keeping.Entering.{reply_at, giving_outcome}
 
 -- a stage that a view suits, with its reply entered

@@ -30,6 +30,7 @@ use Rattle.world.proofs.holding.Beside.{newest}
 use Rattle.world.proofs.device.Ties.{KeepsLoose, SparesFlushed, tied_load, tied_write, tied_stored, tied_flush, tied_fence, tied_by_kind}
 use Rattle.world.proofs.device.Worlds.{changed_is}
 use Rattle.world.proofs.fitting.OneHolder.{one_holder, one_slot, head_in_slot, side_dies}
+use Rattle.world.proofs.moving.keeping.Fitting.{guard_behind}
 use Rattle.world.proofs.moving.Known.{grounds, held_within, newest_is}
 use Rattle.world.proofs.moving.beginning.Begun.{restarts_begin}
 use Rattle.world.proofs.mild.Holding.{holding_kept}
@@ -44,12 +45,6 @@ slot_loose true n i x v = (refl, refl)
 slot_loose false n i x v = (refl, refl)
 
 -- ---- places
--- a guard stands behind the image
-guard_behind : (shape : Shape) (guard : Guard) → words_of shape ≤ guard_word shape guard
-guard_behind shape (of_segment s) = omega arith
-guard_behind shape of_free_slots = omega arith
-guard_behind shape of_directory = omega arith
-
 past : (i n : ℕ) → i < n → n ≤ i → ⊥
 past i n low high = omega (arith, low, high)
 
