@@ -13,7 +13,7 @@ use Rattle.frame_facts.specs.DeadSlots.{IsInSlot}
 use Rattle.world.specs.Ground.{Ground, version_of}
 use Rattle.world.specs.Views.{View, Has, IsLoose}
 use Rattle.world.specs.Kinds.{peeks, flushes}
-use Rattle.world.specs.Attempts.{HoldsOnly}
+use Rattle.world.specs.Attempts.{HoldsOnly, IsIdle}
 use Rattle.world.specs.areas.Areas.{Segment, Stale, header_word}
 use Rattle.world.specs.areas.Rows.{finishes, renews}
 use Rattle.world.specs.areas.Kinds.{of_segment, gives, reads, sets, moves, settles}
@@ -74,12 +74,6 @@ module _ (site : Ground) (guarded : Guarded) where
   -- words of the slot alone are known
   abbrev pub KnowsOnlyOf : View → Type 0
   KnowsOnlyOf v = (p : ℕ × ℕ) → Has p v.known → IsInSlot site.shape guarded.segment p.0
-
-  -- nothing is planned, under way or owed
-  pub record IsIdle (v : View) : Type 0 where
-    pub planned : v.planned ≡ []
-    pub moving : v.moving ≡ []
-    pub owed : v.owed ≡ []
 
   -- its split is to end: the segment claims nothing of its 1-side, and all entries of that name deeper ones
   pub record IsSplit (v : View) : Type 0 where

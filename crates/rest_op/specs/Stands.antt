@@ -9,7 +9,7 @@ use Rattle.way.specs.Ways.{head_word}
 use Rattle.world.specs.Ground.{Ground}
 use Rattle.world.specs.Views.{View, Has, IsLoose}
 use Rattle.world.specs.Kinds.{peeks, flushes}
-use Rattle.world.specs.Attempts.{HoldsOnly}
+use Rattle.world.specs.Attempts.{HoldsOnly, IsIdle}
 use Rattle.world.specs.areas.Areas.{Segment, Whole, header_word}
 use Rattle.world.specs.areas.Rows.{finishes}
 use Rattle.world.specs.areas.Kinds.{sets, moves, settles, opens}
@@ -60,12 +60,6 @@ module _ (site : Ground) (e : Enclosed) where
   -- the 31 words behind the lock word of each bucket are known
   abbrev pub KnowsAll : (first third : ℕ → ℕ) → View → Type 0
   KnowsAll first third v = (b n : ℕ) → b < buckets → mark_place ≤ n → n < block → Has (bucket_at site.shape e.segment b + n, value_of e first third b n) v.known
-
-  -- nothing is planned, under way or owed
-  pub record IsIdle (v : View) : Type 0 where
-    pub planned : v.planned ≡ []
-    pub moving : v.moving ≡ []
-    pub owed : v.owed ≡ []
 
   -- THE SEGMENT IS HELD WHOLE, with its guard and all locks and nothing else; and its header, its link and its words are known, and no others
   pub record HasAll (first third : ℕ → ℕ) (head : ℕ) (v : View) : Type 0 where

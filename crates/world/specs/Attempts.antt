@@ -28,6 +28,12 @@ pub record OwesNothing (v : View) : Type 0 where
   pub owed : v.owed ≡ []
   pub areas : v.areas ≡ []
 
+-- nothing is planned, under way or owed
+pub record IsIdle (v : View) : Type 0 where
+  pub planned : v.planned ≡ []
+  pub moving : v.moving ≡ []
+  pub owed : v.owed ≡ []
+
 -- the replies of another view, and it has seen as much
 pub record HasNoMore (before v : View) : Type 0 where
   pub own : v.own ≡ before.own
