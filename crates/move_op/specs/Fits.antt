@@ -27,7 +27,7 @@ use Rattle.phase.specs.Places.{bucket_of}
 use Rattle.phase.specs.Buckets.{words_in}
 use Rattle.phase.specs.Stands.{IsThere, Leads, IsLoading}
 use Rattle.phase.specs.Taking.{take_kind, IsTaking}
-use Rattle.phase.specs.Giving.{IsLocated, IsHeld, IsQuiet, IsOfHeld, HoldsLocks, give_kind}
+use Rattle.phase.specs.Giving.{IsLocated, IsHeld, IsQuiet, IsOfHeld, HoldsLocks, GivesBack, give_kind}
 use Rattle.phase.specs.Knows.{Knows, HasNoneLoose, IsWhole}
 use Rattle.phase.specs.Making.{make_kind, with_record, with_mark, IsNew, IsMaking}
 use Rattle.phase.specs.Finding.{StandsNowhere}
@@ -216,10 +216,8 @@ module _ (site : Ground) (kept : Kept) where
     pub planned : v.planned ≡ call_of kept.change ∷ []
 
   -- ---- while locks are given back
-  pub record IsGiving (held : Held) (v : View) : Type 0 where
-    pub located : IsLocated site kept.site kept.segment
-    pub locks : HoldsLocks kept.site kept.hash kept.segment held v
-    pub quiet : IsQuiet v
+  abbrev pub IsGiving : Held → View → Type 0
+  IsGiving held v = GivesBack site kept.site kept.hash kept.segment held v
 
   -- at the ends: all locks are kept where no record can move, those of both third buckets among them, and else nothing is
   abbrev pub SuitsEnd : MoveEnd → View → Type 0

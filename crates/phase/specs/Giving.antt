@@ -50,6 +50,12 @@ module _ (here : Site) (hash segment : ℕ) (held : Held) where
     pub areas : v.areas ≡ []
 
 -- ---- given back
+-- while they are given back: the segment is there, these locks are held, and nothing is unsettled, planned, under way or owed
+pub record GivesBack (site : Ground) (here : Site) (hash segment : ℕ) (held : Held) (v : View) : Type 0 where
+  pub located : IsLocated site here segment
+  pub locks : HoldsLocks here hash segment held v
+  pub quiet : IsQuiet v
+
 module _ (here : Site) (hash segment : ℕ) where
   abbrev pub give_kind_of : Option (Role × ℕ) → Kind
   give_kind_of (Some next) = unlocks (lock_word here hash segment next.0) (given_back next.1)

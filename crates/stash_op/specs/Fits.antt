@@ -30,7 +30,7 @@ use Rattle.phase.specs.Helds.{with_held, free_of}
 use Rattle.phase.specs.Buckets.{words_in}
 use Rattle.phase.specs.Stands.{IsThere, Leads, IsLoading}
 use Rattle.phase.specs.Taking.{take_kind, IsTaking}
-use Rattle.phase.specs.Giving.{IsLocated, IsHeld, IsQuiet, IsOfHeld, HoldsLocks, give_kind}
+use Rattle.phase.specs.Giving.{IsHeld, IsQuiet, IsOfHeld, HoldsLocks, GivesBack, give_kind}
 use Rattle.phase.specs.Knows.{Knows, HasNoneLoose}
 use Rattle.phase.specs.Making.{make_kind, with_record, with_mark, IsMaking}
 use Rattle.phase.specs.Finding.{words_of, HasLoadedHeld, StandsNowhere}
@@ -207,10 +207,8 @@ module _ (site : Ground) (kept : Kept) (seen : Seen) where
     pub owes : v.owed ≡ []
 
   -- ---- while locks are given back
-  pub record IsGiving (held : Held) (v : View) : Type 0 where
-    pub located : IsLocated site kept.site kept.segment
-    pub locks : HoldsLocks kept.site kept.hash kept.segment held v
-    pub quiet : IsQuiet v
+  abbrev pub IsGiving : Held → View → Type 0
+  IsGiving held v = GivesBack site kept.site kept.hash kept.segment held v
 
   -- ALL LOCKS ARE KEPT where both stash buckets are full, and the segment that was kept is told; else all is as before a call
   abbrev pub SuitsEnd : StashEnd → View → Type 0

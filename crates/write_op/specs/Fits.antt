@@ -31,7 +31,7 @@ use Rattle.phase.specs.Helds.{none_held, free_of}
 use Rattle.phase.specs.Buckets.{words_in}
 use Rattle.phase.specs.Stands.{walk_kind, back_kind, IsThere, Leads, IsWalking, IsLoading}
 use Rattle.phase.specs.Taking.{take_kind, IsTaking}
-use Rattle.phase.specs.Giving.{IsLocated, IsHeld, IsQuiet, IsOfHeld, HoldsLocks, give_kind}
+use Rattle.phase.specs.Giving.{IsHeld, IsQuiet, IsOfHeld, HoldsLocks, GivesBack, give_kind}
 use Rattle.phase.specs.Knows.{Knows, HasNoneLoose, IsWhole}
 use Rattle.phase.specs.Making.{make_kind, with_record, with_mark, IsNew, IsMaking}
 use Rattle.phase.specs.Finding.{words_of}
@@ -262,10 +262,8 @@ module _ (site : Ground) (task : Task) (seen : Seen) where
     pub owes : v.owed ≡ owed task seen ∷ []
 
   -- ---- while locks are given back
-  pub record IsGiving (held : Held) (v : View) : Type 0 where
-    pub located : IsLocated site task.site seen.path.segment
-    pub locks : HoldsLocks task.site task.hash seen.path.segment held v
-    pub quiet : IsQuiet v
+  abbrev pub IsGiving : Held → View → Type 0
+  IsGiving held v = GivesBack site task.site task.hash seen.path.segment held v
 
   -- at the ends: all locks are kept where no slot is free, and else all is as at the beginning; a segment that is stale is relied on as live
   abbrev pub SuitsEnd : WriteEnd → View → Type 0
