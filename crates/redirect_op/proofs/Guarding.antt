@@ -1,7 +1,6 @@
 -- The guard of the directory is taken, and given back once all is settled.
-use Rattle.std.proofs.Common.{◌≡◌, ℕ, suc, ◌≤◌, inl, inr, Bool, true, false, Option, Some, List, [], ◌∷◌, refl, sym, ap, ◌∙◌, subst, arith}
+use Rattle.std.proofs.Common.{◌≡◌, ℕ, suc, inl, inr, Bool, true, false, Option, Some, List, [], ◌∷◌, refl, sym, ap, subst, arith}
 use Rattle.std.specs.Prelude.{◌==◌, ◌||◌, ◌&&◌, not, nat_le, nat_lt, if◌then◌else◌}
-use Rattle.std.proofs.lemmas.Bool.{ne_eqb, le-ltb}
 use Rattle.op_core.specs.declared.want.Ans.TheVariants.{Won, Lost}
 use Rattle.image_layout.specs.Places.{Shape, block, root_word, first_segment}
 use Rattle.frame_facts.specs.Facts.{Fact}

@@ -13,7 +13,7 @@ use Rattle.map_model.specs.Changes.{call_of}
 use Rattle.map_model.specs.Weave.{spent_count}
 use Rattle.world.specs.declared.site.Site.{Site}
 use Rattle.world.specs.Ground.{Ground, version_of}
-use Rattle.world.specs.Views.{Owed, View, Has}
+use Rattle.world.specs.Views.{Owed, View}
 use Rattle.world.specs.Kinds.{Kind, peeks, pins, finds_room, refuses, learns, stores, repays, publishes, stashes, draws_place}
 use Rattle.world.specs.Conditions.{FoundSpent}
 use Rattle.world.specs.Attempts.{HoldsOnly}

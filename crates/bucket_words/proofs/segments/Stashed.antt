@@ -1,6 +1,5 @@
 -- The records of a home in the stash: notes that are exact name them, and a record that comes there or leaves is one more or one less.
 use Rattle.std.proofs.Common.{◌≡◌, ℕ, zero, suc, ◌+◌, ◌<◌, ◌≤◌, List, [], ◌∷◌, ◌++◌, length, refl, sym, ap, subst, ◌∙◌, inl, inr, arith}
-use Rattle.std.specs.Prelude.{◌==◌, ◌&&◌, if◌then◌else◌}
 use Rattle.std.proofs.lemmas.Bool.{cases_eq, eq-eqb, ne_eqb}
 use Rattle.hash_word.specs.Hash.{home_of, finger_of}
 use Rattle.bucket_meta.specs.Notes.{OverflowNote, how_often, AreExact}

@@ -1,5 +1,5 @@
 -- Each outcome has its cause, beside any other callers; and who is told that a lock is taken does not hold it.
-use Rattle.std.proofs.Common.{◌≡◌, ◌≢◌, ℕ, ◌+◌, ◌<◌, false, None, Some, IsTrue, inl, inr, refl, sym, ap, ◌∙◌, subst, arith, slice_index}
+use Rattle.std.proofs.Common.{◌≡◌, ◌≢◌, ℕ, ◌+◌, ◌<◌, false, None, Some, IsTrue, inl, inr, refl, sym, ap, ◌∙◌, subst, slice_index}
 use Rattle.std.specs.Prelude.{⊤, if◌then◌else◌}
 use Rattle.std.proofs.lemmas.Bool.{lt-ltb}
 use Rattle.std.proofs.lemmas.Option.{none-some, same_Some}
@@ -10,7 +10,7 @@ use Rattle.op_core.specs.declared.want.Ans.TheVariants.{Passed}
 use Rattle.op_core.specs.declared.why.Why.{Why}
 use Rattle.op_core.specs.declared.why.Why.TheVariants.{Busy, Moved}
 use Rattle.trace.specs.Events.{Words}
-use Rattle.image_layout.specs.Places.{Shape, root_word, bucket_at, homes, stash_buckets}
+use Rattle.image_layout.specs.Places.{Shape, root_word, bucket_at, homes}
 use Rattle.sound_image.specs.Records.{key_hash}
 use Rattle.map_model.specs.declared.call.Call.{Call}
 use Rattle.map_model.specs.declared.entry.Reply.{Reply}

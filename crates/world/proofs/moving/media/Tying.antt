@@ -19,7 +19,7 @@ use Rattle.world.specs.Tied.{Tied}
 use Rattle.world.specs.areas.Areas.{Area, Segment, Stale, Side, Free, Whole, Allocation, Directory, header_word, InArea, link_word}
 use Rattle.world.specs.areas.Fitting.{HoldsWord, LivesOn, IsLivingLock}
 use Rattle.world.specs.areas.Rows.{Row, marks, news, goes_live, finishes, unmarks, frees, renews, HasForRow}
-use Rattle.world.specs.areas.Kinds.{Guard, of_segment, of_free_slots, of_directory, guard_word, StructureKind, takes, takes_for_side, gives, finds_stale, closes, finds_free, finds_link, finds_side, finds_entry, finds_begin, reads, sets, moves, settles, settles_side, opens, wanted_at, with_guard, with_area, with_slot, is_new_side, view_then, with_guard_for}
+use Rattle.world.specs.areas.Kinds.{Guard, of_free_slots, guard_word, StructureKind, takes, takes_for_side, gives, finds_stale, closes, finds_free, finds_link, finds_side, finds_entry, finds_begin, reads, sets, moves, settles, settles_side, opens, wanted_at, with_guard, with_area, with_slot, is_new_side, view_then, with_guard_for}
 use Rattle.world.specs.areas.Asking.{MayAt}
 use Rattle.world.specs.Invariant.{Holds}
 use Rattle.world.specs.areas.Keeping.{found_at, words_then, views_then}
