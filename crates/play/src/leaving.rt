@@ -17,11 +17,8 @@ use crate::caller::Caller;
 use crate::run_state::RunState;
 use image_file::Medium;
 use map_model::{MOST_CALLERS, Stop};
-use pm_trace::Device;
+use pm_trace::{ALL_NEWEST, Device};
 use reply_text::Session;
-
-/// The choice of a cut that takes each newest value.
-const NEWEST: u64 = 1;
 
 /// The medium that is left at a cut with this choice, or else where each newest value has settled.
 fn medium_of(device: Device, cut: Option<u64>) -> Medium
@@ -32,7 +29,7 @@ fn medium_of(device: Device, cut: Option<u64>) -> Medium
     trace::settled_values();
     match cut {
         Some(choice) => device.cut(choice),
-        None => device.cut(NEWEST),
+        None => device.cut(ALL_NEWEST),
     }
 }
 

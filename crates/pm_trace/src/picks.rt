@@ -5,18 +5,22 @@ ghost use Rattle.pm_trace.specs.Choice.{takes_newest, next_state, number_of, cho
 
 use hash_word::{Kind, hash};
 
+/// The choice that takes no newest value.
+const NO_NEWEST: u64 = 0;
+/// The choice that takes each newest value.
+pub const ALL_NEWEST: u64 = 1;
 /// From this choice on the choice is the state of a stream.
 const FIRST_STREAM: u64 = 1 << 63;
 /// What a SplitMix64 stream adds to its state for each number.
 const STRIDE: u64 = 0x9E37_79B9_7F4A_7C15;
 
-/// The value that a choice below 2^63 takes for a word.
+/// The value that a choice before the streams takes for a word.
 fn picked(choice: u64, word: u64, settled: u64, newest: u64) -> u64
     ensures { result ≡ (if takes_newest choice word then newest else settled) }
 {
     let takes_newest = match choice {
-        0 => false,
-        1 => true,
+        NO_NEWEST => false,
+        ALL_NEWEST => true,
         _ => (word == choice / 2 - 1) == (choice % 2 == 0),
     };
     if takes_newest { newest } else { settled }
