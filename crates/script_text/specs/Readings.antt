@@ -24,9 +24,13 @@ abbrev pub number_behind : ℕ → List ℕ → Option ℕ
 number_behind n [] = if nat_lt n (2 ^ 64) then Some n else None
 number_behind n (byte ∷ bytes) = if is_digit byte then number_behind (n * 10 + (byte - 48)) bytes else None
 
--- a number is 1 to 20 decimal digits, of a value of 64 bits
+-- the most digits that a number may have: as many as the greatest number below 2^64 has
+abbrev pub most_digits : ℕ
+most_digits = 20
+
+-- a number is at least one decimal digit and at most so many, of a value of 64 bits
 abbrev pub number : List ℕ → Option ℕ
-number word = if nat_le 1 (length word) && nat_le (length word) 20 then number_behind 0 word else None
+number word = if nat_le 1 (length word) && nat_le (length word) most_digits then number_behind 0 word else None
 
 -- CALLERS
 -- the range of those who call: 1 to 64

@@ -2,7 +2,7 @@
 ghost use Rattle.std.specs.Prelude.{◌≡◌};
 ghost use Rattle.script_text.specs.Readings.{number};
 
-// The most digits that a number may have.
+// The most digits that a number may have: as many as the greatest number below 2^64 has.
 const MOST_DIGITS: usize = 20;
 
 /// The number that a word is: 1 to 20 decimal digits, of a value of 64 bits. `None` for any other word.
