@@ -1,5 +1,6 @@
 // A sink that passes everything on, and keeps the front of it: the line of a refusal, by which its message is chosen.
 ghost use Rattle.std.specs.Prelude.{◌≤◌};
+ghost use Rattle.command_line.specs.declared.heard.TheConstants.{MOST_KEPT};
 
 use outside::{Failed, Sink};
 
@@ -11,7 +12,7 @@ const MOST_KEPT: usize = 64;
 struct Front {
     bytes: [u8; MOST_KEPT],
     len: usize,
-    ghost within: { len ≤ 64 },
+    ghost within: { len ≤ MOST_KEPT },
 }
 
 impl Front {
