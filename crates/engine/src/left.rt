@@ -12,6 +12,7 @@ const EVENTS_OF_ATTEMPT: u64 = 490_817;
 /// leaves one stale segment fewer and frees one slot at the most, and the call is tried once before each of them and once behind the last.
 pub fn events_of_call(geometry: &Geometry) -> u64
     ensures is { result ≡ events_of_call geometry.now }
+    // The most is that of the largest image, `(6 * most_segments + 5) * (most_alone + 1)`, written out.
     ensures most { result ≤ 48251728453 }
 {
     (6 * geometry.segments() + 5) * EVENTS_OF_ATTEMPT
