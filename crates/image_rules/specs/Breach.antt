@@ -2,7 +2,7 @@
 use Rattle.std.specs.Prelude.{ℕ, ◌<◌}
 use Rattle.image_layout.specs.Places.{Shape}
 use Rattle.sound_image.specs.Segments.{ImageWords}
-use Rattle.sound_image.specs.Rules.{NumbersFit, HashesAreOwned, EntriesLead, RecordsStandRight, KeysHaveOneValue, VersionsArePast, CleanMeansRepaired}
+use Rattle.sound_image.specs.Rules.{numbers_rule, owners_rule, entries_rule, records_rule, values_rule, versions_rule, repaired_rule, NumbersFit, HashesAreOwned, EntriesLead, RecordsStandRight, KeysHaveOneValue, VersionsArePast, CleanMeansRepaired}
 use Rattle.image_rules.specs.declared.breach.Rule.{Rule}
 use Rattle.image_rules.specs.declared.breach.Rule.TheVariants as rule
 
@@ -13,13 +13,13 @@ pub record IsLeast (Holds : ℕ → Type 0) (w : ℕ) : Type 0 where
 
 -- the number by which a rule is told
 abbrev pub number_of : Rule → ℕ
-number_of rule.Numbers = 1
-number_of rule.Owners = 2
-number_of rule.Entries = 3
-number_of rule.Records = 4
-number_of rule.Values = 5
-number_of rule.Versions = 6
-number_of rule.Repaired = 7
+number_of rule.Numbers = numbers_rule
+number_of rule.Owners = owners_rule
+number_of rule.Entries = entries_rule
+number_of rule.Records = records_rule
+number_of rule.Values = values_rule
+number_of rule.Versions = versions_rule
+number_of rule.Repaired = repaired_rule
 
 module _ (shape : Shape) (word : ImageWords) where
   -- what a rule says of a word

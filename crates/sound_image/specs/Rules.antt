@@ -10,6 +10,28 @@ use Rattle.sound_image.specs.Segments.{ImageWords, Frame, frame_of, image_versio
 use Rattle.sound_image.specs.Directory.{RootInRange, VersionInRange, HeadInRange, LinkInRange, HasOwners, SharesWell, EntryLeads, VersionIsPast}
 use Rattle.sound_image.specs.Records.{word_in, slot_key, slot_value, slot_hash, HasRecord, HasOwnRecord, HasExactNotes}
 
+-- the number of each rule, in the order in which they are looked at
+abbrev pub numbers_rule : ℕ
+numbers_rule = 1
+
+abbrev pub owners_rule : ℕ
+owners_rule = 2
+
+abbrev pub entries_rule : ℕ
+entries_rule = 3
+
+abbrev pub records_rule : ℕ
+records_rule = 4
+
+abbrev pub values_rule : ℕ
+values_rule = 5
+
+abbrev pub versions_rule : ℕ
+versions_rule = 6
+
+abbrev pub repaired_rule : ℕ
+repaired_rule = 7
+
 module _ (shape : Shape) (word : ImageWords) where
   abbrev frame : Frame
   frame = frame_of shape word
@@ -77,15 +99,15 @@ module _ (shape : Shape) (word : ImageWords) where
     pub once : (s b r : ℕ) → IsCleanAndCurrent s → HasRecord shape word s b r → w ≡ key_at shape s b r → NotBefore s b r
     pub notes : (s b : ℕ) → IsCleanAndCurrent s → b < homes → w ≡ bucket_at shape s b + mark_place → HasExactNotes shape word s b
 
-  -- the rules by their numbers, in the order in which they are looked at
+  -- the rules by their numbers
   pub record Rule (n w : ℕ) : Type 0 where
-    pub one : n ≡ 1 → NumbersFit w
-    pub two : n ≡ 2 → HashesAreOwned w
-    pub three : n ≡ 3 → EntriesLead w
-    pub four : n ≡ 4 → RecordsStandRight w
-    pub five : n ≡ 5 → KeysHaveOneValue w
-    pub six : n ≡ 6 → VersionsArePast w
-    pub seven : n ≡ 7 → CleanMeansRepaired w
+    pub one : n ≡ numbers_rule → NumbersFit w
+    pub two : n ≡ owners_rule → HashesAreOwned w
+    pub three : n ≡ entries_rule → EntriesLead w
+    pub four : n ≡ records_rule → RecordsStandRight w
+    pub five : n ≡ values_rule → KeysHaveOneValue w
+    pub six : n ≡ versions_rule → VersionsArePast w
+    pub seven : n ≡ repaired_rule → CleanMeansRepaired w
 
   -- each rule holds of each word
   abbrev pub FollowsRules : Type 0
