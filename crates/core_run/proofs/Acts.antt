@@ -1,6 +1,6 @@
 -- A run is one act after another, and each act keeps a state of the run.
 use Rattle.std.proofs.Common.{inl, inr, slice_get, ◌≡◌, ℕ, zero, suc, ◌+◌, Bool, true, false, Option, Some, None, List, [], ◌∷◌, ◌++◌, length, take, drop, refl, sym, ◌∙◌, ap, subst, arith}
-use Rattle.std.specs.Prelude.{nat_lt, if◌then◌else◌}
+use Rattle.std.specs.Prelude.{nat_lt, is_some, if◌then◌else◌}
 use Rattle.std.specs.List.{AllByRecursion, AllZip}
 use Rattle.std.proofs.lemmas.List.{append_assoc, take-append-drop}
 use Rattle.std.proofs.Math.Seq.{take-append_seam, take-append-add}
@@ -25,7 +25,7 @@ use Rattle.core_run.specs.declared.keeper.Keeper.TheVariants.{Restarting, Open, 
 use Rattle.core_run.specs.declared.goal.Goal.{Goal}
 use Rattle.core_run.specs.declared.goal.Goal.TheVariants.{AnyEvent, Kind, StoreTo, Turn}
 use Rattle.core_run.specs.State.{State, Deed, by_keeper, restarting, keeper_deed, call_deed, caller_deed, open_deed, deed}
-use Rattle.core_run.specs.Run.{counts, stops, by_deed, drive, restarted_by, restarted, round, has_call, has_calls, rounds, close_begins, run_out, ready_for, line_done, lines_done, closed, cut_of, state_at_end}
+use Rattle.core_run.specs.Run.{counts, stops, by_deed, drive, restarted_by, restarted, round, has_calls, rounds, close_begins, run_out, ready_for, line_done, lines_done, closed, cut_of, state_at_end}
 use Rattle.core_run.specs.Running.{Setup, IsSetup, site_in, IsRunning, IsRunningBy, DeedsAreWell}
 use Rattle.core_run.specs.States.{RunBegins, CloseMayBegin, MomentsAreGood}
 use Rattle.core_run.specs.Along.{BeginsAlong}
@@ -102,7 +102,7 @@ engine_rests site c v (Some e) here does none = absurd (none-some does.call (sym
 no_call_here : (shape : Shape) (n : ℕ) (c : Caller) (cs : List Caller) → has_calls shape n (c ∷ cs) ≡ false → (current c ≡ None) × (has_calls shape n cs ≡ false)
 no_call_here shape n c cs none = by (current c) refl none
   where
-    by : (o : Option Call) → current c ≡ o → (if has_call shape n o then true else has_calls shape n cs) ≡ false → (current c ≡ None) × (has_calls shape n cs ≡ false)
+    by : (o : Option Call) → current c ≡ o → (if is_some o then true else has_calls shape n cs) ≡ false → (current c ≡ None) × (has_calls shape n cs ≡ false)
     by None is none = (is, none)
     by (Some call) is none = absurd (let z : true ≡ false = none in cc)
 

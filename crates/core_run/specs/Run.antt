@@ -1,5 +1,5 @@
 -- A run of a script: its schedule line by line, the end rule, and what is left.
-use Rattle.std.specs.Prelude.{ℕ, zero, suc, ◌+◌, ◌*◌, ◌==◌, ◌||◌, nat_lt, Bool, true, false, Option, None, Some, List, [], ◌∷◌, length, map, if◌then◌else◌}
+use Rattle.std.specs.Prelude.{ℕ, zero, suc, ◌+◌, ◌*◌, ◌==◌, ◌||◌, nat_lt, Bool, true, false, Option, None, Some, is_some, List, [], ◌∷◌, length, map, if◌then◌else◌}
 use Rattle.std.specs.List.{range_with_len}
 use Rattle.op_core.specs.declared.want.Want.{Want}
 use Rattle.op_core.specs.declared.want.Want.TheVariants as want
@@ -7,7 +7,6 @@ use Rattle.trace.specs.Events.{Words}
 use Rattle.trace.specs.Steps.{settled_value}
 use Rattle.image_layout.specs.Places.{Shape, words_of}
 use Rattle.map_model.specs.declared.call.Call.{Call}
-use Rattle.map_model.specs.declared.entry.Reply.{Reply}
 use Rattle.map_model.specs.declared.entry.Stop.{Stop}
 use Rattle.script_text.specs.declared.line.Counted.{Counted}
 use Rattle.script_text.specs.declared.line.Counted.TheVariants as counted
@@ -50,14 +49,10 @@ abbrev pub is_store_to : ℕ → Want → Bool
 is_store_to word (want.Store w x) = w == word
 is_store_to word w = false
 
-abbrev pub is_some_reply : Option (Reply × ℕ) → Bool
-is_some_reply None = false
-is_some_reply (Some r) = true
-
 -- an attempt ended with the reply to its call
 abbrev pub ends_call : Option End → Bool
 ends_call None = false
-ends_call (Some end) = is_some_reply (reply_of_end end)
+ends_call (Some end) = is_some (reply_of_end end)
 
 abbrev pub is_of_kind : Counted → Deed → Bool
 is_of_kind counted.Store d = is_store d.want
@@ -115,13 +110,9 @@ module _ (shape : Shape) where
     round c [] s = s
     round c (caller ∷ callers) s = round (suc c) callers (drive most c Turn 1 s)
 
-    abbrev pub has_call : Option Call → Bool
-    has_call None = false
-    has_call (Some call) = true
-
     abbrev pub has_calls : List Caller → Bool
     has_calls [] = false
-    has_calls (c ∷ callers) = if has_call (current c) then true else has_calls callers
+    has_calls (c ∷ callers) = if is_some (current c) then true else has_calls callers
 
     -- THE END RULE: rounds until no call is left, at most so many
     abbrev pub rounds : ℕ → State → State

@@ -1,5 +1,5 @@
 -- A call that is tried until it has a reply.
-use Rattle.std.specs.Prelude.{◌≡◌, ◌≢◌, ℕ, ⊤, ◌<◌, ◌≤◌, ◌⊎◌, Bool, true, false, Option, None, Some, List, ◌++◌, length, []}
+use Rattle.std.specs.Prelude.{◌≡◌, ◌≢◌, ℕ, ⊤, ◌<◌, ◌≤◌, ◌⊎◌, Bool, true, Option, None, Some, List, ◌++◌, length, []}
 use Rattle.op_core.specs.declared.want.Want.{Want}
 use Rattle.op_core.specs.declared.want.Want.TheVariants.{Done}
 use Rattle.map_model.specs.declared.call.Call.{Call}
@@ -34,11 +34,6 @@ pub record HasReplied (call : Call) (p : Watch) (reply : Reply) (place : ℕ) (q
 abbrev pub CameToReply : Call → Watch → Option (Reply × ℕ) → Watch → Type 0
 CameToReply call p None q = ⊤
 CameToReply call p (Some r) q = HasReplied call p r.0 r.1 q
-
--- the power is off exactly where there is no reply
-abbrev pub has_none : Option (Reply × ℕ) → Bool
-has_none None = true
-has_none (Some r) = false
 
 -- WHY A CALL GAVE UP: the power of its caller was off before, and it took no event; or the gate has cut the power, and has no pass left where it told of them;
 -- or among the events that it took is a look at the power word, which found another one than that of a power that is on

@@ -1,11 +1,11 @@
 //! Calls that are tried until they have a reply.
 
-ghost use Rattle.std.specs.Prelude.{◌≡◌, false, None};
+ghost use Rattle.std.specs.Prelude.{◌≡◌, false, None, is_none};
 ghost use Rattle.map_model.specs.declared.call.Call.TheVariants.{Get, Insert, Update, Remove};
 ghost use Rattle.shared_call.specs.Engines.{IsWordCall};
 ghost use Rattle.shared_image.specs.Powered.{ground_in, IsOn, IsPassOf};
 ghost use Rattle.shared_image.specs.Calling.{IsSiteOf, IsCallerOf, Rests};
-ghost use Rattle.shared_image.specs.Waiting.{HasTaken, CameToReply, GaveUpFor, has_none};
+ghost use Rattle.shared_image.specs.Waiting.{HasTaken, CameToReply, GaveUpFor};
 
 use crate::caller::Caller;
 use crate::calls::{first_try, next_try};
@@ -40,7 +40,7 @@ pub(crate) fn call_in<R: Wait, G: Gate>(
     ensures came { CameToReply call pass.old.me.0 result pass.new.me.0 }
     ensures taken { HasTaken pass.old.me.0 (G.left gate.old) pass.new.me.0 (G.left gate.new) }
     ensures why { result ≡ None → GaveUpFor off.old pass.old.me.0 (G.left gate.old) pass.new.me.0 (G.left gate.new) (G.cuts gate.new) }
-    ensures off { off.new ≡ has_none result }
+    ensures off { off.new ≡ is_none result }
 {
     let backoff = Backoff::new();
     let mut answer = first_try(image, pass, gate, engine, off, call, site);
@@ -69,7 +69,7 @@ impl<'a, G: Gate> Caller<'a, G> {
         ensures came { CameToReply call self.old.pass.me.0 result self.new.pass.me.0 }
         ensures taken { HasTaken self.old.pass.me.0 (G.left self.old.gate) self.new.pass.me.0 (G.left self.new.gate) }
         ensures why { result ≡ None → GaveUpFor self.old.off self.old.pass.me.0 (G.left self.old.gate) self.new.pass.me.0 (G.left self.new.gate) (G.cuts self.new.gate) }
-        ensures off { self.new.off ≡ has_none result }
+        ensures off { self.new.off ≡ is_none result }
     {
         self.call = call;
         call_in(
@@ -93,7 +93,7 @@ impl<'a, G: Gate> Caller<'a, G> {
         ensures came { CameToReply (Get key) self.old.pass.me.0 result self.new.pass.me.0 }
         ensures taken { HasTaken self.old.pass.me.0 (G.left self.old.gate) self.new.pass.me.0 (G.left self.new.gate) }
         ensures why { result ≡ None → GaveUpFor self.old.off self.old.pass.me.0 (G.left self.old.gate) self.new.pass.me.0 (G.left self.new.gate) (G.cuts self.new.gate) }
-        ensures off { self.new.off ≡ has_none result }
+        ensures off { self.new.off ≡ is_none result }
     {
         self.make(rt, Call::Get(key))
     }
@@ -107,7 +107,7 @@ impl<'a, G: Gate> Caller<'a, G> {
         ensures came { CameToReply (Insert key value) self.old.pass.me.0 result self.new.pass.me.0 }
         ensures taken { HasTaken self.old.pass.me.0 (G.left self.old.gate) self.new.pass.me.0 (G.left self.new.gate) }
         ensures why { result ≡ None → GaveUpFor self.old.off self.old.pass.me.0 (G.left self.old.gate) self.new.pass.me.0 (G.left self.new.gate) (G.cuts self.new.gate) }
-        ensures off { self.new.off ≡ has_none result }
+        ensures off { self.new.off ≡ is_none result }
     {
         self.make(rt, Call::Insert(key, value))
     }
@@ -121,7 +121,7 @@ impl<'a, G: Gate> Caller<'a, G> {
         ensures came { CameToReply (Update key value) self.old.pass.me.0 result self.new.pass.me.0 }
         ensures taken { HasTaken self.old.pass.me.0 (G.left self.old.gate) self.new.pass.me.0 (G.left self.new.gate) }
         ensures why { result ≡ None → GaveUpFor self.old.off self.old.pass.me.0 (G.left self.old.gate) self.new.pass.me.0 (G.left self.new.gate) (G.cuts self.new.gate) }
-        ensures off { self.new.off ≡ has_none result }
+        ensures off { self.new.off ≡ is_none result }
     {
         self.make(rt, Call::Update(key, value))
     }
@@ -135,7 +135,7 @@ impl<'a, G: Gate> Caller<'a, G> {
         ensures came { CameToReply (Remove key) self.old.pass.me.0 result self.new.pass.me.0 }
         ensures taken { HasTaken self.old.pass.me.0 (G.left self.old.gate) self.new.pass.me.0 (G.left self.new.gate) }
         ensures why { result ≡ None → GaveUpFor self.old.off self.old.pass.me.0 (G.left self.old.gate) self.new.pass.me.0 (G.left self.new.gate) (G.cuts self.new.gate) }
-        ensures off { self.new.off ≡ has_none result }
+        ensures off { self.new.off ≡ is_none result }
     {
         self.make(rt, Call::Remove(key))
     }

@@ -1,6 +1,6 @@
 -- From the third round of the end rule on: where all rest each turn of a caller that has a call left ends that call, and so the calls run out.
 use Rattle.std.proofs.Common.{◌≡◌, ◌≢◌, ℕ, zero, suc, ◌+◌, ◌*◌, ◌<◌, ◌≤◌, inl, inr, ◌⊎◌, Bool, true, false, Option, Some, None, List, [], ◌∷◌, length, map, slice_get, refl, sym, ◌∙◌, ap, subst, arith}
-use Rattle.std.specs.Prelude.{if◌then◌else◌}
+use Rattle.std.specs.Prelude.{is_some, if◌then◌else◌}
 use Rattle.std.specs.List.{AllByRecursion, AllZip}
 use Rattle.std.proofs.lemmas.Bool.{cases_eq}
 use Rattle.std.proofs.lemmas.Option.{none-some, same_Some, slice_get_within}
@@ -21,7 +21,7 @@ use Rattle.engine.specs.Alone.{IsResting, IsAlone, along}
 use Rattle.core_run.specs.declared.keeper.Keeper.TheVariants.{Open}
 use Rattle.core_run.specs.declared.goal.Goal.TheVariants.{Turn}
 use Rattle.core_run.specs.State.{State, end_by}
-use Rattle.core_run.specs.Run.{ends_call, ends_in_again, has_call, has_calls, rounds, all_calls}
+use Rattle.core_run.specs.Run.{ends_call, ends_in_again, has_calls, rounds, all_calls}
 use Rattle.core_run.specs.Running.{Setup, IsSetup, site_in, IsOpen}
 use Rattle.core_run.specs.Along.{all_behind, behind as behind_of}
 use Rattle.core_run.specs.Ends.{IsRun, most_of}
@@ -56,7 +56,7 @@ module _ (shape : Shape) (most : ℕ) where
   none_call [] none = tt
   none_call (c ∷ callers) none = by (none_call callers) (current c) refl none
     where
-      by : (has_calls shape most callers ≡ false → NoneCalls callers) → (q : Option Call) → current c ≡ q → (if has_call shape most q then true else has_calls shape most callers) ≡ false
+      by : (has_calls shape most callers ≡ false → NoneCalls callers) → (q : Option Call) → current c ≡ q → (if is_some q then true else has_calls shape most callers) ≡ false
           → (current c ≡ None) × NoneCalls callers
       by rest None is none = (is, rest none)
       by rest (Some call) is none = absurd (let no : true ≡ false = none in cc)

@@ -1,5 +1,5 @@
 -- An event of a caller while the image is open, and how it leaves the callers and the turns that led there.
-use Rattle.std.proofs.Common.{◌≡◌, ◌≢◌, ℕ, suc, ◌+◌, ◌<◌, ◌≤◌, inl, inr, ◌⊎◌, true, false, Option, Some, None, List, [], ◌∷◌, ◌++◌, length, slice_get, refl, sym, ◌∙◌, ap, subst, arith, length-append}
+use Rattle.std.proofs.Common.{◌≡◌, ◌≢◌, ℕ, suc, ◌+◌, ◌<◌, ◌≤◌, inl, inr, ◌⊎◌, true, false, Option, Some, None, is_some, List, [], ◌∷◌, ◌++◌, length, slice_get, refl, sym, ◌∙◌, ap, subst, arith, length-append}
 use Rattle.std.proofs.lemmas.Option.{none-some, same_Some, slice_get_within}
 use Rattle.image_layout.specs.Places.{Shape}
 use Rattle.op_core.specs.declared.want.Want.{Want}
@@ -19,7 +19,7 @@ use Rattle.engine.proofs.Places.{zip_at, set_cases}
 use Rattle.engine.proofs.attempts.Doing.{one_more_turn}
 use Rattle.core_run.specs.declared.keeper.Keeper.TheVariants.{Open}
 use Rattle.core_run.specs.State.{State, Deed, end_by, engine_deed, call_deed, caller_deed, deed}
-use Rattle.core_run.specs.Run.{is_some_reply, ends_call}
+use Rattle.core_run.specs.Run.{ends_call}
 use Rattle.core_run.specs.Running.{Setup, IsSetup, site_in, IsOpen, DeedsAreWell}
 use Rattle.core_run.specs.Along.{behind, all_behind}
 use Rattle.core_run.proofs.ends.Staying.{behind_set, set_here, turn_is as turn_at, deed_is as deed_at}
@@ -44,7 +44,7 @@ module _ (shape : Shape) (c : Caller) (call : Call) (e : Engine) where
   has_ended w is end q = absurd (none-some end q)
 
   -- with no reply the call is the same, and as many are behind
-  ended_same : (o : Option (Reply × ℕ)) → is_some_reply o ≡ false → (behind (ended c call (end_of e) o) ≡ behind c) × (current (ended c call (end_of e) o) ≡ current c)
+  ended_same : (o : Option (Reply × ℕ)) → is_some o ≡ false → (behind (ended c call (end_of e) o) ≡ behind c) × (current (ended c call (end_of e) o) ≡ current c)
   ended_same None untold = (refl, refl)
   ended_same (Some r) untold = absurd (let no : true ≡ false = untold in cc)
 
@@ -53,7 +53,7 @@ module _ (shape : Shape) (c : Caller) (call : Call) (e : Engine) where
   same_call w untold = (refl, refl)
 
   -- and with its reply one is no more
-  ended_fewer : length c.entries < length c.calls → (o : Option (Reply × ℕ)) → is_some_reply o ≡ true → behind (ended c call (end_of e) o) + 1 ≡ behind c
+  ended_fewer : length c.entries < length c.calls → (o : Option (Reply × ℕ)) → is_some o ≡ true → behind (ended c call (end_of e) o) + 1 ≡ behind c
   ended_fewer within None told = absurd (let no : false ≡ true = told in cc)
   ended_fewer within (Some r) told = let more = length-append c.entries (entry_of c call r.0 r.1 ∷ []) in omega (arith, more, within)
 

@@ -1,8 +1,7 @@
 -- Rounds of a run state, the end of its calls, and the lines of a script.
-use Rattle.std.proofs.Common.{◌≡◌, ℕ, zero, suc, ◌+◌, ◌-◌, ◌<◌, ◌≤◌, Option, None, Some, Bool, true, false, List, [], ◌∷◌, length, drop, refl, ap, sym, ◌∙◌, subst, arith}
+use Rattle.std.proofs.Common.{◌≡◌, ℕ, zero, suc, ◌+◌, ◌-◌, ◌<◌, ◌≤◌, Bool, true, false, List, [], ◌∷◌, length, drop, refl, ap, sym, ◌∙◌, subst, arith}
 use Rattle.std.specs.Prelude.{if◌then◌else◌, slice_get, slice_index_or, is_some}
 use Rattle.std.proofs.lemmas.List.{drop_all}
-use Rattle.map_model.specs.declared.call.Call.{Call}
 use Rattle.map_model.specs.Roomed.{Roomed}
 use Rattle.image_layout.specs.Places.{Shape}
 use Rattle.script_text.specs.declared.line.Line.{Line}
@@ -13,7 +12,7 @@ use Rattle.core_run.specs.declared.goal.Goal.TheVariants.{AnyEvent, Turn}
 use Rattle.core_run.specs.declared.keeper.Keeper.{Keeper}
 use Rattle.core_run.specs.declared.keeper.Keeper.TheVariants.{Restarting, Open, Closing, Closed}
 use Rattle.core_run.specs.State.{State}
-use Rattle.core_run.specs.Run.{drive, has_call, has_calls, round, rounds, restarted, restarted_by, close_begins, ready_for, line_done, lines_done}
+use Rattle.core_run.specs.Run.{drive, has_calls, round, rounds, restarted, restarted_by, close_begins, ready_for, line_done, lines_done}
 use Rattle.core_run.specs.Running.{Setup, IsRunning}
 use Rattle.core_run.specs.Wells.{RunsThrough}
 use Rattle.play.specs.declared.run_state.RunState.{RunState}
@@ -60,10 +59,6 @@ round_ends t s most done run_state over within =
     (sym (within.rest ∙ ap (λ cs. round t.shape most (suc done) cs within.now) (drop_all done s.core.callers over))) within.stands
 
 -- ---- rounds
-same_test : (shape : Shape) (most : ℕ) (o : Option Call) → is_some o ≡ has_call shape most o
-same_test shape most None = refl
-same_test shape most (Some call) = refl
-
 calls_are : (shape : Shape) (most : ℕ) (callers : List PlayCaller) (lists : List Roomed) → HaveRoom callers lists
     → calls_left callers ≡ has_calls shape most (callers_of callers lists)
 calls_are shape most [] [] room = refl
@@ -71,8 +66,7 @@ calls_are shape most [] (k ∷ lists) room = refl
 calls_are shape most (r ∷ callers) [] room = absurd room
 calls_are shape most (r ∷ callers) (k ∷ lists) room =
     ap (λ (n : ℕ). if is_some (slice_get r.calls.items n) then true else calls_left callers) room.0.counted
-    ∙ ap (λ (b : Bool). if b then true else calls_left callers) (same_test shape most (slice_get r.calls.items (length k.entries)))
-    ∙ ap (λ (b : Bool). if has_call shape most (slice_get r.calls.items (length k.entries)) then true else b) (calls_are shape most callers lists room.1)
+    ∙ ap (λ (b : Bool). if is_some (slice_get r.calls.items (length k.entries)) then true else b) (calls_are shape most callers lists room.1)
 
 pub calls_said : (t : Setup) (s : State) (most : ℕ) (run_state : RunState) → IsOf t run_state s → calls_left run_state.callers.items ≡ has_calls t.shape most s.core.callers
 calls_said t s most run_state is = calls_are t.shape most run_state.callers.items run_state.lists is.room ∙ ap (λ cs. has_calls t.shape most cs) is.its_callers
