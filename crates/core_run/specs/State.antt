@@ -68,6 +68,11 @@ pub record Deed : Type 0 where
   pub waits : Bool
   pub state : State
 
+-- the keeper after an event of the close, by what it wants next: the close goes on, or is over
+abbrev pub closing_keeper : CloseOp → Want → Keeper
+closing_keeper op want.Done = Closed
+closing_keeper op w = Closing op
+
 module _ (shape : Shape) where
   -- the core after an event of caller 0
   abbrev pub by_keeper : Want → Core → Core
@@ -81,11 +86,6 @@ module _ (shape : Shape) where
   restarting op want.Done core = record { keeper = Open; core = record core { callers = map (awake (started_by op).version) core.callers } }
   restarting op w core = record { keeper = Restarting op; core = core }
 
-  -- the close goes on, or is over
-  abbrev pub closing : CloseOp → Want → Keeper
-  closing op want.Done = Closed
-  closing op w = Closing op
-
   abbrev pub restart_deed : RestartOp → Core → Deed
   restart_deed op core =
       let w : Want = restart_wanted op in
@@ -96,7 +96,7 @@ module _ (shape : Shape) where
   close_deed op core =
       let w : Want = close_wanted op in
       let next : CloseOp = close_taken op (answer_to w (core.words (word_of shape w))) in
-      record { want = w; end = None; tried = false; waits = false; state = record { keeper = closing next (close_wanted next); core = by_keeper w core } }
+      record { want = w; end = None; tried = false; waits = false; state = record { keeper = closing_keeper next (close_wanted next); core = by_keeper w core } }
 
   abbrev pub keeper_deed : Keeper → Core → Option Deed
   keeper_deed (Restarting op) core = Some (restart_deed op core)

@@ -85,11 +85,6 @@ abbrev pub restarting_callers : RestartOp → Want → List PlayCaller → List 
 restarting_callers op want.Done callers = map (awoken (started_by op).version) callers
 restarting_callers op w callers = callers
 
--- the keeper after an event of the close
-abbrev pub closing_keeper : CloseOp → Want → Keeper
-closing_keeper op want.Done = Closed
-closing_keeper op w = Closing op
-
 -- ---- what an event makes of the run state, whatever the state
 abbrev pub FollowsRestart : RestartOp → RunState → ToldDeed → RunState → Type 0
 FollowsRestart op old told new = (t : Setup) (s : State) → IsOf t old s → NoneTold old.lists → IsAfter t told (restart_deed t.shape op s.core) new

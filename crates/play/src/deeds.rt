@@ -8,11 +8,12 @@ ghost use Rattle.core_run.specs.declared.keeper.Keeper.TheVariants.{Restarting, 
 ghost use Rattle.restart_op.specs.Restart.{wanted as restart_wanted};
 ghost use Rattle.restart_op.specs.Close.{wanted as close_wanted};
 ghost use Rattle.core_run.specs.Engines.{tries_in_vain, Engine as SaidEngine};
+ghost use Rattle.core_run.specs.State.{closing_keeper};
 ghost use Rattle.play.specs.Callers.{awoken};
 ghost use Rattle.play.specs.declared.caller.Caller.{Caller as SaidCaller};
 ghost use Rattle.keeping.specs.Asked.{MayBeAsked};
 ghost use Rattle.play.specs.RunStates.{StandsSomewhere};
-ghost use Rattle.play.specs.Deeds.{MayGo, HasCome, HasEnded, FollowsRestart, FollowsClose, FollowsCall, FollowsDeed, running_in, restarting_keeper, restarting_callers, closing_keeper, lists_with};
+ghost use Rattle.play.specs.Deeds.{MayGo, HasCome, HasEnded, FollowsRestart, FollowsClose, FollowsCall, FollowsDeed, running_in, restarting_keeper, restarting_callers, lists_with};
 
 use crate::caller::{Caller, RunningCall};
 use crate::counting::{ends_call, ends_in_again};

@@ -22,7 +22,7 @@ use Rattle.engine.specs.Alone.{along, IsNext}
 use Rattle.core_run.specs.declared.keeper.Keeper.{Keeper}
 use Rattle.core_run.specs.declared.keeper.Keeper.TheVariants.{Restarting, Open, Closing, Closed}
 use Rattle.core_run.specs.declared.goal.Goal.{Goal}
-use Rattle.core_run.specs.State.{State, Deed, by_keeper, restarting, closing, restart_deed, close_deed, keeper_deed, call_deed, caller_deed}
+use Rattle.core_run.specs.State.{State, Deed, by_keeper, restarting, closing_keeper, restart_deed, close_deed, keeper_deed, call_deed, caller_deed}
 use Rattle.core_run.specs.Run.{all_calls, drive}
 use Rattle.core_run.specs.Running.{Setup, IsSetup, IsOpen, IsRestarting, IsRunningBy}
 use Rattle.core_run.specs.Along.{HasTurns, IsAlongBy, KeeperLaws}
@@ -57,13 +57,13 @@ restarting_left : (shape : Shape) (op : RestartOp) (w : Want) (core : Core) → 
 restarting_left shape op want.Done core = omega arith
 restarting_left shape op w core = omega arith
 
-closing_left : (shape : Shape) (op : CloseOp) (w : Want) → keeper_left (closing shape op w) ≤ close_left op
-closing_left shape op want.Done = omega arith
-closing_left shape op w = omega arith
+closing_left : (op : CloseOp) (w : Want) → keeper_left (closing_keeper op w) ≤ close_left op
+closing_left op want.Done = omega arith
+closing_left op w = omega arith
 
-closing_shut : (shape : Shape) (op : CloseOp) (w : Want) → IsShut (closing shape op w)
-closing_shut shape op want.Done = tt
-closing_shut shape op w = tt
+closing_shut : (op : CloseOp) (w : Want) → IsShut (closing_keeper op w)
+closing_shut op want.Done = tt
+closing_shut op w = tt
 
 -- a keeper who closes goes on with it
 pub stays_shut : (shape : Shape) (k : Keeper) (core : Core) (d : Deed) → IsShut k → keeper_deed shape k core ≡ Some d → IsShut d.state.keeper
@@ -71,7 +71,7 @@ stays_shut shape (Restarting op) core d shut e = absurd shut
 stays_shut shape Open core d shut e = absurd shut
 stays_shut shape (Closing op) core d shut e =
     let next : CloseOp = close_taken op (answer_to (close_wanted op) (core.words (word_of shape (close_wanted op)))) in
-    subst (λ (x : Deed). IsShut x.state.keeper) (same_Some (close_deed shape op core) d e) (closing_shut shape next (close_wanted next))
+    subst (λ (x : Deed). IsShut x.state.keeper) (same_Some (close_deed shape op core) d e) (closing_shut next (close_wanted next))
 stays_shut shape Closed core d shut e = absurd (none-some d e)
 
 -- a keeper who restarts the image goes on with it, or leaves it to the callers
@@ -117,7 +117,7 @@ module _ (keepers : KeeperLaws) (t : Setup) (is : IsSetup t) where
       let n : ℕ = core.words (word_of t.shape (close_wanted op)) in
       let next : CloseOp = close_taken op (answer_to (close_wanted op) n) in
       let fewer = keepers.close op n r.1 in
-      let after = closing_left t.shape next (close_wanted next) in
+      let after = closing_left next (close_wanted next) in
       subst (λ (x : Deed). keeper_left x.state.keeper < close_left op) (same_Some (close_deed t.shape op core) d e) (omega (arith, fewer, after))
   keeper_less Closed core r d e = absurd (none-some d e)
 

@@ -18,7 +18,7 @@ use Rattle.engine.specs.Alone.{at_start}
 use Rattle.engine.proofs.attempts.Doing.{one_more_turn}
 use Rattle.core_run.specs.declared.keeper.Keeper.{Keeper}
 use Rattle.core_run.specs.declared.keeper.Keeper.TheVariants.{Restarting, Open, Closing, Closed}
-use Rattle.core_run.specs.State.{Deed, by_keeper, restarting, closing, restart_deed, close_deed, keeper_deed, engine_deed, call_deed, caller_deed, open_deed}
+use Rattle.core_run.specs.State.{Deed, by_keeper, restarting, closing_keeper, restart_deed, close_deed, keeper_deed, engine_deed, call_deed, caller_deed, open_deed}
 use Rattle.core_run.specs.Running.{Setup, IsSetup, IsRunningBy}
 use Rattle.core_run.specs.Along.{HasTurns, IsAlongBy, IsAlong, behind, all_behind, BeginsAlong, ComesAlong}
 use Rattle.core_run.proofs.events.Opened.{opened_at}
@@ -100,7 +100,7 @@ module _ (t : Setup) where
   restarts op want.Done core opened = record { turns = []; core_is = opened refl }
   restarts op w core opened = tt
 
-  closes : (op : CloseOp) (w : Want) (core : Core) → close_left op ≤ events_of t.shape → IsAlongBy t (closing t.shape op w) core
+  closes : (op : CloseOp) (w : Want) (core : Core) → close_left op ≤ events_of t.shape → IsAlongBy t (closing_keeper op w) core
   closes op want.Done core p = tt
   closes op (want.Load i) core p = p
   closes op (want.Store i x) core p = p

@@ -13,7 +13,7 @@ use Rattle.restart_op.proofs.closes.CloseLines.{LineIn, line_on, word_in, line_i
 use Rattle.engine.specs.Core.{Caller, Core}
 use Rattle.engine.specs.Laws.{NoneRuns}
 use Rattle.core_run.specs.declared.keeper.Keeper.TheVariants.{Closing}
-use Rattle.core_run.specs.State.{closing, close_deed}
+use Rattle.core_run.specs.State.{closing_keeper, close_deed}
 use Rattle.core_run.specs.Running.{Setup, IsOpen, IsClosing, IsRunningBy, DeedIsWell}
 
 -- ---- after so many of its events
@@ -48,7 +48,7 @@ module _ (few : FewWait) (t : Setup) (before : Core) (o : IsOpen t before) (none
       let f = few t.shape before.words before.trace o.keeper_waits (suc k) in
       subst (λ w. length (pending 0 (event_of t.shape w ((core_at k).words (word_of t.shape w)) 0 ∷ (core_at k).trace)) ≤ 8) q f
 
-  goes_on : (k : ℕ) (w : Want) → wanted (op_at k) ≡ w → IsRunningBy t (closing t.shape (op_at k) w) (core_at k)
+  goes_on : (k : ℕ) (w : Want) → wanted (op_at k) ≡ w → IsRunningBy t (closing_keeper (op_at k) w) (core_at k)
   goes_on k want.Done is = (op_at k, is_closing k, is)
   goes_on k (want.Load i) is = (is_closing k, λ q. let z : want.Load i ≡ want.Done = sym is ∙ q in cc)
   goes_on k (want.Store i x) is = (is_closing k, λ q. let z : want.Store i x ≡ want.Done = sym is ∙ q in cc)

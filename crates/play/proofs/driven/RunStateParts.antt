@@ -19,7 +19,7 @@ use Rattle.pm_trace.specs.Memory.{Memory}
 use Rattle.pm_trace.specs.TraceOf.{IsTraceOf, Follows}
 use Rattle.core_run.specs.declared.keeper.Keeper.{Keeper}
 use Rattle.core_run.specs.declared.keeper.Keeper.TheVariants.{Open}
-use Rattle.core_run.specs.State.{State, awake, started_by, by_keeper, restarting, closing, end_by, restart_deed, close_deed, engine_deed}
+use Rattle.core_run.specs.State.{State, awake, started_by, by_keeper, restarting, closing_keeper, end_by, restart_deed, close_deed, engine_deed}
 use Rattle.core_run.specs.Run.{ends_call, ends_in_again}
 use Rattle.core_run.specs.Running.{Setup, start_of}
 use Rattle.play.specs.declared.run_state.RunState.{RunState}
@@ -28,7 +28,7 @@ use Rattle.play.specs.Callers.{caller_of, callers_of, told_with, counted_with, H
 use Rattle.keeping.specs.Asked.{found_by}
 use Rattle.play.specs.RunStates.{IsOf, IsAfter}
 use Rattle.play.specs.declared.deeds.Ending.{Ending}
-use Rattle.play.specs.Deeds.{NoneTold, HasCome, HasEnded, restarting_keeper, restarting_callers, closing_keeper, lists_with}
+use Rattle.play.specs.Deeds.{NoneTold, HasCome, HasEnded, restarting_keeper, restarting_callers, lists_with}
 use Rattle.play.proofs.driven.Answering.{HasTaken, answered_on, answered_ended, goes_on}
 use Rattle.play.proofs.driven.Devices.{Holds, found_is, holds_after}
 use Rattle.play.proofs.driven.Listed.{listed_at, listed_set, room_set, room_left, has_room_more, awake_callers, awake_room}
@@ -49,16 +49,6 @@ answer_is t run_state s c w ans new is done =
     done.answer ∙ ap (λ (n : ℕ). answer_to w n) (found_is t run_state.device s.core.words s.core.trace w (holds_of t run_state s is))
 
 -- ---- the close
-closing_is : (shape : Shape) (op : CloseOp) (w : Want) → closing_keeper op w ≡ closing shape op w
-closing_is shape op (want.Load i) = refl
-closing_is shape op (want.Store i x) = refl
-closing_is shape op (want.Exchange i a b) = refl
-closing_is shape op (want.Flush l) = refl
-closing_is shape op want.Fence = refl
-closing_is shape op want.Draw = refl
-closing_is shape op want.Power = refl
-closing_is shape op want.Done = refl
-
 -- the run state after an event of the keeper, which leaves the callers alone
 pub keeper_left : (t : Setup) (old new : RunState) (s : State) (w : Want) (ans : Ans) (k : Keeper) → IsOf t old s → WasDone old.device 0 w ans new.device
     → new.keeper ≡ k → new.callers.items ≡ old.callers.items → new.lists ≡ old.lists
@@ -83,7 +73,7 @@ close_left t old new s op next w ans is done wants took keeper callers lists =
     answer_is t old s 0 w ans new.device is done ∙ ap (λ (v : Want). answer_to v (s.core.words (word_of t.shape v))) wants in
     let said : next ≡ close_taken op (answer_to (close_wanted op) (s.core.words (word_of t.shape (close_wanted op)))) =
     took ∙ ap (λ (a : Ans). close_taken op a) answers in
-    let keeps = keeper ∙ closing_is t.shape next (close_wanted next) ∙ ap (λ (o : CloseOp). closing t.shape o (close_wanted o)) said in
+    let keeps = keeper ∙ ap (λ (o : CloseOp). closing_keeper o (close_wanted o)) said in
     record {
       want = wants;
       replied = refl;
@@ -92,7 +82,7 @@ close_left t old new s op next w ans is done wants took keeper callers lists =
       waits = refl;
       left = subst
           (λ (v : Want). IsOf t new (record {
-            keeper = closing t.shape (close_taken op (answer_to (close_wanted op) (s.core.words (word_of t.shape (close_wanted op)))))
+            keeper = closing_keeper (close_taken op (answer_to (close_wanted op) (s.core.words (word_of t.shape (close_wanted op)))))
                 (close_wanted (close_taken op (answer_to (close_wanted op) (s.core.words (word_of t.shape (close_wanted op))))));
             core = by_keeper t.shape v s.core;
           }))
