@@ -3,6 +3,7 @@
 -- ends that call.
 use Rattle.std.specs.Prelude.{◌≡◌, ℕ, suc, ◌+◌, ◌≤◌, ◌⊎◌, true, false, None, Some, List, slice_get}
 use Rattle.map_model.specs.declared.call.Call.{Call}
+use Rattle.map_model.specs.Weave.{first_caller}
 use Rattle.engine.specs.declared.engine.Engine.{Engine}
 use Rattle.engine.specs.OpPart.{op_part}
 use Rattle.engine.specs.Core.{Caller, Core, current}
@@ -39,7 +40,7 @@ module _ (t : Setup) (most : ℕ) where
   turn_of c s = drive t.shape most c Turn 1 s
 
   abbrev pub one_round : State → State
-  one_round s = round t.shape most 1 s.core.callers s
+  one_round s = round t.shape most first_caller s.core.callers s
 
 -- the image stays open, and no more calls are left without a reply
 pub record StaysOpen (before after : State) : Type 0 where

@@ -7,6 +7,7 @@ use Rattle.trace.specs.Events.{Words}
 use Rattle.trace.specs.Steps.{settled_value}
 use Rattle.image_layout.specs.Places.{Shape, words_of}
 use Rattle.map_model.specs.declared.call.Call.{Call}
+use Rattle.map_model.specs.Weave.{first_caller, keeper_number}
 use Rattle.map_model.specs.declared.entry.Stop.{Stop}
 use Rattle.script_text.specs.declared.line.Counted.{Counted}
 use Rattle.script_text.specs.declared.line.Counted.TheVariants as counted
@@ -99,7 +100,7 @@ module _ (shape : Shape) where
   module _ (most : ℕ) where
     -- the restart is brought to its end, where one has begun
     abbrev pub restarted_by : Keeper → State → State
-    restarted_by (Restarting op) s = drive most 0 AnyEvent most s
+    restarted_by (Restarting op) s = drive most keeper_number AnyEvent most s
     restarted_by keeper s = s
 
     abbrev pub restarted : State → State
@@ -117,7 +118,7 @@ module _ (shape : Shape) where
     -- THE END RULE: rounds until no call is left, at most so many
     abbrev pub rounds : ℕ → State → State
     rounds zero s = s
-    rounds (suc n) s = if has_calls s.core.callers then rounds n (round 1 s.core.callers s) else s
+    rounds (suc n) s = if has_calls s.core.callers then rounds n (round first_caller s.core.callers s) else s
 
     -- the calls run out, and the close begins, where it has not
     abbrev pub close_begins : Keeper → State → State
@@ -152,7 +153,7 @@ module _ (shape : Shape) where
 
     -- without a cut, the calls run out, and the close is brought to its end
     abbrev pub closed : State → State
-    closed s = drive most 0 AnyEvent most (run_out s)
+    closed s = drive most keeper_number AnyEvent most (run_out s)
 
 -- the choice of the power cut with which a script ends, if it does
 abbrev pub cut_of : List Line → Option ℕ

@@ -9,7 +9,7 @@ use Rattle.image_layout.specs.Places.{Shape, state_word, words_of}
 use Rattle.image_layout.specs.Volatile.{all_words_of}
 use Rattle.map_model.specs.declared.call.Call.{Call}
 use Rattle.map_model.specs.declared.entry.Entry.{Entry}
-use Rattle.map_model.specs.Weave.{most_callers}
+use Rattle.map_model.specs.Weave.{most_callers, first_caller, keeper_number}
 use Rattle.world.specs.Ground.{Ground}
 use Rattle.world.specs.Wants.{word_of}
 use Rattle.restart_op.specs.declared.restart.RestartOp.{RestartOp}
@@ -71,9 +71,9 @@ AllTold t version number (c ∷ callers) = HasToldInOrder t version number c × 
 pub record IsOpen (t : Setup) (core : Core) : Type 0 where
   pub holds : CoreHolds (site_in t) (start_of t) core
   pub scripts : map (λ c. c.calls) core.callers ≡ t.scripts
-  pub told : AllTold t (core.words state_word) 1 core.callers
-  pub few_wait : FewWait core.trace 1 core.callers
-  pub keeper_waits : pending 0 core.trace ≡ []
+  pub told : AllTold t (core.words state_word) first_caller core.callers
+  pub few_wait : FewWait core.trace first_caller core.callers
+  pub keeper_waits : pending keeper_number core.trace ≡ []
 
 -- the restart has done some of its events
 pub record IsRestarting (t : Setup) (op : RestartOp) (core : Core) : Type 0 where
@@ -82,7 +82,7 @@ pub record IsRestarting (t : Setup) (op : RestartOp) (core : Core) : Type 0 wher
   pub op_is : op ≡ (restarted t.shape t.first events).op
   pub words_are : core.words ≡ (restarted t.shape t.first events).words
   pub trace_is : core.trace ≡ (restarted t.shape t.first events).trace
-  pub callers_are : core.callers ≡ waiting_from t.shape 1 t.scripts
+  pub callers_are : core.callers ≡ waiting_from t.shape first_caller t.scripts
 
 -- all calls have run out, and the close has done some of its events
 pub record IsClosing (t : Setup) (op : CloseOp) (core : Core) : Type 0 where

@@ -6,6 +6,7 @@ use Rattle.op_core.specs.declared.want.Ans.{Ans}
 use Rattle.trace.specs.Events.{Words}
 use Rattle.image_layout.specs.Places.{Shape}
 use Rattle.map_model.specs.declared.call.Call.{Call}
+use Rattle.map_model.specs.Weave.{first_caller, keeper_number}
 use Rattle.world.specs.Wants.{answer_to, word_of, event_of, words_after}
 use Rattle.restart_op.specs.declared.restart.RestartOp.{RestartOp}
 use Rattle.restart_op.specs.declared.restart.Started.{Started}
@@ -49,7 +50,7 @@ awake version c = idle (record c.site { version = version }) c.calls
 -- THE BEGINNING, over an image with these words
 abbrev pub beginning : Shape → Words → List (List Call) → State
 beginning shape words scripts =
-    record { keeper = Restarting (restart_begun shape); core = record { words = words; trace = []; callers = waiting_from shape 1 scripts } }
+    record { keeper = Restarting (restart_begun shape); core = record { words = words; trace = []; callers = waiting_from shape first_caller scripts } }
 
 -- what a restart ended with
 abbrev pub started_at : RestartStep → Started
@@ -77,8 +78,8 @@ module _ (shape : Shape) where
   -- the core after an event of caller 0
   abbrev pub by_keeper : Want → Core → Core
   by_keeper w core = record core {
-    words = words_after shape w 0 core.words;
-    trace = event_of shape w (core.words (word_of shape w)) 0 ∷ core.trace;
+    words = words_after shape w keeper_number core.words;
+    trace = event_of shape w (core.words (word_of shape w)) keeper_number ∷ core.trace;
   }
 
   -- the restart goes on, or leaves the image to the callers

@@ -4,7 +4,7 @@ ghost use Rattle.std.specs.Io.KnownBytes.{Appends};
 ghost use Rattle.outside.specs.Causes.{Rose, AppendsFront};
 ghost use Rattle.outside.specs.Storing.{most_writes};
 ghost use Rattle.outside.specs.declared.gates.GateState.TheVariants.{Unmade};
-ghost use Rattle.map_model.specs.Weave.{most_callers};
+ghost use Rattle.map_model.specs.Weave.{most_callers, first_caller};
 ghost use Rattle.script_text.specs.declared.fault.ScriptFault.{ScriptFault};
 ghost use Rattle.image_file.specs.declared.fault.ImageFault.{ImageFault};
 ghost use Rattle.script_text.specs.declared.line.Mode.{Mode};
@@ -52,7 +52,7 @@ pub fn dash_run<R: Threads + Wait + Sync, I: Store, S: Source, K: Sink, M: Gates
     out: &mut K,
     _gates: &mut M,
 ) -> u8
-    requires unmade { (caller : ℕ) → 1 ≤ caller → caller ≤ most_callers → M.state _gates.old caller ≡ Unmade }
+    requires unmade { (caller : ℕ) → first_caller ≤ caller → caller ≤ most_callers → M.state _gates.old caller ≡ Unmade }
     requires countable { I.writes image.old < most_writes }
 
     ensures range { result ≤ NO_MEMORY }

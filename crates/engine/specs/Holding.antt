@@ -11,7 +11,7 @@ use Rattle.sound_image.specs.Image.{SaysShape}
 use Rattle.map_model.specs.declared.call.Call.{Call}
 use Rattle.map_model.specs.declared.entry.Entry.{Entry}
 use Rattle.map_model.specs.Map.{Map}
-use Rattle.map_model.specs.Weave.{most_callers, all_of, draws, spent_count}
+use Rattle.map_model.specs.Weave.{most_callers, first_caller, keeper_number, all_of, draws, spent_count}
 use Rattle.map_model.specs.declared.entry.Reply.TheVariants.{Full, Spent}
 use Rattle.map_model.specs.ByPlaces.{map_at}
 use Rattle.session.specs.Session.{HadNoRoom}
@@ -119,7 +119,7 @@ pub record CoreHolds (site : Ground) (start : Words) (core : Core) : Type 0 wher
   pub freed : KeepsFree site start
   pub full : FullIsTaken site core.words (fresh_view 0 ∷ views)
   -- caller 0 has nothing flushed that it has not fenced
-  pub fenced : pending 0 core.trace ≡ []
+  pub fenced : pending keeper_number core.trace ≡ []
   pub each : AllZip (CallerFits site) core.callers views
 
 -- ---- the laws
@@ -146,4 +146,4 @@ abbrev pub CoreBegins : Type 0
 CoreBegins = (site : Ground) (start : Words) (core : Core) (version : ℕ) (scripts : List (List Call))
     → AllAreQuiet site start (world_of core (replicate (length scripts) (fresh_view 1))) → core.words ≡ site.front → core.words (power_word site.shape) ≡ power_on → version ≡ version_of site
     → KeepsFree site start → length scripts ≤ most_callers → AllByRecursion (AllByRecursion IsWordCall) scripts
-    → core.callers ≡ callers_from site.shape version 1 scripts → CoreHolds site start core
+    → core.callers ≡ callers_from site.shape version first_caller scripts → CoreHolds site start core

@@ -6,7 +6,7 @@ use Rattle.std.specs.FinMap.{get}
 use Rattle.map_model.specs.declared.call.Call.{Call}
 use Rattle.map_model.specs.declared.entry.Entry.{Entry}
 use Rattle.map_model.specs.Map.{Map}
-use Rattle.map_model.specs.Weave.{most_callers, weave}
+use Rattle.map_model.specs.Weave.{most_callers, first_caller, weave}
 use Rattle.map_model.specs.Legal.{AreReplies, replay}
 use Rattle.image_layout.specs.Places.{Shape, state_word, homes}
 use Rattle.sound_image.specs.Records.{key_hash, HasExactNotes}
@@ -28,7 +28,7 @@ abbrev pub opened : Shape → List ℕ → List (List Call) → Core
 opened shape words scripts = record {
   words = words_at_end shape words;
   trace = (restarted_wholly shape words).trace;
-  callers = callers_from shape (words_at_end shape words state_word) 1 scripts;
+  callers = callers_from shape (words_at_end shape words state_word) first_caller scripts;
 }
 
 -- every sound image is served

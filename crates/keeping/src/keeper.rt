@@ -4,6 +4,7 @@ ghost use Rattle.std.specs.Prelude.{◌≡◌, ◌≢◌, ℕ, ◌+◌, ◌≤�
 ghost use Rattle.trace.specs.Events.{Words, Trace};
 ghost use Rattle.image_layout.specs.Places.{state_word};
 ghost use Rattle.map_model.specs.Map.{Map};
+ghost use Rattle.map_model.specs.Weave.{keeper_number};
 ghost use Rattle.sound_image.specs.Image.{IsSoundImage};
 ghost use Rattle.sound_image.specs.Segments.{frame_of, IsClean};
 ghost use Rattle.session.specs.Left.{HasPairsOf};
@@ -16,6 +17,7 @@ ghost use Rattle.keeping.specs.Kept.{IsTraced, image_of, marked_image, IsSettled
 
 use crate::doing::do_event;
 use crate::tally::Steps;
+use map_model::KEEPER_NUMBER;
 use op_core::{Machine, Want};
 use pm_trace::Device;
 use restart_op::{CloseOp, RestartOp, Started};
@@ -38,7 +40,7 @@ pub fn restart<L: Ledger>(device: &mut Device, steps: &mut Steps<L>) -> Started
     requires traced { IsTraced device.old }
     requires sound { IsSoundImage device.old.shape (image_of device.old) }
     requires settled { IsSettled device.old }
-    requires fenced { unfenced 0 device.old ≡ 0 }
+    requires fenced { unfenced keeper_number device.old ≡ 0 }
     ensures started { result ≡ started_for (slice_index device.old.newest state_word) }
     ensures version { first_version ≤ result.version }
     ensures steps { steps.new ≡ steps.old + 1 + swept_slots device.old.shape result }
@@ -46,7 +48,7 @@ pub fn restart<L: Ledger>(device: &mut Device, steps: &mut Steps<L>) -> Started
     ensures pairs { (m : Map) → HasPairsOf device.old.shape (slice_index (image_of device.old)) m
         → HasPairsOf device.new.shape (slice_index (image_of device.new)) m }
     ensures sound { IsSoundImage device.new.shape (image_of device.new) }
-    ensures settled { IsSettled device.new × (unfenced 0 device.new ≡ 0) }
+    ensures settled { IsSettled device.new × (unfenced keeper_number device.new ≡ 0) }
     ensures follows { (start : Words) (es : Trace) → IsTraceOf start es device.old → IsRestartedFrom start es device.old device.new }
     ensures shape { device.new.shape ≡ device.old.shape }
     ensures callers { device.new.callers ≡ device.old.callers }
@@ -57,7 +59,7 @@ pub fn restart<L: Ledger>(device: &mut Device, steps: &mut Steps<L>) -> Started
             Want::Done => return op.end(),
             want => {
                 count(want, steps);
-                let ans = do_event(device, 0, want);
+                let ans = do_event(device, KEEPER_NUMBER, want);
                 op.take(ans);
             }
         }
@@ -67,7 +69,7 @@ pub fn restart<L: Ledger>(device: &mut Device, steps: &mut Steps<L>) -> Started
 /// Closes the image of a memory: settles all of it, and then sets its clean marker and settles that.
 pub fn close(device: &mut Device)
     requires traced { IsTraced device.old }
-    requires fenced { unfenced 0 device.old ≡ 0 }
+    requires fenced { unfenced keeper_number device.old ≡ 0 }
     requires sound { IsSoundImage device.old.shape (marked_image device.old) }
     ensures marked { slice_index device.new.newest state_word ≡ with_marker (slice_index device.old.newest state_word) }
     ensures others { (w : ℕ) → w ≢ state_word → slice_index device.new.newest w ≡ slice_index device.old.newest w }
@@ -86,7 +88,7 @@ pub fn close(device: &mut Device)
         match op.want() {
             Want::Done => return,
             want => {
-                let ans = do_event(device, 0, want);
+                let ans = do_event(device, KEEPER_NUMBER, want);
                 op.take(ans);
             }
         }

@@ -15,6 +15,14 @@ drew_at n e = e.drew && (e.place == n)
 abbrev pub most_callers : ℕ
 most_callers = 64
 
+-- callers are numbered from this number on
+abbrev pub first_caller : ℕ
+first_caller = 1
+
+-- and the number below it is the keeper's, who starts the image and closes it
+abbrev pub keeper_number : ℕ
+keeper_number = 0
+
 -- the entries of all callers, by caller number and then in each caller's order
 abbrev pub all_of : List (List Entry) → List Entry
 all_of lists = flat_map (λ list. list) lists

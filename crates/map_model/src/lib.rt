@@ -21,5 +21,5 @@ pub use laws::{
     drawn_keeps_legal, later_entries_keep, legal_by_places, loaded_keeps_legal, weave_leaves_draws,
 };
 pub use legality::weave_check;
-pub use lists::{Lists, MOST_CALLERS};
+pub use lists::{FIRST_CALLER, KEEPER_NUMBER, Lists, MOST_CALLERS};
 pub use no_memory::NoMemory;

@@ -1,14 +1,19 @@
 // The entries of each caller.
 ghost use Rattle.std.specs.Prelude.{◌≡◌, ◌-◌, ◌<◌, ◌≤◌, length, map, slice_get, IfOk, IfSome, Some};
 ghost use Rattle.map_model.specs.Roomed.{with_room, with_entry, lists_of};
+ghost use Rattle.map_model.specs.Weave.{first_caller};
 
 use crate::entry::Entry;
 use crate::no_memory::NoMemory;
 use std::alloc::Global;
 use std::marker::Model;
 
-/// How many callers a run has at most; they are counted from 1. Lists have any number of them.
+/// How many callers a run has at most. Lists have any number of them.
 pub const MOST_CALLERS: u64 = 64;
+/// Callers are numbered from this number on.
+pub const FIRST_CALLER: u64 = 1;
+/// The number of the keeper, who starts the image and closes it.
+pub const KEEPER_NUMBER: u8 = 0;
 
 /// The entries of each caller in its own order, with room for a number of more that is set at the
 /// start. Callers are numbered from 1.
@@ -50,7 +55,7 @@ impl Lists {
 
     /// The entries of a caller, oldest first.
     pub fn of(&self, caller: u8) -> &[Entry]
-        requires from_one { 1 ≤ caller }
+        requires from_one { first_caller ≤ caller }
         requires is_caller { caller ≤ length self.now }
         ensures { slice_get (lists_of self.now) (caller - 1) ≡ Some result.now }
     {
@@ -66,7 +71,7 @@ impl Lists {
 
     /// One more entry of a caller, into the room that it has left.
     pub fn push(&mut self, caller: u8, entry: Entry)
-        requires from_one { 1 ≤ caller }
+        requires from_one { first_caller ≤ caller }
         requires is_caller { caller ≤ length self.old }
         requires has_spare { IfSome (slice_get self.old (caller - 1)) (λ kept. 0 < kept.spare) }
         ensures { self.new ≡ with_entry self.old (caller - 1) entry }

@@ -2,7 +2,7 @@
 use Rattle.std.specs.Prelude.{◌≡◌, ℕ, ◌-◌, Option, None, is_some, List, ◌++◌, length, map, replicate, slice_index}
 use Rattle.std.specs.List.{range_with_len}
 use Rattle.map_model.specs.Roomed.{lists_of}
-use Rattle.map_model.specs.Weave.{most_callers}
+use Rattle.map_model.specs.Weave.{most_callers, first_caller}
 use Rattle.map_model.specs.declared.call.Call.{Call}
 use Rattle.map_model.specs.declared.entry.Stop.{Stop}
 use Rattle.image_layout.specs.Places.{Shape}
@@ -20,7 +20,7 @@ use Rattle.core_run.specs.Sessions.{ending_of}
 
 -- the calls of callers 1, 2 and so on, so many
 abbrev pub scripts_to : ℕ → List Line → List (List Call)
-scripts_to n lines = map (λ caller. calls_of caller lines) (range_with_len 1 n)
+scripts_to n lines = map (λ caller. calls_of caller lines) (range_with_len first_caller n)
 
 -- the calls of all callers, up to the last that has one
 abbrev pub scripts_of : List Line → List (List Call)

@@ -3,7 +3,7 @@
 ghost use Rattle.std.specs.Prelude.{◌≡◌, ◌+◌, ◌<◌, Some, slice_get, map};
 ghost use Rattle.map_model.specs.Roomed.{Roomed};
 ghost use Rattle.map_model.specs.declared.call.Call.{Call as SaidCall};
-ghost use Rattle.map_model.specs.Weave.{most_callers};
+ghost use Rattle.map_model.specs.Weave.{most_callers, keeper_number};
 ghost use Rattle.core_run.specs.declared.keeper.Keeper.TheVariants.{Restarting, Open, Closing};
 ghost use Rattle.restart_op.specs.Restart.{wanted as restart_wanted};
 ghost use Rattle.restart_op.specs.Close.{wanted as close_wanted};
@@ -20,7 +20,7 @@ use crate::counting::{ends_call, ends_in_again};
 use crate::run_state::RunState;
 use core_run::{Deed, Keeper};
 use keeping::do_event;
-use map_model::{Call, Entry};
+use map_model::{Call, Entry, KEEPER_NUMBER};
 use op_core::{Ans, Machine, Want};
 use pm_trace::Device;
 use restart_op::{CloseOp, RestartOp};
@@ -82,12 +82,12 @@ impl RunState {
 
     /// Does an event of the restart.
     fn do_restart_deed(&mut self, op: RestartOp) -> Deed
-        requires { MayBeAsked 0 (restart_wanted op) self.old.device }
+        requires { MayBeAsked keeper_number (restart_wanted op) self.old.device }
         ensures { FollowsRestart op self.old result self.new }
     {
         let want = op.want();
         let mut next = op;
-        next.take(do_event(&mut self.device, 0, want));
+        next.take(do_event(&mut self.device, KEEPER_NUMBER, want));
         self.continue_restart(next);
         Deed {
             want,
@@ -100,12 +100,12 @@ impl RunState {
 
     /// Does an event of the close.
     fn do_close_deed(&mut self, op: CloseOp) -> Deed
-        requires { MayBeAsked 0 (close_wanted op) self.old.device }
+        requires { MayBeAsked keeper_number (close_wanted op) self.old.device }
         ensures { FollowsClose op self.old result self.new }
     {
         let want = op.want();
         let mut next = op;
-        next.take(do_event(&mut self.device, 0, want));
+        next.take(do_event(&mut self.device, KEEPER_NUMBER, want));
         self.keeper = closing(next);
         Deed {
             want,
@@ -119,7 +119,7 @@ impl RunState {
     /// Does an event of caller 0, if it has one left.
     fn do_keeper_deed(&mut self) -> Option<Deed>
         requires { StandsSomewhere self.old }
-        ensures { FollowsDeed 0 self.old result self.new }
+        ensures { FollowsDeed keeper_number self.old result self.new }
     {
         core_run::deeds_are_well();
         match self.keeper {
@@ -226,7 +226,7 @@ impl RunState {
         requires { StandsSomewhere self.old }
         ensures { FollowsDeed caller self.old result self.new }
     {
-        if caller == 0 {
+        if caller == KEEPER_NUMBER {
             self.do_keeper_deed()
         } else {
             self.do_caller_deed(caller as usize - 1)

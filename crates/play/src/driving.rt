@@ -1,6 +1,7 @@
 //! What the lines of a schedule do to a run state.
 
 ghost use Rattle.std.specs.Prelude.{◌≡◌, ℕ, None, Some, List};
+ghost use Rattle.map_model.specs.Weave.{first_caller};
 ghost use Rattle.core_run.specs.Running.{Setup, IsRunning};
 ghost use Rattle.core_run.specs.State.{State};
 ghost use Rattle.core_run.specs.Run.{drive, restarted, round, rounds, run_out, ready_for, stored_at, line_done, lines_done, closed};
@@ -11,6 +12,7 @@ ghost use Rattle.play.specs.RunStates.{Stands, StandsSomewhere, HasTurned, end_s
 use crate::counting::{counts, stops};
 use crate::run_state::RunState;
 use core_run::{Goal, Keeper};
+use map_model::KEEPER_NUMBER;
 use restart_op::CloseOp;
 use script_text::Line;
 
@@ -51,14 +53,14 @@ impl RunState {
         ensures { (t : Setup) (s : State) → Stands t s self.old → Stands t (restarted t.shape most s) self.new }
     {
         if let Keeper::Restarting(_) = self.keeper {
-            self.drive(most, 0, Goal::AnyEvent, most);
+            self.drive(most, KEEPER_NUMBER, Goal::AnyEvent, most);
         }
     }
 
     /// Gives each caller a turn, till its call ends, or till it stops.
     fn do_round(&mut self, most: u64)
         requires { StandsSomewhere self.old }
-        ensures { (t : Setup) (s : State) → Stands t s self.old → Stands t (round t.shape most 1 s.core.callers s) self.new }
+        ensures { (t : Setup) (s : State) → Stands t s self.old → Stands t (round t.shape most first_caller s.core.callers s) self.new }
     {
         for index in 0..self.callers.len() {
             self.drive(most, index as u8 + 1, Goal::Turn, 1);
@@ -108,7 +110,7 @@ impl RunState {
         requires { StandsSomewhere self.old }
         ensures { (t : Setup) (s : State) → Stands t s self.old → Stands t (ready_for t.shape most caller s) self.new }
     {
-        if caller > 0 {
+        if caller > KEEPER_NUMBER {
             self.end_restart(most);
         }
     }
@@ -170,7 +172,7 @@ impl RunState {
             → Stands t (closed t.shape most s) self.new }
     {
         self.run_out(most);
-        self.drive(most, 0, Goal::AnyEvent, most);
+        self.drive(most, KEEPER_NUMBER, Goal::AnyEvent, most);
     }
 
     /// Ends a run: by a close, where no cut comes before it.

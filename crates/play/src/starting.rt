@@ -2,6 +2,7 @@
 
 ghost use Rattle.std.specs.Prelude.{◌≡◌, ◌≤◌, [], List, length, map, IfOk};
 ghost use Rattle.map_model.specs.declared.call.Call.{Call as SaidCall};
+ghost use Rattle.map_model.specs.Weave.{first_caller};
 ghost use Rattle.image_layout.specs.Places.{words_of};
 ghost use Rattle.script_text.specs.Script.{most_script_lines};
 ghost use Rattle.core_run.specs.State.{waiting};
@@ -55,7 +56,7 @@ pub(crate) fn waiting_callers(
     geometry: Geometry,
     lines: &[Line],
 ) -> Result<Vec<Caller>, AllocError>
-    ensures { IfOk result (λ callers. AreWaiting geometry 1 (scripts_of lines.now) callers.items) }
+    ensures { IfOk result (λ callers. AreWaiting geometry first_caller (scripts_of lines.now) callers.items) }
 {
     let last = last_caller(lines);
     let mut callers = Vec::with_capacity(alloc, last as usize)?;
@@ -96,7 +97,7 @@ pub(crate) fn begin(
     callers: Vec<Caller>,
 ) -> Result<RunState, NoMemory>
     requires { length medium.words ≡ words_of medium.geometry }
-    ensures { IfOk result (λ run_state. (scripts : List (List SaidCall)) → AreWaiting medium.geometry 1 scripts callers.items
+    ensures { IfOk result (λ run_state. (scripts : List (List SaidCall)) → AreWaiting medium.geometry first_caller scripts callers.items
         → IsOf (setup_of medium.geometry medium.words scripts) run_state (start_state (setup_of medium.geometry medium.words scripts))) }
 {
     let geometry = medium.geometry;

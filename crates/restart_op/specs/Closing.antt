@@ -3,6 +3,7 @@ use Rattle.std.specs.Prelude.{◌≡◌, ◌≢◌, ℕ, ◌+◌, ◌-◌, ◌^�
 use Rattle.std.specs.FinMap.{get}
 use Rattle.op_core.specs.declared.want.Want.TheVariants.{Done}
 use Rattle.map_model.specs.Map.{Map}
+use Rattle.map_model.specs.Weave.{keeper_number}
 use Rattle.trace.specs.Events.{Words, Event, Trace, with_word, value, value_at, most_unfenced}
 use Rattle.trace.specs.Progress.{pending}
 use Rattle.trace.specs.Steps.{Writes}
@@ -61,8 +62,8 @@ EndsInTime = (shape : Shape) → IsShape shape → (words : Words) (trace : Trac
 
 -- where no line waits before, never do more than eight flushed lines wait for a fence
 abbrev pub FewWait : Type 0
-FewWait = (shape : Shape) (words : Words) (trace : Trace) → pending 0 trace ≡ [] → (n : ℕ)
-    → length (pending 0 (close_after shape words trace n).trace) ≤ most_unfenced
+FewWait = (shape : Shape) (words : Words) (trace : Trace) → pending keeper_number trace ≡ [] → (n : ℕ)
+    → length (pending keeper_number (close_after shape words trace n).trace) ≤ most_unfenced
 
 -- ---- before a close
 -- all values that a word ever had have 64 bits
@@ -76,7 +77,7 @@ pub record AllAreQuiet (site : Ground) (start : Words) (world : World) : Type 0 
   pub fits : HaveFit start world.trace
   pub says : SaysShape site.shape site.front
   pub structure : IsOpenStructure site.shape world.words
-  pub fenced : pending 0 world.trace ≡ []
+  pub fenced : pending keeper_number world.trace ≡ []
 
 -- values fit where those that an event writes do
 abbrev pub FitsByEvents : Type 0

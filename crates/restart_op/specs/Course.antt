@@ -4,6 +4,7 @@ use Rattle.trace.specs.Events.{Words, Trace, most_unfenced}
 use Rattle.op_core.specs.declared.want.Want.{Want}
 use Rattle.op_core.specs.declared.want.Ans.{Ans}
 use Rattle.image_layout.specs.Places.{Shape}
+use Rattle.map_model.specs.Weave.{keeper_number}
 use Rattle.world.specs.Wants.{answer_to, word_of, event_of, words_after}
 
 -- how many fences so many flushed lines take, each as many as may wait
@@ -21,8 +22,8 @@ module _ {M : Type 0} (wanted : M → Want) (taken : M → Ans → M) (shape : S
   next c =
       let found : ℕ = c.words (word_of shape (wanted c.op)) in
       record {
-        words = words_after shape (wanted c.op) 0 c.words;
-        trace = event_of shape (wanted c.op) found 0 ∷ c.trace;
+        words = words_after shape (wanted c.op) keeper_number c.words;
+        trace = event_of shape (wanted c.op) found keeper_number ∷ c.trace;
         op = taken c.op (answer_to (wanted c.op) found);
       }
 

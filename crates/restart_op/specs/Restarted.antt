@@ -9,6 +9,7 @@ use Rattle.image_layout.specs.Places.{Shape, IsShape, state_word, words_of, fron
 use Rattle.image_layout.specs.StateWord.{first_version, last_image_version}
 use Rattle.image_layout.specs.Volatile.{all_words_of}
 use Rattle.map_model.specs.Map.{Map}
+use Rattle.map_model.specs.Weave.{first_caller, keeper_number}
 use Rattle.sound_image.specs.Image.{IsSoundImage}
 use Rattle.session.specs.Left.{HasPairsOf}
 use Rattle.bucket_words.specs.Hits.{find}
@@ -61,7 +62,7 @@ pub record IsAsked (shape : Shape) (c : Course wanted taken shape) : Type 0 wher
   pub asks : wanted c.op ≢ Done
   pub word : word_of shape (wanted c.op) < all_words_of shape
   pub line : (l : ℕ) → wanted c.op ≡ want.Flush l → HasLine (words_of shape) l
-  pub few : (l : ℕ) → wanted c.op ≡ want.Flush l → length (pending 0 c.trace) < most_unfenced
+  pub few : (l : ℕ) → wanted c.op ≡ want.Flush l → length (pending keeper_number c.trace) < most_unfenced
 
 abbrev pub RestartAsks : Type 0
 RestartAsks = (shape : Shape) (words : List ℕ) (n : ℕ) → IsShape shape → n < events_of_restart shape (slice_index words) → IsAsked shape (restarted shape words n)
@@ -121,7 +122,7 @@ RestartBegins = (shape : Shape) (words : List ℕ) (callers : ℕ) → IsSoundIm
 
 -- each caller has its seat
 abbrev pub HasSeats : Type 0
-HasSeats = (callers j : ℕ) → 1 ≤ j → j ≤ callers → At (views_of callers) j (fresh_view 1)
+HasSeats = (callers j : ℕ) → first_caller ≤ j → j ≤ callers → At (views_of callers) j (fresh_view 1)
 
 -- what the image had is what the words at the end have
 abbrev pub KeepsPairs : Type 0

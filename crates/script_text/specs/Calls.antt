@@ -2,7 +2,7 @@
 use Rattle.std.specs.Prelude.{ℕ, ◌^◌, ◌<◌, ◌≤◌, max, ◌==◌, ⊤, List, [], ◌∷◌, if◌then◌else◌}
 use Rattle.map_model.specs.declared.call.Call.{Call}
 use Rattle.map_model.specs.declared.call.Call.TheVariants.{Get, Insert, Update, Remove}
-use Rattle.map_model.specs.Weave.{most_callers}
+use Rattle.map_model.specs.Weave.{most_callers, first_caller}
 use Rattle.script_text.specs.declared.line.Line.{Line}
 use Rattle.script_text.specs.declared.line.Line.TheVariants.{Call as CallLine, Fuse, Step, Until, At, Close, Cut}
 
@@ -37,7 +37,7 @@ IsCallSoFar (Remove k) = k < 2 ^ 64
 
 -- the lines that a script can have so far: calls of callers 1 to 64, runs of callers up to 64, a close and a cut, all of words
 abbrev pub IsLineSoFar : Line → Type 0
-IsLineSoFar (CallLine c call) = (1 ≤ c) × (c ≤ most_callers) × IsCallSoFar call
+IsLineSoFar (CallLine c call) = (first_caller ≤ c) × (c ≤ most_callers) × IsCallSoFar call
 IsLineSoFar (Fuse c n) = ⊥
 IsLineSoFar (Step c n) = (c ≤ most_callers) × (n < 2 ^ 64)
 IsLineSoFar (Until c event n) = (c ≤ most_callers) × (n < 2 ^ 64)

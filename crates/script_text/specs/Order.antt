@@ -1,5 +1,6 @@
 -- Which lines may stand behind which.
 use Rattle.std.specs.Prelude.{◌≡◌, ℕ, ◌==◌, Bool, true, false, ⊤, IsTrue, List, [], ◌∷◌, if◌then◌else◌}
+use Rattle.map_model.specs.Weave.{keeper_number}
 use Rattle.script_text.specs.declared.line.Line.{Line}
 use Rattle.script_text.specs.declared.line.Line.TheVariants.{Call as CallLine, Fuse, Step, Until, At, Close, Cut}
 use Rattle.script_text.specs.declared.line.Mode.{Mode}
@@ -40,7 +41,7 @@ abbrev pub may_run : Mode → Phase → ℕ → Bool
 may_run Serve phase c = false
 may_run Play Calling c = true
 may_run Play Running c = true
-may_run Play Closing c = c == 0
+may_run Play Closing c = c == keeper_number
 may_run Play CutOff c = false
 
 -- only a play is closed by a line, and only once
@@ -77,9 +78,9 @@ IsOrdered mode phase (line ∷ lines) = IsTrue (may_follow mode phase line) × I
 abbrev pub IsBehindClose : Line → Type 0
 IsBehindClose (CallLine c call) = ⊥
 IsBehindClose (Fuse c n) = ⊥
-IsBehindClose (Step c n) = c ≡ 0
-IsBehindClose (Until c event n) = c ≡ 0
-IsBehindClose (At c n) = c ≡ 0
+IsBehindClose (Step c n) = c ≡ keeper_number
+IsBehindClose (Until c event n) = c ≡ keeper_number
+IsBehindClose (At c n) = c ≡ keeper_number
 IsBehindClose Close = ⊥
 IsBehindClose (Cut n) = ⊤
 

@@ -3,7 +3,7 @@ use Rattle.std.specs.Prelude.{ℕ, ◌+◌, ◌-◌, ◌*◌, ◌^◌, nat_lt, n
 use Rattle.std.specs.Str.{bytes_eq}
 use Rattle.map_model.specs.declared.call.Call.{Call}
 use Rattle.map_model.specs.declared.call.Call.TheVariants.{Get, Insert, Update, Remove}
-use Rattle.map_model.specs.Weave.{most_callers}
+use Rattle.map_model.specs.Weave.{most_callers, first_caller}
 use Rattle.script_text.specs.declared.line.Line.{Line}
 use Rattle.script_text.specs.declared.line.Line.TheVariants.{Call as CallLine, Step, Until, At, Close, Cut}
 use Rattle.script_text.specs.declared.line.Counted.TheVariants.{Store, Exchange, Flush, Fence, Draw, End}
@@ -35,7 +35,7 @@ number word = if nat_le 1 (length word) && nat_le (length word) most_digits then
 -- CALLERS
 -- the range of those who call: 1 to 64
 abbrev pub is_caller : ℕ → Bool
-is_caller c = nat_le 1 c && nat_le c most_callers
+is_caller c = nat_le first_caller c && nat_le c most_callers
 
 -- the range of those whom a schedule names: 0, who starts and closes the image, and those who call
 abbrev pub may_have_runs : ℕ → Bool

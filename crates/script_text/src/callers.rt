@@ -2,13 +2,13 @@
 ghost use Rattle.std.specs.Prelude.{◌≡◌};
 ghost use Rattle.script_text.specs.Readings.{is_caller, may_have_runs};
 
-use map_model::MOST_CALLERS;
+use map_model::{FIRST_CALLER, MOST_CALLERS};
 
 // Whether this caller may have calls.
 pub(crate) fn may_have_calls(caller: u64) -> bool
     ensures { result ≡ is_caller caller }
 {
-    caller >= 1 && caller <= MOST_CALLERS
+    caller >= FIRST_CALLER && caller <= MOST_CALLERS
 }
 
 // Whether this caller may run in a schedule: also 0, who starts and closes the image.

@@ -3,6 +3,7 @@ ghost use Rattle.std.specs.Prelude.{◌≡◌};
 ghost use Rattle.script_text.specs.Order.{may_follow, may_run, phase_after};
 
 use crate::line::{Line, Mode};
+use map_model::KEEPER_NUMBER;
 
 /// How far a script has come.
 #[derive(Clone, Copy, Debug, PartialEq, Eq)]
@@ -25,7 +26,7 @@ impl Phase {
         match (mode, self) {
             (Mode::Serve, _) => false,
             (Mode::Play, Phase::Calling | Phase::Running) => true,
-            (Mode::Play, Phase::Closing) => caller == 0,
+            (Mode::Play, Phase::Closing) => caller == KEEPER_NUMBER,
             (Mode::Play, Phase::CutOff) => false,
         }
     }

@@ -3,6 +3,7 @@ use Rattle.std.specs.Prelude.{ℕ, suc, Option, None, Some, List, [], ◌∷◌,
 use Rattle.std.specs.Fmt.{decimal}
 use Rattle.map_model.specs.declared.entry.Reply.{Reply}
 use Rattle.map_model.specs.declared.entry.Entry.{Entry}
+use Rattle.map_model.specs.Weave.{first_caller}
 use Rattle.map_model.specs.ReplyText.{reply_text}
 
 -- a line: the caller's number, the call's serial, what became of the call, and a line feed
@@ -43,4 +44,4 @@ lines_from caller (told ∷ others) = caller_lines caller told ++ lines_from (su
 
 -- the transcript: the lines of callers 1, 2, 3 and so on
 abbrev pub transcript_of : List Told → List ℕ
-transcript_of tolds = lines_from 1 tolds
+transcript_of tolds = lines_from first_caller tolds

@@ -3,6 +3,7 @@
 ghost use Rattle.std.specs.Prelude.{◌≡◌, length};
 ghost use Rattle.world.specs.Wants.{answer_to, word_of, words_after};
 ghost use Rattle.image_layout.specs.Places.{Shape};
+ghost use Rattle.map_model.specs.Weave.{keeper_number};
 ghost use Rattle.vlock.specs.Ruling.{word};
 ghost use Rattle.shared_image.specs.Memory.{IsPlain};
 
@@ -12,7 +13,7 @@ use op_core::{Ans, Want};
 pub(crate) fn do_event(words: &mut Vec<u64>, want: Want) -> Ans
     requires plain { IsPlain (length words.old.items) want }
     ensures answer { (shape : Shape) → result ≡ answer_to want (word words.old.items (word_of shape want)) }
-    ensures words { (shape : Shape) → word words.new.items ≡ words_after shape want 0 (word words.old.items) }
+    ensures words { (shape : Shape) → word words.new.items ≡ words_after shape want keeper_number (word words.old.items) }
     ensures length { length words.new.items ≡ length words.old.items }
 {
     match want {
