@@ -1,9 +1,10 @@
--- Rounds of stores: words are stored as long as they touch at most eight lines, then these lines are flushed and fenced, and so on.
+-- Rounds of stores: words are stored as long as they touch at most `most_lines` lines, then these lines are flushed and fenced, and so on.
 use Rattle.std.specs.Prelude.{◌≡◌, ℕ, ◌+◌, ◌<◌, ◌≤◌, ◌==◌, ◌||◌, Bool, false, nat_lt, List, [], ◌∷◌, ◌++◌, length, if◌then◌else◌}
+use Rattle.trace.specs.Events.{most_unfenced}
 
--- how many lines a round touches at most, so that no more are flushed and not fenced
+-- how many lines a round touches at most: as many as a caller may have flushed and not fenced
 abbrev pub most_lines : ℕ
-most_lines = 8
+most_lines = most_unfenced
 
 -- ---- one round: the lines that it has touched, in the order in which they were
 -- whether the last of them is this line

@@ -4,8 +4,8 @@ ghost use Rattle.std.specs.Prelude.{◌≡◌, ◌<◌, ◌≤◌, [], IsTrue, l
 
 use std::marker::Model;
 
-/// How many lines a round has at most.
-pub const MOST_LINES: u8 = 8;
+/// How many lines a round has at most: as many as a caller may have flushed and not fenced.
+pub const MOST_LINES: u8 = trace::MOST_UNFENCED;
 
 /// The lines that a round of stores has touched. Contracts see the list of them.
 #[derive(Clone, Copy)]
