@@ -1,8 +1,9 @@
 -- The rest of a split as a part of a call: with what it may begin, and how it ends.
-use Rattle.std.specs.Prelude.{◌≡◌, ℕ, suc, ◌+◌, ◌-◌, ◌*◌, ⊤, Bool, true, false, Option, None, Some}
+use Rattle.std.specs.Prelude.{◌≡◌, ℕ, suc, ◌+◌, ◌-◌, ⊤, Bool, true, false, Option, None, Some}
 use Rattle.op_core.specs.declared.want.Want.TheVariants as want
 use Rattle.op_core.specs.declared.want.Ans.{Ans}
 use Rattle.segment_head.specs.HeadWord.{version_in, pattern_in, normal}
+use Rattle.segment_head.specs.Prefixes.{pattern_of_zero_side}
 use Rattle.image_layout.specs.Places.{buckets, note_words}
 use Rattle.map_model.specs.declared.call.Call.{Call}
 use Rattle.way.specs.Ways.{head_word}
@@ -129,4 +130,4 @@ pub record StoresHeader : Type 0 where
   pub same : (op : RestOp) (a : Ans) → (taken op a).whole ≡ op.whole
   pub ends : (op : RestOp) → outcome_at op.step ≡ Some finished → is_headed op.step ≡ true
   pub header : (site : Ground) (here : Site) (call : Call) (e : Enclosed) → IsGround site → IsOf site here call e → IsWhole site e
-      → IsHeader (rest_head e) normal (side_depth e) (2 * pattern_in e.head) (version_in e.head)
+      → IsHeader (rest_head e) normal (side_depth e) (pattern_of_zero_side (pattern_in e.head)) (version_in e.head)

@@ -1,10 +1,17 @@
--- The prefix of a segment beside that of its 1-side.
+-- The patterns of the two sides of a segment, and the prefix of a segment beside that of its 1-side.
 use Rattle.std.specs.Prelude.{◌≡◌, ℕ, ◌+◌, ◌-◌, ◌*◌, ◌^◌, ◌<◌}
 use Rattle.segment_head.specs.declared.prefix.Prefix.{Prefix}
 
+-- a pattern is a number: that of the 0-side of a segment with this one has a 0 behind it, and that of its 1-side a 1
+abbrev pub pattern_of_zero_side : ℕ → ℕ
+pattern_of_zero_side pattern = 2 * pattern
+
+abbrev pub pattern_of_one_side : ℕ → ℕ
+pattern_of_one_side pattern = 2 * pattern + 1
+
 -- the pattern of the 1-side of a segment of this depth and pattern, followed by zeros alone down to a greater depth
 abbrev pub one_side_down_to : ℕ → ℕ → ℕ → ℕ
-one_side_down_to greater depth pattern = (2 * pattern + 1) * 2 ^ (greater - depth - 1)
+one_side_down_to greater depth pattern = pattern_of_one_side pattern * 2 ^ (greater - depth - 1)
 
 -- the side is deeper, and its pattern is that of the 1-side of the whole, followed by zeros alone
 pub record IsSidePrefix (whole side : Prefix) : Type 0 where

@@ -1,7 +1,8 @@
 -- Which hashes a header covers, and its 1-side.
-use Rattle.std.specs.Prelude.{◌≡◌, ℕ, ◌+◌, ◌*◌, ◌%◌, ◌^◌, ◌<◌, ◌↔◌}
+use Rattle.std.specs.Prelude.{◌≡◌, ℕ, ◌+◌, ◌%◌, ◌^◌, ◌<◌, ◌↔◌}
 use Rattle.hash_word.specs.Hash.{top, Covers}
 use Rattle.segment_head.specs.declared.Head.{Head}
+use Rattle.segment_head.specs.Prefixes.{pattern_of_one_side}
 
 -- the bit of a hash that follows its top d bits
 abbrev pub next_bit : ℕ → ℕ → ℕ
@@ -16,7 +17,7 @@ pub record IsOneSideOf (head side : Head) : Type 0 where
   pub version : side.version ≡ head.version
   pub state : side.state ≡ head.state
   pub depth : side.depth ≡ head.depth + 1
-  pub pattern : side.pattern ≡ 2 * head.pattern + 1
+  pub pattern : side.pattern ≡ pattern_of_one_side head.pattern
 
 -- the side covers exactly the hashes that the head covers and whose next bit is 1
 abbrev pub CoversOnes : Head → Head → Type 0

@@ -1,14 +1,15 @@
 -- What a split makes of a header word: its 1-side, and the segment itself, which is the 0-side behind it.
-use Rattle.std.specs.Prelude.{ℕ, suc, min, ◌+◌, ◌*◌, ◌%◌, ◌^◌}
+use Rattle.std.specs.Prelude.{ℕ, suc, min, ◌+◌, ◌%◌, ◌^◌}
 use Rattle.hash_word.specs.Hash.{hash_bits}
 use Rattle.segment_head.specs.HeadWord.{depth_bits, pattern_bits, version_in, depth_in, pattern_in, header_of}
+use Rattle.segment_head.specs.Prefixes.{pattern_of_zero_side, pattern_of_one_side}
 
 -- the depth of the 1-side of a segment with this header, and its pattern
 abbrev pub side_depth_in : ℕ → ℕ
 side_depth_in head = suc (depth_in head)
 
 abbrev pub side_pattern_in : ℕ → ℕ
-side_pattern_in head = 2 * pattern_in head + 1
+side_pattern_in head = pattern_of_one_side (pattern_in head)
 
 -- how many bits of a hash that depth is, whatever the header is: all of them at the most
 abbrev pub side_depth : ℕ → ℕ
@@ -19,10 +20,10 @@ abbrev pub side_depth_field : ℕ → ℕ
 side_depth_field head = (depth_in head + 1) % 2 ^ depth_bits
 
 abbrev pub zero_pattern_field : ℕ → ℕ
-zero_pattern_field head = 2 * pattern_in head % 2 ^ pattern_bits
+zero_pattern_field head = pattern_of_zero_side (pattern_in head) % 2 ^ pattern_bits
 
 abbrev pub one_pattern_field : ℕ → ℕ
-one_pattern_field head = (2 * pattern_in head + 1) % 2 ^ pattern_bits
+one_pattern_field head = pattern_of_one_side (pattern_in head) % 2 ^ pattern_bits
 
 -- the header with another state, and else as it was
 abbrev pub with_state : ℕ → ℕ → ℕ

@@ -2,6 +2,7 @@
 -- claimer, and its directory entry leads there.
 use Rattle.std.specs.Prelude.{◌≡◌, ℕ, ◌+◌, ◌-◌, ◌*◌, ◌^◌, ◌<◌, ◌≤◌}
 use Rattle.hash_word.specs.Hash.{index_of}
+use Rattle.segment_head.specs.Prefixes.{pattern_of_zero_side, one_side_down_to}
 use Rattle.sound_image.specs.Places.{Shape}
 use Rattle.sound_image.specs.Segments.{ImageWords, Frame, frame_of, depth_at, pattern_at, IsLive, IsLiveFor, InOneSide, IsReadySide, HasReadySide}
 use Rattle.sound_image.specs.Directory.{RootInRange, VersionInRange, HeadInRange, LinkInRange, VersionIsPast}
@@ -28,10 +29,10 @@ ClaimsOneSide frame s = (h : ℕ) → h < 2 ^ 64 → InOneSide frame s h → Cla
 abbrev pub named_for : Frame → ℕ → ℕ
 named_for frame h = frame.entry (index_of frame.root h)
 
--- entry i is one of the 1-side of a segment that is less deep than the root
+-- entry i is one of the 1-side of a segment that is less deep than the root: the pattern behind those of both sides is two more than that of the 0-side
 pub record IsSideEntry (frame : Frame) (s i : ℕ) : Type 0 where
-  pub from : (2 * pattern_at frame s + 1) * 2 ^ (frame.root - depth_at frame s - 1) ≤ i
-  pub to : i < (2 * pattern_at frame s + 2) * 2 ^ (frame.root - depth_at frame s - 1)
+  pub from : one_side_down_to frame.root (depth_at frame s) (pattern_at frame s) ≤ i
+  pub to : i < (pattern_of_zero_side (pattern_at frame s) + 2) * 2 ^ (frame.root - depth_at frame s - 1)
 
 -- A SOUND FRAME: its numbers are in their ranges, no version byte is above the image's, no live segment is deeper than
 -- the root; each hash is claimed by one segment, and its entry leads to it

@@ -1,8 +1,9 @@
 -- The stores to headers, links, the root and the directory: for each what it must find in a sound frame, and what it leaves.
-use Rattle.std.specs.Prelude.{◌≡◌, ◌≢◌, ℕ, ◌+◌, ◌*◌, ◌/◌, ◌^◌, ◌<◌, ◌≤◌, ◌⊎◌}
+use Rattle.std.specs.Prelude.{◌≡◌, ◌≢◌, ℕ, ◌+◌, ◌/◌, ◌^◌, ◌<◌, ◌≤◌, ◌⊎◌}
 use Rattle.trace.specs.Events.{with_word}
 use Rattle.hash_word.specs.Hash.{index_of}
 use Rattle.segment_head.specs.HeadWord.{version_in, state_in, depth_in, pattern_in, free, normal, splitting, fresh, link_to, no_link}
+use Rattle.segment_head.specs.Prefixes.{pattern_of_zero_side, pattern_of_one_side}
 use Rattle.sound_image.specs.Places.{Shape, root_word, state_word, entry_at, header_word, link_word}
 use Rattle.sound_image.specs.StateWord.{first_version, image_version_in}
 use Rattle.sound_image.specs.Segments.{ImageWords, Frame, frame_of, image_version, state_at, depth_at, pattern_at, InOneSide, IsReadySide, HasReadySide}
@@ -77,7 +78,7 @@ module _ (frame : Frame) where
     pub was : state_at frame n ≡ fresh
     pub becomes : state_in x ≡ normal
     pub depth : depth_in x ≡ depth_at frame s + 1
-    pub pattern : pattern_in x ≡ 2 * pattern_at frame s + 1
+    pub pattern : pattern_in x ≡ pattern_of_one_side (pattern_at frame s)
     pub shallow : depth_at frame s < frame.root
     pub past : IsPast x
 
@@ -107,7 +108,7 @@ module _ (frame : Frame) where
     pub deep : EntriesAreDeep s
     pub becomes : state_in x ≡ normal
     pub depth : depth_in x ≡ depth_at frame s + 1
-    pub pattern : pattern_in x ≡ 2 * pattern_at frame s
+    pub pattern : pattern_in x ≡ pattern_of_zero_side (pattern_at frame s)
     pub past : IsPast x
 
   -- SPLITTING TO NORMAL, AS DEEP AS BEFORE: there is no ready side

@@ -1,7 +1,8 @@
 -- What the words are for views to have their locks and areas, and that a word has one holder.
-use Rattle.std.specs.Prelude.{◌≡◌, ◌≢◌, ℕ, ◌+◌, ◌*◌, ◌<◌, ◌⊎◌, List}
+use Rattle.std.specs.Prelude.{◌≡◌, ◌≢◌, ℕ, ◌+◌, ◌<◌, ◌⊎◌, List}
 use Rattle.trace.specs.Events.{Words}
 use Rattle.segment_head.specs.HeadWord.{version_in, free, splitting, HasLiveState}
+use Rattle.segment_head.specs.Prefixes.{pattern_of_one_side}
 use Rattle.image_layout.specs.Places.{Shape, block, root_word, words_of, bucket_at, buckets}
 use Rattle.sound_image.specs.Segments.{Frame, frame_of, state_at, depth_at, pattern_at}
 use Rattle.frame_facts.specs.Claims.{HasSoundFrame}
@@ -28,7 +29,7 @@ pub record IsGuardedSide (frame : Frame) (areas : List Area) (n : ℕ) : Type 0 
   pub guarded : Has (Segment parent) areas
   pub splits : state_at frame parent ≡ splitting
   pub depth : depth_at frame n ≡ depth_at frame parent + 1
-  pub pattern : pattern_at frame n ≡ 2 * pattern_at frame parent + 1
+  pub pattern : pattern_at frame n ≡ pattern_of_one_side (pattern_at frame parent)
 
 module _ (site : Ground) (words : Words) (views : List View) where
   -- the segment of a slot lives in whatever a cut may leave

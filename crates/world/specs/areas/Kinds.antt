@@ -1,11 +1,11 @@
 -- The kinds of step at the structure: guards, headers, links, the root, entries, and the words of slots that nobody else touches. For
 -- each: which event it is, and what the stepping view becomes. No kind of calls is among them.
-use Rattle.std.specs.Prelude.{◌==◌, ◌&&◌, ◌||◌, not, ℕ, suc, ◌+◌, ◌*◌, ◌<◌, nat_lt, nat_le, Bool, true, false, List, [], ◌∷◌, ◌++◌, filter, ⊤}
+use Rattle.std.specs.Prelude.{◌==◌, ◌&&◌, ◌||◌, not, ℕ, suc, ◌+◌, ◌<◌, nat_lt, nat_le, Bool, true, false, List, [], ◌∷◌, ◌++◌, filter, ⊤}
 use Rattle.op_core.specs.declared.want.Want.{Want}
 use Rattle.op_core.specs.declared.want.Want.TheVariants.{Load, Store, Exchange, Fence}
 use Rattle.hash_word.specs.Hash.{first_hash_of}
 use Rattle.segment_head.specs.HeadWord.{version_in, state_in, depth_in, pattern_in, free, fresh, is_live, no_link}
-use Rattle.segment_head.specs.Prefixes.{one_side_down_to}
+use Rattle.segment_head.specs.Prefixes.{pattern_of_one_side, one_side_down_to}
 use Rattle.image_layout.specs.Places.{Shape, block, root_word, first_segment, entry_at, head_at, segment_words}
 use Rattle.image_layout.specs.Volatile.{allocation_guard, directory_guard, segment_guard, free_guard}
 use Rattle.frame_facts.specs.Facts.{Fact, Lives, Current, Rooted, Owns, Lacks, Deep, Begins, Used, Taken}
@@ -155,7 +155,7 @@ with_slot false n i x v = record v { facts = Taken n ∷ v.facts }
 
 -- a header is that of the new side of a segment of this depth and pattern
 abbrev pub is_new_side : ℕ → ℕ → ℕ → Bool
-is_new_side depth pattern head = (state_in head == fresh) && ((depth_in head == suc depth) && (pattern_in head == 2 * pattern + 1))
+is_new_side depth pattern head = (state_in head == fresh) && ((depth_in head == suc depth) && (pattern_in head == pattern_of_one_side pattern))
 
 -- a header is that of a ready side of a segment of this depth and pattern: it is live and deeper, and its pattern is that of the 1-side, followed by zeros alone
 abbrev pub is_ready_side : ℕ → ℕ → ℕ → Bool
@@ -165,12 +165,12 @@ is_ready_side depth pattern head =
 -- what the linked slot tells of a segment of this depth and pattern: with a ready side there, which begins where the 1-side does, the segment has
 -- none of its 1-side; else it has all of it
 abbrev pub told_by_side : Bool → ℕ → ℕ → ℕ → ℕ → List Fact
-told_by_side true p n depth pattern = Begins n (first_hash_of (suc depth) (2 * pattern + 1)) ∷ Lacks p (suc depth) (2 * pattern + 1) ∷ []
-told_by_side false p n depth pattern = Owns p (suc depth) (2 * pattern + 1) ∷ []
+told_by_side true p n depth pattern = Begins n (first_hash_of (suc depth) (pattern_of_one_side pattern)) ∷ Lacks p (suc depth) (pattern_of_one_side pattern) ∷ []
+told_by_side false p n depth pattern = Owns p (suc depth) (pattern_of_one_side pattern) ∷ []
 
 -- and what a link tells of it: that it has all of its 1-side, where no slot is linked
 abbrev pub told_by_link : Bool → ℕ → ℕ → ℕ → List Fact
-told_by_link true p depth pattern = Owns p (suc depth) (2 * pattern + 1) ∷ []
+told_by_link true p depth pattern = Owns p (suc depth) (pattern_of_one_side pattern) ∷ []
 told_by_link false p depth pattern = []
 
 -- a view that relies on these facts too

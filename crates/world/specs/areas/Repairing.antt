@@ -1,10 +1,11 @@
 -- What the holder of a stale segment has to know to repair it: to take back a split that had no ready side, to direct the entries of a ready
 -- side to it, to clear records and end that split, and to mend what is left and give the segment the image's version.
-use Rattle.std.specs.Prelude.{◌≡◌, ◌≢◌, ℕ, suc, ◌+◌, ◌*◌, ◌-◌, ◌/◌, ◌^◌, ◌<◌, ◌≤◌, ◌⊎◌, Bool, true, false, [], ◌∷◌}
+use Rattle.std.specs.Prelude.{◌≡◌, ◌≢◌, ℕ, suc, ◌+◌, ◌-◌, ◌/◌, ◌^◌, ◌<◌, ◌≤◌, ◌⊎◌, Bool, true, false, [], ◌∷◌}
 use Rattle.trace.specs.Events.{Words}
 use Rattle.hash_word.specs.Hash.{first_hash_of, Covers}
 use Rattle.bucket_meta.specs.Bucket.{mark_place, fingers_place, rest_place, lock_bit, record_slots, allocated, member}
 use Rattle.segment_head.specs.HeadWord.{version_in, state_in, depth_in, pattern_in, free, fresh, normal, splitting, link_to, no_link}
+use Rattle.segment_head.specs.Prefixes.{pattern_of_zero_side, pattern_of_one_side}
 pub use Rattle.segment_head.specs.SplitHeads.{side_depth_in, side_pattern_in}
 use Rattle.image_layout.specs.Places.{block, root_word, entry_at, bucket_at, homes, buckets}
 use Rattle.sound_image.specs.Records.{key_hash, HasExactNotes}
@@ -82,7 +83,7 @@ pub record HasReadySideOf (site : Ground) (v : View) (s n g : ℕ) (word : Words
 pub record IsEntryOfSide (g depth pattern i : ℕ) : Type 0 where
   pub deep : depth < g
   pub index : i < 2 ^ g
-  pub inside : i / 2 ^ (g - suc depth) ≡ 2 * pattern + 1
+  pub inside : i / 2 ^ (g - suc depth) ≡ pattern_of_one_side pattern
 
 pub record MayRedirect (site : Ground) (v : View) : Type 0 where
   -- the root is deeper than the segment
@@ -130,7 +131,7 @@ pub record MayMend (site : Ground) (v : View) : Type 0 where
   -- the split ends: the segment lacks its 1-side, whose entries name deeper ones
   pub end : (s x : ℕ) (word : Words) → HasStale site v s word → HasNoSides v.areas → state_in (head_now site s word) ≡ splitting
       → Has (lacks_side site s word) v.facts → Has (deep_side site s word) v.facts
-      → IsHeader x normal (side_depth_in (head_now site s word)) (2 * pattern_in (head_now site s word)) (version_in (head_now site s word)) → MayAt site (moves finishes s x) v
+      → IsHeader x normal (side_depth_in (head_now site s word)) (pattern_of_zero_side (pattern_in (head_now site s word))) (version_in (head_now site s word)) → MayAt site (moves finishes s x) v
   -- a lock that is taken is freed, its version kept
   pub unlock : (s b x w : ℕ) (word : Words) → HasStale site v s word → HasNoSides v.areas → b < buckets → KnowsWord v (bucket_at site.shape s b) w → w ≡ suc x → lock_bit x ≡ 0
       → MayAt site (sets (bucket_at site.shape s b) x) v

@@ -1,11 +1,12 @@
 -- What the holder of a guarded segment has to know to split it: to empty a slot, to link it, to begin the split, to copy records, to make
 -- the side live, to double the directory and to store entries, to clear what moved, to end the split and to open the segment again.
-use Rattle.std.specs.Prelude.{◌≡◌, ◌≢◌, ℕ, suc, ◌+◌, ◌*◌, ◌-◌, ◌/◌, ◌^◌, ◌<◌, ◌≤◌, ◌⊎◌, [], ◌∷◌}
+use Rattle.std.specs.Prelude.{◌≡◌, ◌≢◌, ℕ, suc, ◌+◌, ◌-◌, ◌/◌, ◌^◌, ◌<◌, ◌≤◌, ◌⊎◌, [], ◌∷◌}
 use Rattle.trace.specs.Events.{Words}
 use Rattle.hash_word.specs.Hash.{Covers}
 use Rattle.bucket_meta.specs.Bucket.{mark_place, rest_place, lock_bit, record_slots, allocated, member}
 use Rattle.segment_head.specs.HeadWord.{version_in, state_in, depth_in, pattern_in, free, fresh, normal, splitting, HasLiveState, link_to, no_link}
 use Rattle.image_layout.specs.Places.{Shape, block, root_word, entry_at, bucket_at, key_at, value_at, homes, buckets}
+use Rattle.segment_head.specs.Prefixes.{pattern_of_zero_side}
 use Rattle.segment_head.specs.SplitHeads.{side_depth_in, side_pattern_in}
 use Rattle.sound_image.specs.Records.{key_hash, HasExactNotes}
 use Rattle.frame_facts.specs.Buckets.{IsTaken, key_in}
@@ -159,7 +160,7 @@ pub record MayFinish (site : Ground) (v : View) : Type 0 where
       → state_in (word (header_word site.shape s)) ≡ splitting
       → Has (Lacks s (side_depth_in (word (header_word site.shape s))) (side_pattern_in (word (header_word site.shape s)))) v.facts
       → Has (Deep (depth_in (word (header_word site.shape s))) (side_depth_in (word (header_word site.shape s))) (side_pattern_in (word (header_word site.shape s)))) v.facts
-      → IsHeader x normal (side_depth_in (word (header_word site.shape s))) (2 * pattern_in (word (header_word site.shape s))) (version_in (word (header_word site.shape s)))
+      → IsHeader x normal (side_depth_in (word (header_word site.shape s))) (pattern_of_zero_side (pattern_in (word (header_word site.shape s)))) (version_in (word (header_word site.shape s)))
       → MayAt site (moves finishes s x) v
   -- a word of metadata is stored that has the core of the word there, which is settled: what may be left has that core too
   pub rebuild : (s b m x w : ℕ) → IsSettledHolder site.shape v → HoldsBucketOf site.shape v s b → mark_place ≤ m → m ≤ rest_place
