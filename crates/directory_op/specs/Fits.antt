@@ -1,7 +1,8 @@
 -- How the view of the caller stands in each step: what it holds and knows of the segment, of its side and of the directory, and what is
 -- not settled.
-use Rattle.std.specs.Prelude.{◌≡◌, ◌≢◌, None, ℕ, suc, ◌+◌, ◌-◌, ◌/◌, ◌%◌, ◌^◌, ◌<◌, ◌≤◌, ◌⊎◌, List, [], ◌∷◌}
+use Rattle.std.specs.Prelude.{◌≡◌, ◌≢◌, None, ℕ, suc, ◌+◌, ◌/◌, ◌%◌, ◌^◌, ◌<◌, ◌≤◌, ◌⊎◌, List, [], ◌∷◌}
 use Rattle.trace.specs.Events.{HasLine}
+use Rattle.hash_word.specs.Hash.{IsUnderPrefix}
 use Rattle.bucket_meta.specs.Bucket.{mark_place, rest_place, record_slots}
 use Rattle.segment_head.specs.HeadWord.{depth_in}
 use Rattle.image_layout.specs.Places.{Shape, block, root_word, entry_at, bucket_at, key_at, value_at, buckets, words_of}
@@ -39,7 +40,7 @@ side_pattern c = side_pattern_in c.whole.head
 
 -- entry i of the root's area lies in the 1-side
 abbrev pub IsOfSide : Copied → ℕ → ℕ → Type 0
-IsOfSide c root i = i / 2 ^ (root - side_depth c) ≡ side_pattern c
+IsOfSide c root i = IsUnderPrefix root (side_depth c) (side_pattern c) i
 
 -- ---- what is known
 -- a word of the segment that is kept: its header, its link, or one behind the lock of a bucket

@@ -75,3 +75,7 @@ index_of g h = top g h
 -- a segment of this depth and pattern covers a hash whose top bits are the pattern
 abbrev pub Covers : ℕ → ℕ → ℕ → Type 0
 Covers depth pattern h = top depth h ≡ pattern
+
+-- entry i of a directory of depth g lies under a prefix: the hashes whose entry it is have the pattern as their top bits, as many as the depth
+abbrev pub IsUnderPrefix : (g depth pattern i : ℕ) → Type 0
+IsUnderPrefix g depth pattern i = i / 2 ^ (g - depth) ≡ pattern
