@@ -6,9 +6,19 @@ use Rattle.image_layout.specs.Places.{Shape, words_of}
 abbrev pub counter_word : Shape → ℕ
 counter_word shape = words_of shape
 
+-- how many words behind it the power word stands, and how many the guards of free slots for segments and of the directory
+abbrev pub power_from : ℕ
+power_from = 1
+
+abbrev pub allocation_from : ℕ
+allocation_from = 2
+
+abbrev pub directory_from : ℕ
+directory_from = 3
+
 -- the power word, which says whether the power is off
 abbrev pub power_word : Shape → ℕ
-power_word shape = words_of shape + 1
+power_word shape = words_of shape + power_from
 
 -- what it is while the power is on; with any other word it is off, and a cut of the power stores this one
 abbrev pub power_on : ℕ
@@ -19,11 +29,11 @@ power_off = 1
 
 -- the guard of free slots for segments
 abbrev pub allocation_guard : Shape → ℕ
-allocation_guard shape = words_of shape + 2
+allocation_guard shape = words_of shape + allocation_from
 
 -- the guard of the directory
 abbrev pub directory_guard : Shape → ℕ
-directory_guard shape = words_of shape + 3
+directory_guard shape = words_of shape + directory_from
 
 -- how many words stand between those of the image and the guards of segments: these four
 abbrev pub guards_from : ℕ

@@ -1,7 +1,7 @@
 //! How an image is laid out.
 
 ghost use Rattle.std.specs.Prelude.{◌≡◌, ◌<◌, ◌≤◌, ◌+◌, ◌*◌, ◌%◌, ◌^◌, IfOk, IfErr};
-ghost use Rattle.image_layout.specs.Volatile.{counter_word, power_word, allocation_guard, directory_guard, segment_guard, all_words_of, guards_from};
+ghost use Rattle.image_layout.specs.Volatile.{counter_word, power_word, allocation_guard, directory_guard, segment_guard, all_words_of, power_from, allocation_from, directory_from, guards_from};
 ghost use Rattle.image_layout.specs.Places.{IsShape, first_segment, words_of, entry_at, head_at, bucket_at, block, homes, stash_buckets, buckets, segment_words, most_power, first_segment_of_largest, most_words, most_segments, most_depth, most_kind};
 
 use bucket_meta::words::{BUCKET_WORDS, SLOTS};
@@ -266,7 +266,7 @@ impl Geometry {
     /// The power word, which says whether the power is off.
     pub fn power_word(&self) -> u64
         ensures is { result ≡ power_word self.now }
-        ensures most { result ≤ most_words + 1 }
+        ensures most { result ≤ most_words + power_from }
     {
         self.words() + POWER
     }
@@ -274,7 +274,7 @@ impl Geometry {
     /// The word of the guard of free slots for segments.
     pub fn allocation_guard(&self) -> u64
         ensures is { result ≡ allocation_guard self.now }
-        ensures most { result ≤ most_words + 2 }
+        ensures most { result ≤ most_words + allocation_from }
     {
         self.words() + ALLOCATION
     }
@@ -282,7 +282,7 @@ impl Geometry {
     /// The word of the guard of the directory.
     pub fn directory_guard(&self) -> u64
         ensures is { result ≡ directory_guard self.now }
-        ensures most { result ≤ most_words + 3 }
+        ensures most { result ≤ most_words + directory_from }
     {
         self.words() + DIRECTORY
     }
