@@ -1,6 +1,7 @@
 -- One bucket, by its words: which record slots are taken, and what a key has there.
 use Rattle.std.specs.Prelude.{◌≡◌, ℕ, zero, suc, ◌+◌, ◌*◌, ◌==◌, ◌&&◌, Option, None, Some, if◌then◌else◌}
 use Rattle.bucket_meta.specs.Bucket.{mark_place, fingers_place, rest_place, allocated, finger, first_key, first_value, record_words}
+use Rattle.bucket_meta.specs.Search.{is_taken}
 use Rattle.trace.specs.Events.{Words}
 
 -- THE BUCKET that begins at a word
@@ -21,4 +22,4 @@ module _ (word : Words) (at : ℕ) where
   -- what a key has among the record slots below a limit: the value of the last one that is taken and has the key
   unfoldable pub find_below : ℕ → ℕ → Option ℕ
   find_below k zero = None
-  find_below k (suc r) = if (allocated r (word (at + mark_place)) == 1) && (key_in r == k) then Some (value_in r) else find_below k r
+  find_below k (suc r) = if is_taken (word (at + mark_place)) r && (key_in r == k) then Some (value_in r) else find_below k r

@@ -2,7 +2,8 @@
 use Rattle.std.specs.Prelude.{ℕ, zero, suc, ◌*◌, ◌/◌, ◌%◌, Bool, false, ◌==◌, ◌&&◌, Option, None, Some, if◌then◌else◌}
 use Rattle.std.specs.FinMap.{empty, insert}
 use Rattle.map_model.specs.Map.{Map}
-use Rattle.bucket_meta.specs.Bucket.{allocated, record_slots, mark_place}
+use Rattle.bucket_meta.specs.Bucket.{record_slots, mark_place}
+use Rattle.bucket_meta.specs.Search.{is_taken}
 use Rattle.image_layout.specs.Places.{Shape, buckets, segment_slots}
 use Rattle.sound_image.specs.Segments.{ImageWords, frame_of}
 use Rattle.sound_image.specs.Records.{key_hash, word_in, slot_key, slot_value}
@@ -24,7 +25,7 @@ module _ (shape : Shape) (word : ImageWords) where
   -- it has a record, and its segment owns the hash of the record's key: after a power cut records may stand in other segments too
   abbrev pub has_record : ℕ → Bool
   has_record t =
-      (allocated (t % record_slots) (word_in shape word (t / segment_slots) (t / record_slots % buckets) mark_place) == 1) && is_owner (owner (frame_of shape word) (key_hash shape (key_of_slot t))) (t / segment_slots)
+      is_taken (word_in shape word (t / segment_slots) (t / record_slots % buckets) mark_place) (t % record_slots) && is_owner (owner (frame_of shape word) (key_hash shape (key_of_slot t))) (t / segment_slots)
 
   -- the map of the records in the slots below a limit
   unfoldable pub map_below : ℕ → Map

@@ -1,7 +1,8 @@
 -- THE WORDS OF A SIDE, by what is kept of its segment: all are as they are kept, but for the metadata, which is that of the records of the 1-side
 -- alone.
-use Rattle.std.specs.Prelude.{◌≡◌, ◌≢◌, ℕ, zero, suc, ◌+◌, ◌-◌, ◌*◌, ◌/◌, ◌%◌, ◌<◌, ◌≤◌, ◌==◌, nat_lt, length, slice_index, List, if◌then◌else◌}
-use Rattle.bucket_meta.specs.Bucket.{allocated, record_slots, mark_place, fingers_place, rest_place, fingers_of_word, rest_fingers, slot_fingers_part}
+use Rattle.std.specs.Prelude.{◌≡◌, ◌≢◌, ℕ, zero, suc, ◌+◌, ◌/◌, ◌%◌, ◌<◌, ◌≤◌, ◌==◌, nat_lt, length, slice_index, List, if◌then◌else◌}
+use Rattle.bucket_meta.specs.Bucket.{mark_place, fingers_place, rest_place, fingers_of_word, rest_fingers, slot_fingers_part}
+use Rattle.bucket_meta.specs.Search.{is_taken}
 use Rattle.bucket_meta.specs.Marks.{copied_mark, with_finger}
 use Rattle.image_layout.specs.Places.{homes, buckets, block, words_of_buckets}
 use Rattle.sound_image.specs.Records.{key_hash}
@@ -21,7 +22,7 @@ side_word words b m = word_of_bucket words b m
 -- a word of fingerprints in which so many slots, from one on, have none where they are not taken
 unfoldable pub without_free : (mark word from : ℕ) → ℕ → ℕ
 without_free mark word from zero = word
-without_free mark word from (suc n) = if allocated (from + n) mark == 1 then without_free mark word from n else with_finger (without_free mark word from n) (from + n) 0
+without_free mark word from (suc n) = if is_taken mark (from + n) then without_free mark word from n else with_finger (without_free mark word from n) (from + n) 0
 
 -- word 2 with the fingerprints of its taken slots alone, and word 3, whose notes are as they are
 abbrev pub low_fingers : (mark word : ℕ) → ℕ

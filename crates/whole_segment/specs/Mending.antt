@@ -2,6 +2,7 @@
 use Rattle.std.specs.Prelude.{◌≡◌, ℕ, ◌<◌, ◌⊎◌, Bool, not, ◌==◌, ◌&&◌, ◌||◌}
 use Rattle.hash_word.specs.Hash.{Covers, top}
 use Rattle.bucket_meta.specs.Bucket.{allocated}
+use Rattle.bucket_meta.specs.Search.{is_taken}
 use Rattle.bucket_meta.specs.Marks.{cleared_mark}
 use Rattle.image_layout.specs.Places.{buckets, slots_of_key}
 use Rattle.whole_segment.specs.Slots.{IsSetOf, set_of}
@@ -16,7 +17,7 @@ module _ (first : ℕ → ℕ) (key : ℕ → ℕ → ℕ) (hash : ℕ → ℕ) 
 
   -- so it is, as a test, and the slots of bucket b that are to be cleared as a set
   abbrev pub is_spoiled : ℕ → ℕ → Bool
-  is_spoiled b r = (allocated r (first b) == 1) && (not (top depth (hash (key b r)) == pattern) || stands_before first key hash b r)
+  is_spoiled b r = is_taken (first b) r && (not (top depth (hash (key b r)) == pattern) || stands_before first key hash b r)
 
   abbrev pub spoiled_set : ℕ → ℕ
   spoiled_set b = set_of (is_spoiled b)

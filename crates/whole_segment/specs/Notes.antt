@@ -1,8 +1,9 @@
 -- The records in the stash of a segment, and what keeps the record slots of a bucket, by words 1 and 3 of each bucket.
-use Rattle.std.specs.Prelude.{◌≡◌, ℕ, ◌+◌, ◌==◌, List, [], ◌∷◌, ◌++◌, if◌then◌else◌}
+use Rattle.std.specs.Prelude.{◌≡◌, ℕ, ◌+◌, List, [], ◌∷◌, ◌++◌, if◌then◌else◌}
 use Rattle.std.specs.List.{flat_map}
 use Rattle.hash_word.specs.Hash.{home_of, finger_of}
-use Rattle.bucket_meta.specs.Bucket.{allocated, record_slots, slots_part, slot_fingers_part}
+use Rattle.bucket_meta.specs.Bucket.{record_slots, slots_part, slot_fingers_part}
+use Rattle.bucket_meta.specs.Search.{is_taken}
 use Rattle.bucket_meta.specs.Notes.{numbers_below}
 use Rattle.image_layout.specs.Places.{homes}
 use Rattle.stash.specs.Segment.{Stashed}
@@ -14,7 +15,7 @@ entry_of key hash c r = (home_of (hash (key (homes + c) r)), finger_of (hash (ke
 module _ (first : ℕ → ℕ) (key : ℕ → ℕ → ℕ) (hash : ℕ → ℕ) where
   -- the records in slots below n of stash bucket c
   abbrev pub entries_below : ℕ → ℕ → List Stashed
-  entries_below c n = flat_map (λ r. if allocated r (first (homes + c)) == 1 then entry_of key hash c r ∷ [] else []) (numbers_below n)
+  entries_below c n = flat_map (λ r. if is_taken (first (homes + c)) r then entry_of key hash c r ∷ [] else []) (numbers_below n)
 
   -- all records in the stash, by stash bucket, then slot
   abbrev pub stash_entries : List Stashed

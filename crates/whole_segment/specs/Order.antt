@@ -3,6 +3,7 @@
 use Rattle.std.specs.Prelude.{◌≡◌, ℕ, zero, suc, ◌+◌, ◌*◌, ◌%◌, ◌<◌, nat_lt, Bool, false, ◌==◌, ◌&&◌, ◌||◌, if◌then◌else◌}
 use Rattle.hash_word.specs.Hash.{probing_of, home_of}
 use Rattle.bucket_meta.specs.Bucket.{allocated, record_slots}
+use Rattle.bucket_meta.specs.Search.{is_taken}
 use Rattle.image_layout.specs.Places.{homes, second_stash, slots_of_key}
 
 -- the bucket of a position, for a key of this home
@@ -41,7 +42,7 @@ module _ (first : ℕ → ℕ) (key : ℕ → ℕ → ℕ) where
 
   -- ---- the same as tests
   abbrev pub is_at : ℕ → ℕ → ℕ → Bool
-  is_at home k p = (allocated (slot_at p) (first (bucket_at home p)) == 1) && (key (bucket_at home p) (slot_at p) == k)
+  is_at home k p = is_taken (first (bucket_at home p)) (slot_at p) && (key (bucket_at home p) (slot_at p) == k)
 
   -- some position below n has the key
   unfoldable pub is_below : ℕ → ℕ → ℕ → Bool

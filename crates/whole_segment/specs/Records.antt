@@ -3,6 +3,7 @@
 use Rattle.std.specs.Prelude.{◌≡◌, ℕ, ◌+◌, ◌*◌, ◌<◌, ◌↔◌, Bool, ◌==◌, ◌&&◌, slice_index}
 use Rattle.hash_word.specs.Hash.{Covers, top}
 use Rattle.bucket_meta.specs.Bucket.{allocated, record_slots}
+use Rattle.bucket_meta.specs.Search.{is_taken}
 use Rattle.image_layout.specs.Places.{buckets}
 use Rattle.whole_segment.specs.Slots.{set_of}
 use Rattle.whole_segment.specs.declared.loaded.Loaded.{Loaded}
@@ -36,7 +37,7 @@ module _ (first : ℕ → ℕ) (key : ℕ → ℕ → ℕ) where
 
   -- so it is, as a test, and the slots of bucket b with such records as a set
   abbrev pub is_covered : (hash : ℕ → ℕ) → ℕ → ℕ → ℕ → ℕ → Bool
-  is_covered hash depth pattern b r = (allocated r (first b) == 1) && (top depth (hash (key b r)) == pattern)
+  is_covered hash depth pattern b r = is_taken (first b) r && (top depth (hash (key b r)) == pattern)
 
   abbrev pub covered_set : (hash : ℕ → ℕ) → ℕ → ℕ → ℕ → ℕ
   covered_set hash depth pattern b = set_of (is_covered hash depth pattern b)

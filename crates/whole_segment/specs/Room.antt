@@ -1,7 +1,8 @@
 -- Where a segment has no room for a hash: its two buckets and the stash are full, and no record of the two can be moved.
 use Rattle.std.specs.Prelude.{ℕ, zero, suc, ◌⊎◌, Bool, true, not, ◌==◌, ◌&&◌, ◌||◌}
 use Rattle.hash_word.specs.Hash.{probing_of, next_of, previous_of}
-use Rattle.bucket_meta.specs.Bucket.{allocated, member, record_slots}
+use Rattle.bucket_meta.specs.Bucket.{member, record_slots}
+use Rattle.bucket_meta.specs.Search.{is_taken}
 use Rattle.bucket_meta.specs.Slots.{IsFull, HasOnlyMembers, HasNoMembers}
 use Rattle.image_layout.specs.Places.{homes, second_stash}
 
@@ -29,13 +30,13 @@ all_below test zero = true
 all_below test (suc n) = test n && all_below test n
 
 abbrev pub is_full : ℕ → Bool
-is_full w1 = all_below (λ r. allocated r w1 == 1) record_slots
+is_full w1 = all_below (λ r. is_taken w1 r) record_slots
 
 abbrev pub has_only_members : ℕ → Bool
-has_only_members w1 = all_below (λ r. not (allocated r w1 == 1) || (member r w1 == 1)) record_slots
+has_only_members w1 = all_below (λ r. not (is_taken w1 r) || (member r w1 == 1)) record_slots
 
 abbrev pub has_no_members : ℕ → Bool
-has_no_members w1 = all_below (λ r. not (allocated r w1 == 1) || (member r w1 == 0)) record_slots
+has_no_members w1 = all_below (λ r. not (is_taken w1 r) || (member r w1 == 0)) record_slots
 
 abbrev pub is_crowded : (ℕ → ℕ) → ℕ → Bool
 is_crowded first home = is_full (first home) && (is_full (first (probing_of home)) && (is_full (first homes) && is_full (first second_stash)))
