@@ -1,6 +1,6 @@
 -- The fields of a bucket's words. Word 0 is the lock word and words 1 to 3 are the metadata, here w0 to w3; record slot s has its key in word 4 + 2s and its value in word 5 + 2s. Bits are counted from 0, the lowest.
 use Rattle.std.specs.Prelude.{ℕ, ◌+◌, ◌-◌, ◌*◌, ◌/◌, ◌%◌, ◌^◌, nat_lt, count_ones, if◌then◌else◌}
-use Rattle.word_bits.specs.Bits.{bits, bit}
+use Rattle.word_bits.specs.Bits.{word_bits, bits, bit}
 use Rattle.hash_word.specs.Hash.{fingerprint_bits}
 
 -- how many record slots a bucket has
@@ -191,7 +191,7 @@ spare_from = last_finger_from + fingerprint_bits
 
 -- how many bits these are, up to the word's last
 abbrev pub spare_bits : ℕ
-spare_bits = 64 - spare_from
+spare_bits = word_bits - spare_from
 
 -- the bits of w1 that no field has
 abbrev pub spare_part : ℕ → ℕ

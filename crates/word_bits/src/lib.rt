@@ -4,12 +4,15 @@
 #![tactic(auto)]
 
 ghost use Rattle.std.specs.Prelude.{◌≡◌, ◌==◌, ℕ, ◌<◌, ◌+◌, ◌*◌, ◌^◌, slice_index};
-ghost use Rattle.word_bits.specs.Bits.{bits, bit};
+ghost use Rattle.word_bits.specs.Bits.{word_bits, bits, bit};
+
+/// How many bits a word has.
+pub const WORD_BITS: u32 = 64;
 
 /// The number that `count` bits of a word make, from bit `low` upwards.
 pub fn bits_of(word: u64, low: u32, count: u32) -> u64
-    requires place { low < 64 }
-    requires some { count < 64 }
+    requires place { low < word_bits }
+    requires some { count < word_bits }
     ensures value { result ≡ bits low count word }
     ensures below { result < 2 ^ count }
 {
@@ -18,7 +21,7 @@ pub fn bits_of(word: u64, low: u32, count: u32) -> u64
 
 /// Whether bit `i` of a word is 1.
 pub fn is_set(word: u64, i: u32) -> bool
-    requires { i < 64 }
+    requires { i < word_bits }
     ensures { result ≡ (bit i word == 1) }
 {
     (word >> i) & 1 == 1
@@ -26,7 +29,7 @@ pub fn is_set(word: u64, i: u32) -> bool
 
 /// A word with the bits of `value` put above the `low` bits that it has.
 pub fn with_bits(word: u64, low: u32, value: u64) -> u64
-    requires place { low < 64 }
+    requires place { low < word_bits }
     requires free { word < 2 ^ low }
     requires fits { value * 2 ^ low < 2 ^ 64 }
     ensures { result ≡ word + 2 ^ low * value }
@@ -38,7 +41,7 @@ pub fn with_bits(word: u64, low: u32, value: u64) -> u64
 pub fn mask(i: u32) -> u64
     ensures { result ≡ Rattle.word_bits.specs.Bits.mask i }
 {
-    if i < 64 { 1 << i } else { 0 }
+    if i < WORD_BITS { 1 << i } else { 0 }
 }
 
 /// Each of these words is of 64 bits.
