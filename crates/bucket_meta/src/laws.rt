@@ -8,6 +8,7 @@ ghost use Rattle.bucket_meta.specs.NoteWords.{freed_mark, freed_fingers, FreesPl
 ghost use Rattle.bucket_meta.specs.Bucket.{fingers_of_word, note_slots, record_slots, spare_part};
 
 use crate::Meta;
+use crate::words::META_WORDS;
 
 /// Fields that are those of the same words are the same fields.
 pub fn words_give_meta()
@@ -27,7 +28,7 @@ pub fn read_of_written(meta: &Meta) -> Meta
 }
 
 /// The words that a `Meta` writes which was read of words are those words.
-pub fn written_of_read(words: [u64; 3]) -> [u64; 3]
+pub fn written_of_read(words: [u64; META_WORDS]) -> [u64; META_WORDS]
     requires { spare_part (slice_index words 0) ≡ 0 }
     ensures { result ≡ words }
 {

@@ -6,8 +6,9 @@ ghost use Rattle.hash_word.specs.Hash.{fingerprint_bits};
 ghost use Rattle.bucket_meta.specs.Bucket.{record_slots, note_slots, fingers_of_word, count_bits, spare_part};
 
 use crate::words::{
-    COUNT_BITS, COUNT_FROM, FINGERS_OF_WORD, LAST_FINGER_FROM, NOTE_INDEX_FROM, NOTE_MEMBER_FROM,
-    NOTE_SET_BITS, NOTE_SLOTS, NOTE_USED_FROM, SET_BITS, SLOTS, UPPER_FINGERS_FROM,
+    COUNT_BITS, COUNT_FROM, FINGERS_OF_WORD, LAST_FINGER_FROM, META_WORDS, NOTE_INDEX_FROM,
+    NOTE_MEMBER_FROM, NOTE_SET_BITS, NOTE_SLOTS, NOTE_USED_FROM, SET_BITS, SLOTS,
+    UPPER_FINGERS_FROM,
 };
 use hash_word::FINGERPRINT_BITS;
 use word_bits::{bits_of, with_bits};
@@ -78,7 +79,7 @@ impl Meta {
     ghost use Rattle.bucket_meta.specs.MetaWords.{IsMetaOf};
 
     /// The fields of words 1, 2 and 3 of a bucket.
-    pub fn read(words: [u64; 3]) -> Meta
+    pub fn read(words: [u64; META_WORDS]) -> Meta
         ensures { IsMetaOf result (slice_index words 0) (slice_index words 1) (slice_index words 2) }
     {
         let [w1, w2, w3] = words;
@@ -102,7 +103,7 @@ impl Meta {
     }
 
     /// Words 1, 2 and 3 of a bucket with these fields. Bits 61 to 63 of word 1 are 0.
-    pub fn write(&self) -> [u64; 3]
+    pub fn write(&self) -> [u64; META_WORDS]
         ensures fields { IsMetaOf self.now (slice_index result 0) (slice_index result 1) (slice_index result 2) }
         ensures zero { spare_part (slice_index result 0) ≡ 0 }
     {

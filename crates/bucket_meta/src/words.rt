@@ -102,6 +102,9 @@ pub const FIRST_VALUE: usize = FIRST_KEY + 1;
 /// How many words a record has: its key, and its value behind it.
 pub const RECORD_WORDS: usize = 2;
 
+/// How many words of metadata a bucket has: those from its metadata word to before its records.
+pub const META_WORDS: usize = FIRST_KEY - MARK_PLACE;
+
 /// Whether a lock word says that its bucket is locked.
 pub fn is_locked(w0: u64) -> bool
     ensures { result ≡ (lock_bit w0 == 1) }

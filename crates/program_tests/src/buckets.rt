@@ -2,7 +2,7 @@
 use crate::rows::{TellsOfNumbers, shown, walk_numbers};
 use balance::choose;
 use bucket_meta::Meta;
-use bucket_meta::words::must_visit;
+use bucket_meta::words::{META_WORDS, must_visit};
 use displace::{backward, forward};
 use finger_scan::{scan, scan_plain};
 use std::alloc::Global;
@@ -14,7 +14,7 @@ fn with_mark(mark: u64) -> Meta {
 }
 
 /// The metadata of these words, whether it is written as it was read, how many slots have a record, and which is the first that has none.
-fn meta_told(alloc: Global, words: [u64; 3]) -> Result<String, Fail> {
+fn meta_told(alloc: Global, words: [u64; META_WORDS]) -> Result<String, Fail> {
     let meta = Meta::read(words);
     let (same, filled, free) = (meta.write() == words, meta.filled(), meta.free_slot());
     shown(alloc, &(meta, same, filled, free))

@@ -5,6 +5,7 @@ ghost use Rattle.stash.specs.Segment.{IsStashed};
 
 use crate::rows::{TellsOfNumbers, said, shown, walk_numbers};
 use bucket_meta::Meta;
+use bucket_meta::words::META_WORDS;
 use image_layout::HOMES;
 use stash::{must_visit, note, rebuild, unnote};
 use std::alloc::Global;
@@ -54,7 +55,7 @@ impl Notes {
     }
 
     /// Makes the notes of their segment anew, and gives the words of its last bucket.
-    fn rebuild(&mut self, stashed: bool) -> [u64; 3] {
+    fn rebuild(&mut self, stashed: bool) -> [u64; META_WORDS] {
         let mut metas = [empty(); HOMES as usize];
         metas[0] = self.home;
         metas[1] = self.probe;
