@@ -4,6 +4,7 @@ use Rattle.trace.specs.Events.{line_of}
 use Rattle.hash_word.specs.Hash.{Covers, hash_bits}
 use Rattle.bucket_meta.specs.Bucket.{lock_bit}
 use Rattle.segment_head.specs.HeadWord.{version_in, state_in, depth_in, pattern_in, normal, splitting}
+use Rattle.segment_head.specs.SplitHeads.{finished_head}
 use Rattle.image_layout.specs.Places.{root_word, bucket_at, buckets, block, note_words, words_of_buckets}
 use Rattle.sound_image.specs.Records.{key_hash}
 use Rattle.whole_segment.specs.Records.{Stands}
@@ -28,7 +29,7 @@ use Rattle.mend_op.specs.declared.stage.Stage.TheVariants as stage
 use Rattle.mend_op.specs.declared.op.MendStep.{MendStep}
 use Rattle.mend_op.specs.declared.op.MendStep.TheVariants.{Fill, Round, Finish, FinishFlush, FinishFence, Note, Renew, RenewFlush, RenewFence, Give, Ended}
 use Rattle.mend_op.specs.declared.op.MendOp.{MendOp}
-use Rattle.mend_op.specs.Words.{first_of, key_of, finished_head, renewed_head}
+use Rattle.mend_op.specs.Words.{first_of, key_of, renewed_head}
 use Rattle.mend_op.specs.Stages.{most, place, made}
 use Rattle.mend_op.specs.Steps.{head_at, word_at, due}
 

@@ -1,6 +1,7 @@
 -- What a mending wants in each step, and what an answer makes of it; and how it ends.
 use Rattle.std.specs.Prelude.{ℕ, ◌+◌, ◌-◌, ◌==◌, not, nat_lt, Bool, true, false, Option, None, Some, replicate, slice_index, slice_set, if◌then◌else◌}
 use Rattle.trace.specs.Events.{line_of}
+use Rattle.segment_head.specs.SplitHeads.{finished_head}
 use Rattle.image_layout.specs.Places.{note_words, words_of_buckets, last_of_buckets}
 use Rattle.image_layout.specs.Volatile.{free_guard}
 use Rattle.way.specs.Ways.{head_word, bucket_word}
@@ -21,7 +22,7 @@ use Rattle.mend_op.specs.declared.op.MendEnd.TheVariants as ends
 use Rattle.mend_op.specs.declared.op.MendStep.{MendStep}
 use Rattle.mend_op.specs.declared.op.MendStep.TheVariants.{Fill, Round, Finish, FinishFlush, FinishFence, Note, Renew, RenewFlush, RenewFence, Give, Ended}
 use Rattle.mend_op.specs.declared.op.MendOp.{MendOp}
-use Rattle.mend_op.specs.Words.{finished_head, renewed_head}
+use Rattle.mend_op.specs.Words.{renewed_head}
 use Rattle.mend_op.specs.Stages.{most, place, made}
 use Rattle.rounds.specs.Seeking.{seek}
 

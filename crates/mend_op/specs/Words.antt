@@ -5,7 +5,7 @@ use Rattle.bucket_meta.specs.Bucket.{record_slots, lock_place, mark_place, rest_
 use Rattle.bucket_meta.specs.Marks.{cleared_mark}
 use Rattle.segment_head.specs.HeadWord.{depth_in, pattern_in, header_of, normal}
 use Rattle.hash_word.specs.Hash.{hash_bits}
-use Rattle.segment_head.specs.SplitHeads.{one_pattern_field, zero_side_head}
+use Rattle.segment_head.specs.SplitHeads.{one_pattern_field}
 pub use Rattle.segment_head.specs.SplitHeads.{side_depth}
 use Rattle.image_layout.specs.Places.{Shape, homes, buckets, block}
 use Rattle.sound_image.specs.Records.{key_hash}
@@ -23,10 +23,6 @@ side_pattern head = one_pattern_field head
 -- the depth of the segment itself, at most 64
 abbrev pub own_depth : ℕ → ℕ
 own_depth head = min (depth_in head) hash_bits
-
--- the header when its split ends: normal, one deeper, with a 0 behind its pattern
-abbrev pub finished_head : ℕ → ℕ
-finished_head head = zero_side_head normal head
 
 -- the header when it is mended: normal, with this version
 abbrev pub renewed_head : ℕ → ℕ → ℕ

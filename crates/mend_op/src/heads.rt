@@ -1,10 +1,9 @@
-//! The headers that are stored, and the depth that the header says of the segment.
+//! The header with which a mending ends, and the depth that the header says of the segment.
 
 ghost use Rattle.std.specs.Prelude.{◌≡◌};
-ghost use Rattle.mend_op.specs.Words.{own_depth, finished_head, renewed_head};
+ghost use Rattle.mend_op.specs.Words.{own_depth, renewed_head};
 
 use hash_word::HASH_BITS;
-use segment_head::split::zero_side_head;
 use segment_head::word::{NORMAL, depth_of, header_of, pattern_of};
 
 /// The depth of a segment with this header, at most 64.
@@ -12,13 +11,6 @@ pub(crate) fn own_depth(head: u64) -> u8
     ensures { result ≡ own_depth head }
 {
     depth_of(head).min(HASH_BITS)
-}
-
-/// The header when its split ends: normal, of the version that it had, one deeper, with a 0 behind its pattern.
-pub(crate) fn finished_head(head: u64) -> u64
-    ensures { result ≡ finished_head head }
-{
-    zero_side_head(NORMAL, head)
 }
 
 /// The header when it is mended: normal, of this version.

@@ -6,13 +6,14 @@ ghost use Rattle.op_core.specs.declared.want.Want.TheVariants as want;
 ghost use Rattle.mend_op.specs.Stages.{most};
 ghost use Rattle.mend_op.specs.Steps.{head_at, word_at, with_word, with_stored, prepared, is_changed, changed_from, due, noting, noted_from, begin_notes, over, rounding, begin, rounded, loaded_by, filled_to, finished, noted, store_wanted, wanted, taken, begun, end_of};
 
-use crate::heads::{finished_head, renewed_head};
+use crate::heads::renewed_head;
 use crate::make::made;
 use crate::stage::Stage;
 use image_layout::{FREE_GUARD, LAST_OF_BUCKETS, NOTE_WORDS, WORDS_OF_BUCKETS};
 use op_core::{Ans, Machine, Want};
 use repair_op::Guarded;
 use rounds::Rounds;
+use segment_head::split::finished_head;
 use trace::line_of;
 use way::{bucket_word, head_word};
 

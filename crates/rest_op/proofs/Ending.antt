@@ -3,6 +3,7 @@ use Rattle.std.proofs.Common.{◌≡◌, ℕ, suc, ◌+◌, ◌*◌, List, [], i
 use Rattle.std.specs.Prelude.{slice_index}
 use Rattle.trace.specs.Events.{line_of}
 use Rattle.segment_head.specs.HeadWord.{version_in, state_in, depth_in, pattern_in, normal}
+use Rattle.segment_head.specs.SplitHeads.{finished_head}
 use Rattle.frame_facts.specs.Facts.{Lacks, Deep}
 use Rattle.way.specs.Ways.{head_word}
 use Rattle.map_model.specs.declared.call.Call.{Call}
@@ -25,7 +26,6 @@ use Rattle.rounds.proofs.Keeping.{rounds_may}
 use Rattle.enclose_op.specs.declared.enclosed.Enclosed.{Enclosed}
 use Rattle.enclose_op.specs.Whole.{IsOf, IsWhole, kept_third}
 use Rattle.rest_op.specs.declared.op.RestOp.{RestOp}
-use Rattle.rest_op.specs.Steps.{rest_head}
 use Rattle.rest_op.specs.Reckoned.{side_depth}
 use Rattle.rest_op.specs.Stands.{HasAll, IsSplit, HasEnded, HasFlushed}
 use Rattle.enclose_op.proofs.Places.{head_is}
@@ -75,19 +75,19 @@ module _ (site : Ground) (ground : IsGround site) (here : Site) (call : Call) (o
     deep_now = subst (λ d. Has (Deep d (suc d) (2 * pattern_in (words (header_word site.shape e.segment)) + 1)) v.facts) (sym depth_now)
         (subst (λ p. Has (Deep (depth_in e.head) (side_depth e) (2 * p + 1)) v.facts) (sym pattern_now) c.deep)
 
-    pub head_may : MayAt site (moves finishes e.segment (rest_head e)) v
-    head_may = (may_finish site v ground).end e.segment (rest_head e) words (settled_holder site e first third c.head v c.all is.located) (whole_held site e first third c.head v c.all)
+    pub head_may : MayAt site (moves finishes e.segment (finished_head e.head)) v
+    head_may = (may_finish site v ground).end e.segment (finished_head e.head) words (settled_holder site e first third c.head v c.all is.located) (whole_held site e first third c.head v c.all)
         (guard_held site e first third c.head v c.all) (no_sides site e first third c.head v c.all)
         (knows_head site e first third c.head v c.all is.located (λ y loose. settled_firm v settled _ loose) (λ y loose. settled_firm v settled _ loose))
         (ap state_in header_now ∙ c.is_head.state_is) lacks_now deep_now
-        (header_by (rest_head e) (words (header_word site.shape e.segment)) (depth_in e.head) (pattern_in e.head) (version_in e.head) (rest_is site ground here call e is whole) depth_now pattern_now
+        (header_by (finished_head e.head) (words (header_word site.shape e.segment)) (depth_in e.head) (pattern_in e.head) (version_in e.head) (rest_is site ground here call e is whole) depth_now pattern_now
         (ap version_in header_now ∙ c.is_head.version_is))
 
-    pub head_stands : (n : ℕ) → HasEnded site op (view_then site.shape (moves finishes e.segment (rest_head e)) n v)
+    pub head_stands : (n : ℕ) → HasEnded site op (view_then site.shape (moves finishes e.segment (finished_head e.head)) n v)
     head_stands n = record {
-      all = head_stored site e first third c.head (rest_head e) n v c.all;
+      all = head_stored site e first third c.head (finished_head e.head) n v c.all;
       flushed = settled.flushed;
-      loose = λ p dirty. elim (loosened_has site.shape (header_word site.shape e.segment) n (rest_head e) v.dirty p dirty) [
+      loose = λ p dirty. elim (loosened_has site.shape (header_word site.shape e.segment) n (finished_head e.head) v.dirty p dirty) [
         | inl same ↦ ap (λ (q : ℕ × ℕ). q.0) same
         | inr old ↦ absurd (subst (λ (l : List (ℕ × ℕ)). Has p l) settled.dirty old)
       ];
@@ -103,17 +103,17 @@ module _ (site : Ground) (ground : IsGround site) (here : Site) (call : Call) (o
 
     pub flush_stands : (n : ℕ) → HasFlushed site op (view_after site.shape (flushes line) n v)
     flush_stands n = record {
-      all = all_kept site e first third (rest_head e) v (view_after site.shape (flushes line) n v) refl refl refl refl refl refl c.all;
+      all = all_kept site e first third (finished_head e.head) v (view_after site.shape (flushes line) n v) refl refl refl refl refl refl c.all;
       dirty = nothing_left (off_line line v.dirty) nothing_dirty;
     }
 
   -- ---- its fence
   module _ (v : View) (c : HasFlushed site op v) where
     pub fence_may : MayAt site (settles []) v
-    fence_may = rounds_may.fence site v (λ n side. absurd (no_sides site e first third (rest_head e) v c.all n side))
+    fence_may = rounds_may.fence site v (λ n side. absurd (no_sides site e first third (finished_head e.head) v c.all n side))
 
-    pub fence_all : (n : ℕ) → HasAll site e first third (rest_head e) (view_then site.shape (settles []) n v)
-    fence_all n = all_kept site e first third (rest_head e) v (view_then site.shape (settles []) n v) refl refl refl refl refl refl c.all
+    pub fence_all : (n : ℕ) → HasAll site e first third (finished_head e.head) (view_then site.shape (settles []) n v)
+    fence_all n = all_kept site e first third (finished_head e.head) v (view_then site.shape (settles []) n v) refl refl refl refl refl refl c.all
 
     pub fence_settled : (n : ℕ) → IsSettled (view_then site.shape (settles []) n v)
     fence_settled n = record { dirty = c.dirty; flushed = refl }

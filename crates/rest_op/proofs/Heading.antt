@@ -1,6 +1,7 @@
 -- The header is stored by one event, behind which the split may be told as made.
 use Rattle.std.proofs.Common.{◌≡◌, ℕ, Bool, true, false, Option, None, Some, refl}
 use Rattle.std.proofs.lemmas.Bool.{both_ways}
+use Rattle.segment_head.specs.SplitHeads.{finished_head}
 use Rattle.op_core.specs.declared.want.Want.{Want}
 use Rattle.op_core.specs.declared.want.Want.TheVariants as want
 use Rattle.op_core.specs.declared.want.Ans.{Ans}
@@ -12,7 +13,7 @@ use Rattle.rounds.specs.Steps.{begun, rounds_stores, rounds_wanted, rounds_taken
 use Rattle.rest_op.specs.declared.op.RestOp.{RestOp}
 use Rattle.rest_op.specs.declared.op.RestStep.{RestStep}
 use Rattle.rest_op.specs.declared.op.RestStep.TheVariants.{Clear, Head, Ended}
-use Rattle.rest_op.specs.Steps.{rest_head, due, clear_from, next_clear, clearing_by, cleared, wanted_in, next_in}
+use Rattle.rest_op.specs.Steps.{due, clear_from, next_clear, clearing_by, cleared, wanted_in, next_in}
 use Rattle.rest_op.specs.RestPart.{outcome_at, is_headed, StoresHeader}
 use Rattle.rest_op.proofs.whole.Halving.{rest_is}
 
@@ -32,7 +33,7 @@ module _ (op : RestOp) where
   begins_old = old_by (rounds_wanted begun (due op (clear_from op 0))) (clear_from op 0) begun
 
   -- ---- EACH STEP
-  stores_at : (s : RestStep) (a : Ans) → is_headed s ≡ false → is_headed (next_in op s a) ≡ true → wanted_in op s ≡ want.Store (head_word op.whole.site.geometry op.whole.segment) (rest_head op.whole)
+  stores_at : (s : RestStep) (a : Ans) → is_headed s ≡ false → is_headed (next_in op s a) ≡ true → wanted_in op s ≡ want.Store (head_word op.whole.site.geometry op.whole.segment) (finished_head op.whole.head)
   stores_at (Clear b rounds) Passed old new = absurd (both_ways (is_headed (cleared op b rounds)) (cleared_old b rounds) new)
   stores_at (Clear b rounds) a old new = absurd (let z : false ≡ true = new in cc)
   stores_at Head a old new = refl

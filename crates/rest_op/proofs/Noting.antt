@@ -2,6 +2,7 @@
 use Rattle.std.proofs.Common.{◌≡◌, ◌≢◌, ℕ, ◌+◌, ◌*◌, ◌/◌, ◌%◌, ◌^◌, ◌<◌, ◌≤◌, Bool, true, false, inl, inr, refl, sym, ap, ◌∙◌, subst, arith}
 use Rattle.std.specs.Prelude.{◌==◌, ◌&&◌, if◌then◌else◌, slice_index, nat_lt}
 use Rattle.std.proofs.lemmas.Bool.{cases_eq, cases_lt, eqb-true, eq-eqb, ne_eqb, lt-ltb, le-ltb, ltb-true, ltb-false, not-false, and_right}
+use Rattle.segment_head.specs.SplitHeads.{finished_head}
 use Rattle.image_layout.specs.Places.{bucket_at, homes, buckets, block}
 use Rattle.bucket_words.specs.Core.{core_of}
 use Rattle.bucket_words.proofs.segments.Cores.{core_in}
@@ -18,7 +19,7 @@ use Rattle.enclose_op.specs.Whole.{kept_word, kept_third}
 use Rattle.enclose_op.specs.Giving.{lock_of}
 use Rattle.rest_op.specs.declared.op.RestOp.{RestOp}
 use Rattle.rest_op.specs.declared.op.RestStep.TheVariants.{Note, Open}
-use Rattle.rest_op.specs.Steps.{rest_head, note_home, note_value, note_old, note_word, is_noted, note_from, noting}
+use Rattle.rest_op.specs.Steps.{note_home, note_value, note_old, note_word, is_noted, note_from, noting}
 use Rattle.rest_op.specs.Reckoned.{IsReckoned}
 use Rattle.rest_op.specs.Stands.{value_of, first_before, third_before, HasAll, IsNoting, SuitsStep}
 use Rattle.enclose_op.proofs.Places.{lock_is}
@@ -190,7 +191,7 @@ module _ (site : Ground) (ground : IsGround site) (op : RestOp) (l : IsLocated s
   abbrev at : ℕ → ℕ → ℕ
   at b m = bucket_at site.shape e.segment b + m
 
-  module _ (first third : ℕ → ℕ) (v : View) (a : HasAll site e first third (rest_head e) v) (settled : IsSettled v) (b m x : ℕ) (near : b < buckets) (from : 1 ≤ m) (to : m ≤ 3)
+  module _ (first third : ℕ → ℕ) (v : View) (a : HasAll site e first third (finished_head e.head) v) (settled : IsSettled v) (b m x : ℕ) (near : b < buckets) (from : 1 ≤ m) (to : m ≤ 3)
       (same : core_of site.shape (at b m) x ≡ core_of site.shape (at b m) (value_of e first third b m)) where
     inside : m < block
     inside = omega (arith, to)
@@ -199,7 +200,7 @@ module _ (site : Ground) (ground : IsGround site) (op : RestOp) (l : IsLocated s
     known_here = a.words b m near from inside
 
     pub word_may : MayAt site (sets (at b m) x) v
-    word_may = (may_finish site v ground).rebuild e.segment b m x (value_of e first third b m) (settled_holder site e first third (rest_head e) v a l) (holds_bucket site e first third (rest_head e) v a l b near) from to
+    word_may = (may_finish site v ground).rebuild e.segment b m x (value_of e first third b m) (settled_holder site e first third (finished_head e.head) v a l) (holds_bucket site e first third (finished_head e.head) v a l b near) from to
         (record { known = known_here; firm = λ y loose. settled_firm v settled _ loose }) same
 
     pub word_settled : (n : ℕ) → n ≡ value_of e first third b m → IsSettled (view_then site.shape (sets (at b m) x) n v)
@@ -254,7 +255,7 @@ module _ (site : Ground) (ground : IsGround site) (op : RestOp) (l : IsLocated s
 
       pub one_stands : (n : ℕ) → n ≡ value_of e first third c 1 → IsNoting site op (2 * c + 1) (view_then site.shape (sets (at c 1) (slice_index op.notes.first c)) n v)
       one_stands n is = record {
-        all = all_stored site e first third (first_before op (2 * c + 1)) (third_before op (2 * c + 1)) (rest_head e) c 1 (slice_index op.notes.first c) n v near (omega arith)
+        all = all_stored site e first third (first_before op (2 * c + 1)) (third_before op (2 * c + 1)) (finished_head e.head) c 1 (slice_index op.notes.first c) n v near (omega arith)
             (first_done op (2 * c + 1) c low (omega arith)) one_others a.all;
         settled = word_settled first third v a.all a.settled c 1 (slice_index op.notes.first c) near (omega arith) (omega arith) one_same n is;
       }
@@ -286,7 +287,7 @@ module _ (site : Ground) (ground : IsGround site) (op : RestOp) (l : IsLocated s
 
       pub three_stands : (n : ℕ) → n ≡ value_of e first_now third_now c 3 → IsNoting site op (2 * c + 1 + 1) (view_then site.shape (sets (at c 3) (slice_index op.notes.third c)) n v)
       three_stands n is = record {
-        all = all_stored site e first_now third_now (first_before op (2 * c + 1 + 1)) (third_before op (2 * c + 1 + 1)) (rest_head e) c 3 (slice_index op.notes.third c) n v near (omega arith)
+        all = all_stored site e first_now third_now (first_before op (2 * c + 1 + 1)) (third_before op (2 * c + 1 + 1)) (finished_head e.head) c 3 (slice_index op.notes.third c) n v near (omega arith)
             (third_done op (2 * c + 1 + 1) c low (omega arith)) three_others a.all;
         settled = word_settled first_now third_now v a.all a.settled c 3 (slice_index op.notes.third c) near (omega arith) (omega arith) three_same n is;
       }
@@ -335,7 +336,7 @@ module _ (site : Ground) (ground : IsGround site) (op : RestOp) (l : IsLocated s
   -- ---- where the next one is stored, or the segment is opened
   over : (from : ℕ) (v : View) → IsNoting site op from v → IsNoting site op (note_from op from) v
   over from v a = record {
-    all = all_same site e (first_before op from) (third_before op from) (first_before op (note_from op from)) (third_before op (note_from op from)) (rest_head e) v
+    all = all_same site e (first_before op from) (third_before op from) (first_before op (note_from op from)) (third_before op (note_from op from)) (finished_head e.head) v
         (λ c _. first_passed op from c) (λ c _. third_passed op from c) a.all;
     settled = a.settled;
   }
@@ -349,8 +350,8 @@ module _ (site : Ground) (ground : IsGround site) (op : RestOp) (l : IsLocated s
       next_suits (note_from op from) v (seek_within (is_noted op) (2 * homes) from most) (over from v a) (nat_lt (note_from op from) (2 * homes)) refl
 
   -- none is stored at first
-  pub none_noted : (v : View) → HasAll site e (λ c. slice_index op.cleared c) (kept_third e) (rest_head e) v → IsSettled v → IsNoting site op 0 v
+  pub none_noted : (v : View) → HasAll site e (λ c. slice_index op.cleared c) (kept_third e) (finished_head e.head) v → IsSettled v → IsNoting site op 0 v
   none_noted v a settled = record {
-    all = all_same site e (λ c. slice_index op.cleared c) (kept_third e) (first_before op 0) (third_before op 0) (rest_head e) v (λ c _. first_none op c) (λ c _. third_none op c) a;
+    all = all_same site e (λ c. slice_index op.cleared c) (kept_third e) (first_before op 0) (third_before op 0) (finished_head e.head) v (λ c _. first_none op c) (λ c _. third_none op c) a;
     settled = settled;
   }

@@ -5,6 +5,7 @@ use Rattle.std.proofs.lemmas.Bool.{eq-eqb}
 use Rattle.hash_word.specs.Hash.{Covers}
 use Rattle.op_core.specs.declared.want.Want.TheVariants.{Store}
 use Rattle.segment_head.specs.HeadWord.{state_in, depth_in, pattern_in}
+use Rattle.segment_head.specs.SplitHeads.{finished_head}
 use Rattle.image_layout.specs.Places.{bucket_at, homes, buckets}
 use Rattle.sound_image.specs.Records.{key_hash}
 use Rattle.bucket_words.specs.Hits.{Hit}
@@ -26,7 +27,6 @@ use Rattle.enclose_op.specs.Fits.{HoldsPart}
 use Rattle.enclose_op.proofs.Places.{lock_is, free_is}
 use Rattle.enclose_op.proofs.Held.{hold_less}
 use Rattle.rest_op.specs.declared.op.RestOp.{RestOp}
-use Rattle.rest_op.specs.Steps.{rest_head}
 use Rattle.rest_op.specs.Reckoned.{cleared_of, IsReckoned}
 use Rattle.rest_op.specs.Stands.{first_before, third_before, IsNoting}
 use Rattle.rest_op.proofs.whole.Words.{rest_words, header_here}
@@ -55,10 +55,10 @@ module _ (site : Ground) (ground : IsGround site) (here : Site) (call : Call) (o
   third = third_before op (2 * homes)
 
   abbrev word : ℕ → ℕ
-  word = rest_words site.shape k first third (rest_head k) c.all.link.0
+  word = rest_words site.shape k first third (finished_head k.head) c.all.link.0
 
-  header_now : word (header_word site.shape k.segment) ≡ rest_head k
-  header_now = header_here site.shape k first third (rest_head k) c.all.link.0
+  header_now : word (header_word site.shape k.segment) ≡ finished_head k.head
+  header_now = header_here site.shape k first third (finished_head k.head) c.all.link.0
 
   stashes : (b : ℕ) → homes ≤ b → b < buckets → first b ≡ cleared_of k b
   stashes b high near = first_behind op b high ∙ reckoned.cleared b near
@@ -69,7 +69,7 @@ module _ (site : Ground) (ground : IsGround site) (here : Site) (call : Call) (o
       let head = rest_is site ground here call k is whole in
       let low = depth_low site ground here call k is whole in
       let covers : Covers (suc (depth_in k.head)) (2 * pattern_in k.head) (key_hash site.shape key)
-      = own site op is.located whole reckoned first third (rest_head k) c.all.link.0 (first_all op) (third_all op) stashes b r key hit (omega (arith, low)) in
+      = own site op is.located whole reckoned first third (finished_head k.head) c.all.link.0 (first_all op) (third_all op) stashes b r key hit (omega (arith, low)) in
       subst (λ d. Covers d (pattern_in (word (header_word site.shape k.segment))) (key_hash site.shape key)) (sym (ap depth_in header_now ∙ head.depth_is))
       (subst (λ p. Covers (suc (depth_in k.head)) p (key_hash site.shape key)) (sym (ap pattern_in header_now ∙ head.pattern_is)) covers)
 
@@ -84,15 +84,15 @@ module _ (site : Ground) (ground : IsGround site) (here : Site) (call : Call) (o
 
   pub open_may : MayAt site (opens k.segment (lock_of k 0) (free_value k 0 + 2)) v
   open_may =
-      let may = (may_finish site v ground).reopens k.segment 0 (slice_index k.locks 0 + 1) word (settled_holder site k first third (rest_head k) v c.all is.located) (whole_held site k first third (rest_head k) v c.all) zero_near
+      let may = (may_finish site v ground).reopens k.segment 0 (slice_index k.locks 0 + 1) word (settled_holder site k first third (finished_head k.head) v c.all is.located) (whole_held site k first third (finished_head k.head) v c.all) zero_near
       (c.all.locks.has 0 (omega arith) zero_near)
-      (knows_head site k first third (rest_head k) v c.all is.located (λ y loose. loose_none _ loose) (λ y loose. loose_none _ loose))
+      (knows_head site k first third (finished_head k.head) v c.all is.located (λ y loose. loose_none _ loose) (λ y loose. loose_none _ loose))
       (ap state_in header_now ∙ (rest_is site ground here call k is whole).state_is)
-      (λ b n near from low. knows_word site k first third (rest_head k) v c.all b n near from low (λ y loose. loose_none _ loose))
+      (λ b n near from low. knows_word site k first third (finished_head k.head) v c.all b n near from low (λ y loose. loose_none _ loose))
       (λ p loose inside. loose_none p loose)
       own_now
-      (once site op is.located whole reckoned first third (rest_head k) c.all.link.0 (first_all op) (third_all op) stashes)
-      (exact site op is.located whole reckoned first third (rest_head k) c.all.link.0 (first_all op) (third_all op) stashes) in
+      (once site op is.located whole reckoned first third (finished_head k.head) c.all.link.0 (first_all op) (third_all op) stashes)
+      (exact site op is.located whole reckoned first third (finished_head k.head) c.all.link.0 (first_all op) (third_all op) stashes) in
       subst (λ i. MayAt site (opens k.segment i (free_value k 0 + 2)) v) (sym (lock_is site k is.located 0 zero_near))
       (subst (λ x. MayAt site (opens k.segment (bucket_at site.shape k.segment 0) x) v) next_lock may)
 

@@ -7,6 +7,7 @@ use Rattle.op_core.specs.declared.want.Want.{Want}
 use Rattle.op_core.specs.declared.want.Want.TheVariants as wants
 use Rattle.op_core.specs.declared.want.Ans.{Ans}
 use Rattle.segment_head.specs.HeadWord.{depth_in, pattern_in, version_in, normal}
+use Rattle.segment_head.specs.SplitHeads.{finished_head}
 use Rattle.segment_head.proofs.Headers.{header_below}
 use Rattle.image_layout.specs.Places.{Shape, first_segment, head_at, bucket_at, words_of, homes, buckets, block, segment_words}
 use Rattle.image_layout.specs.Volatile.{all_words_of, counter_word}
@@ -47,7 +48,7 @@ use Rattle.enclose_op.proofs.Giving.{give_some, give_answer, give_puts, give_mak
 use Rattle.rest_op.specs.declared.op.RestOp.{RestOp}
 use Rattle.rest_op.specs.declared.op.RestStep.{RestStep}
 use Rattle.rest_op.specs.declared.op.RestStep.TheVariants.{Clear, Head, HeadFlush, HeadFence, Note, Open, Give, Ended}
-use Rattle.rest_op.specs.Steps.{rest_head, due, clear_from, is_cleared, clearing_by, noting, note_from, note_home, note_place, note_word, note_value, given_by, wanted_in, next_in, wanted, at_step, begun_in, end_at}
+use Rattle.rest_op.specs.Steps.{due, clear_from, is_cleared, clearing_by, noting, note_from, note_home, note_place, note_word, note_value, given_by, wanted_in, next_in, wanted, at_step, begun_in, end_at}
 use Rattle.rest_op.specs.Reckoned.{IsReckoned}
 use Rattle.rest_op.specs.Stands.{value_of, cleared_before, kind_at, HasAll, IsClearing, SuitsStep}
 use Rattle.rest_op.specs.RestPart.{outcome_at, rest_part, BeginsAsPart, BeginsUndecided, EndsAsSplit}
@@ -80,7 +81,7 @@ module _ (site : Ground) (ground : IsGround site) (here : Site) (call : Call) (o
 
   wants_at : (s : RestStep) → Suited s → wanted_in op s ≢ wants.Done → wanted_in op s ≡ wanted_of site.shape (kind_at op s)
   wants_at (Clear b rounds) s asks = clear_wants_by b rounds s (rounds_wanted rounds (due op b)) refl
-  wants_at Head s asks = ap (λ i. wants.Store i (rest_head e)) (head_is site e l)
+  wants_at Head s asks = ap (λ i. wants.Store i (finished_head e.head)) (head_is site e l)
   wants_at HeadFlush s asks = refl
   wants_at HeadFence s asks = refl
   wants_at (Note n) s asks = refl
@@ -266,7 +267,7 @@ module _ (site : Ground) (good : IsGround site) (op : RestOp) (l : IsLocated sit
 
   within_at : (s : RestStep) → SuitsStep site op s v → IsWithin site.shape (wanted_in op s)
   within_at (Clear b rounds) s = clear_within b rounds s.0
-  within_at Head s = store_in _ (rest_head op.whole) (subst (λ i. i < words_of site.shape) (sym (head_is site op.whole l)) header_low)
+  within_at Head s = store_in _ (finished_head op.whole.head) (subst (λ i. i < words_of site.shape) (sym (head_is site op.whole l)) header_low)
   within_at HeadFlush s = flush_in _ (subst (λ i. 8 * line_of i + 8 ≤ words_of site.shape) (sym (head_is site op.whole l)) header_line)
   within_at HeadFence s = none_in wants.Fence refl (λ n same. absurd (cc))
   within_at (Note n) s = store_in (note_word op n) (note_value op n) (note_low n)
@@ -276,7 +277,7 @@ module _ (site : Ground) (good : IsGround site) (op : RestOp) (l : IsLocated sit
 
 -- ---- what it puts into the memory
 module _ (op : RestOp) (reckoned : IsReckoned op) where
-  rest_small : rest_head op.whole < 2 ^ 64
+  rest_small : finished_head op.whole.head < 2 ^ 64
   rest_small = header_below (version_in op.whole.head) normal ((depth_in op.whole.head + 1) % 2 ^ 8) (2 * pattern_in op.whole.head % 2 ^ 32) (omega arith) (omega arith) (omega arith) (omega arith)
 
   note_small : (n : ℕ) (t : Bool) → (if t then slice_index op.notes.first (note_home n) else slice_index op.notes.third (note_home n)) < 2 ^ 64
@@ -291,7 +292,7 @@ module _ (op : RestOp) (reckoned : IsReckoned op) where
 
   puts_at : (s : RestStep) → PutsWord (wanted_in op s)
   puts_at (Clear b rounds) = clear_puts b rounds
-  puts_at Head = store_puts _ (rest_head op.whole) rest_small
+  puts_at Head = store_puts _ (finished_head op.whole.head) rest_small
   puts_at HeadFlush = flush_puts _
   puts_at HeadFence = fence_puts
   puts_at (Note n) = store_puts (note_word op n) (note_value op n) (note_small n (n % 2 == 0))
@@ -316,7 +317,7 @@ clear_some site op b rounds v s done = s.1 (event_none rounds (due op b) s.0.sta
 
 ended_at : (site : Ground) (op : RestOp) (s : RestStep) (v : View) → SuitsStep site op s v → wanted_in op s ≡ wants.Done → s ≡ Ended
 ended_at site op (Clear b rounds) v s done = absurd (clear_some site op b rounds v s done)
-ended_at site op Head v s done = absurd (let no : wants.Store (head_word op.whole.site.geometry op.whole.segment) (rest_head op.whole) ≡ wants.Done = done in cc)
+ended_at site op Head v s done = absurd (let no : wants.Store (head_word op.whole.site.geometry op.whole.segment) (finished_head op.whole.head) ≡ wants.Done = done in cc)
 ended_at site op HeadFlush v s done = absurd (let no : wants.Flush (line_of (head_word op.whole.site.geometry op.whole.segment)) ≡ wants.Done = done in cc)
 ended_at site op HeadFence v s done = absurd (let no : wants.Fence ≡ wants.Done = done in cc)
 ended_at site op (Note n) v s done = absurd (let no : wants.Store (note_word op n) (note_value op n) ≡ wants.Done = done in cc)

@@ -4,6 +4,7 @@ use Rattle.op_core.specs.declared.want.Want.TheVariants as want
 use Rattle.op_core.specs.declared.want.Ans.{Ans}
 use Rattle.segment_head.specs.HeadWord.{version_in, pattern_in, normal}
 use Rattle.segment_head.specs.Prefixes.{pattern_of_zero_side}
+use Rattle.segment_head.specs.SplitHeads.{finished_head}
 use Rattle.image_layout.specs.Places.{buckets, note_words}
 use Rattle.map_model.specs.declared.call.Call.{Call}
 use Rattle.way.specs.Ways.{head_word}
@@ -25,7 +26,7 @@ use Rattle.rest_op.specs.declared.op.RestEnd.TheVariants as ends
 use Rattle.rest_op.specs.declared.op.RestStep.{RestStep}
 use Rattle.rest_op.specs.declared.op.RestStep.TheVariants.{Clear, Head, HeadFlush, HeadFence, Note, Open, Give, Ended}
 use Rattle.rest_op.specs.declared.op.RestOp.{RestOp}
-use Rattle.rest_op.specs.Steps.{rest_head, wanted, taken, begun_in, end_of}
+use Rattle.rest_op.specs.Steps.{wanted, taken, begun_in, end_of}
 use Rattle.rest_op.specs.Reckoned.{side_depth, IsReckoned, rest_of}
 use Rattle.rest_op.specs.Stands.{kind_at, SuitsStep}
 
@@ -126,8 +127,8 @@ is_headed step = true
 pub record StoresHeader : Type 0 where
   pub begins : (op : RestOp) → is_headed (begun_in op) ≡ false
   pub stores : (op : RestOp) (a : Ans) → is_headed op.step ≡ false → is_headed (taken op a).step ≡ true
-      → wanted op ≡ want.Store (head_word op.whole.site.geometry op.whole.segment) (rest_head op.whole)
+      → wanted op ≡ want.Store (head_word op.whole.site.geometry op.whole.segment) (finished_head op.whole.head)
   pub same : (op : RestOp) (a : Ans) → (taken op a).whole ≡ op.whole
   pub ends : (op : RestOp) → outcome_at op.step ≡ Some finished → is_headed op.step ≡ true
   pub header : (site : Ground) (here : Site) (call : Call) (e : Enclosed) → IsGround site → IsOf site here call e → IsWhole site e
-      → IsHeader (rest_head e) normal (side_depth e) (pattern_of_zero_side (pattern_in e.head)) (version_in e.head)
+      → IsHeader (finished_head e.head) normal (side_depth e) (pattern_of_zero_side (pattern_in e.head)) (version_in e.head)

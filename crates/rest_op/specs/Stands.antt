@@ -4,6 +4,7 @@ use Rattle.trace.specs.Events.{line_of}
 use Rattle.bucket_meta.specs.Bucket.{mark_place, rest_place, given_back}
 use Rattle.segment_head.specs.HeadWord.{version_in, depth_in, pattern_in, splitting}
 use Rattle.image_layout.specs.Places.{root_word, bucket_at, homes, buckets, block, note_words_of_home, note_words}
+use Rattle.segment_head.specs.SplitHeads.{finished_head}
 use Rattle.frame_facts.specs.Facts.{Lacks, Deep}
 use Rattle.way.specs.Ways.{head_word}
 use Rattle.world.specs.Ground.{Ground}
@@ -25,13 +26,13 @@ use Rattle.enclose_op.specs.Fits.{give_kind, SuitsGive}
 use Rattle.rest_op.specs.declared.op.RestStep.{RestStep}
 use Rattle.rest_op.specs.declared.op.RestStep.TheVariants.{Clear, Head, HeadFlush, HeadFence, Note, Open, Give, Ended}
 use Rattle.rest_op.specs.declared.op.RestOp.{RestOp}
-use Rattle.rest_op.specs.Steps.{rest_head, due, note_word, note_value}
+use Rattle.rest_op.specs.Steps.{due, note_word, note_value}
 use Rattle.rest_op.specs.Reckoned.{side_depth, side_pattern}
 
 -- ---- the kind of each event
 abbrev pub kind_at : RestOp → RestStep → StepKind
 kind_at op (Clear b rounds) = rounds_kind rounds (due op b) []
-kind_at op Head = of_structure (moves finishes op.whole.segment (rest_head op.whole))
+kind_at op Head = of_structure (moves finishes op.whole.segment (finished_head op.whole.head))
 kind_at op HeadFlush = of_call (flushes (line_of (head_word op.whole.site.geometry op.whole.segment)))
 kind_at op HeadFence = of_structure (settles [])
 kind_at op (Note n) = of_structure (sets (note_word op n) (note_value op n))
@@ -98,18 +99,18 @@ module _ (site : Ground) (op : RestOp) where
 
   -- the header was stored, and nothing else may be loose
   pub record HasEnded (v : View) : Type 0 where
-    pub all : HasAll site op.whole (λ c. slice_index op.cleared c) (kept_third op.whole) (rest_head op.whole) v
+    pub all : HasAll site op.whole (λ c. slice_index op.cleared c) (kept_third op.whole) (finished_head op.whole.head) v
     pub flushed : v.flushed ≡ []
     pub loose : (p : ℕ × ℕ) → Has p v.dirty → p.0 ≡ header_word site.shape op.whole.segment
 
   -- and flushed
   pub record HasFlushed (v : View) : Type 0 where
-    pub all : HasAll site op.whole (λ c. slice_index op.cleared c) (kept_third op.whole) (rest_head op.whole) v
+    pub all : HasAll site op.whole (λ c. slice_index op.cleared c) (kept_third op.whole) (finished_head op.whole.head) v
     pub dirty : v.dirty ≡ []
 
   -- the notes before this one are stored
   pub record IsNoting (n : ℕ) (v : View) : Type 0 where
-    pub all : HasAll site op.whole (first_before op n) (third_before op n) (rest_head op.whole) v
+    pub all : HasAll site op.whole (first_before op n) (third_before op n) (finished_head op.whole.head) v
     pub settled : IsSettled v
 
   -- IN EACH STEP

@@ -2,8 +2,7 @@
 use Rattle.std.specs.Prelude.{ℕ, ◌+◌, ◌-◌, ◌/◌, ◌%◌, ◌==◌, not, nat_lt, Bool, true, false, Option, None, Some, List, slice_index, if◌then◌else◌}
 use Rattle.trace.specs.Events.{line_of}
 use Rattle.bucket_meta.specs.Bucket.{mark_place, rest_place}
-use Rattle.segment_head.specs.HeadWord.{normal}
-use Rattle.segment_head.specs.SplitHeads.{zero_side_head}
+use Rattle.segment_head.specs.SplitHeads.{finished_head}
 use Rattle.image_layout.specs.Places.{homes, buckets, note_words_of_home, note_words}
 use Rattle.way.specs.Ways.{head_word}
 use Rattle.op_core.specs.declared.want.Want.{Want}
@@ -25,10 +24,6 @@ use Rattle.rest_op.specs.declared.op.RestStep.{RestStep}
 use Rattle.rest_op.specs.declared.op.RestStep.TheVariants.{Clear, Head, HeadFlush, HeadFence, Note, Open, Give, Ended}
 use Rattle.rest_op.specs.declared.op.RestOp.{RestOp}
 use Rattle.rounds.specs.Seeking.{seek}
-
--- the header of the segment when its split is made: normal, one deeper, with a 0 behind its pattern
-abbrev pub rest_head : Enclosed → ℕ
-rest_head e = zero_side_head normal e.head
 
 -- the home of a word of the notes, and its number in the bucket
 abbrev pub note_home : ℕ → ℕ
@@ -105,7 +100,7 @@ module _ (op : RestOp) where
   -- THE EVENT that it wants
   abbrev pub wanted_in : RestStep → Want
   wanted_in (Clear b rounds) = event_wanted rounds (due op b)
-  wanted_in Head = want.Store (head_word op.whole.site.geometry op.whole.segment) (rest_head op.whole)
+  wanted_in Head = want.Store (head_word op.whole.site.geometry op.whole.segment) (finished_head op.whole.head)
   wanted_in HeadFlush = want.Flush (line_of (head_word op.whole.site.geometry op.whole.segment))
   wanted_in HeadFence = want.Fence
   wanted_in (Note n) = want.Store (note_word op n) (note_value op n)

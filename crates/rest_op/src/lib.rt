@@ -5,7 +5,6 @@
 //! same by cases, and how its caller's view stands in each step.
 #![tactic(auto)]
 
-mod heads;
 mod laws;
 pub mod op;
 pub mod reckon;

@@ -4,12 +4,12 @@ ghost use Rattle.std.specs.Prelude.{◌≡◌, ◌<◌, ◌≤◌};
 ghost use Rattle.image_layout.specs.Places.{buckets, note_words};
 ghost use Rattle.rest_op.specs.Steps.{is_cleared, clear_from, note_old, note_value, is_noted, note_from, note_word, due, clearing, noting, locks_from, given_to, cleared, begun, begun_in, wanted, taken, end_of};
 
-use crate::heads::rest_head;
 use bucket_meta::words::{BUCKET_WORDS, MARK_PLACE, REST_PLACE};
 use enclose_op::{Enclosed, Give, given};
 use image_layout::{BUCKETS, HOMES, NOTE_WORDS, NOTE_WORDS_OF_HOME};
 use op_core::{Ans, Machine, Want};
 use rounds::Rounds;
+use segment_head::split::finished_head;
 use trace::line_of;
 use way::head_word;
 use whole_segment::Notes;
@@ -246,7 +246,7 @@ fn want_of(op: &RestOp) -> Want
     let head = head_word(&whole.site.geometry, whole.segment);
     match &op.step {
         RestStep::Clear(bucket, rounds) => rounds.event(op.due(*bucket)),
-        RestStep::Head => Want::Store(head, rest_head(whole)),
+        RestStep::Head => Want::Store(head, finished_head(whole.head)),
         RestStep::HeadFlush => Want::Flush(line_of(head)),
         RestStep::HeadFence => Want::Fence,
         RestStep::Note(number) => Want::Store(op.note_word(*number), op.note_value(*number)),

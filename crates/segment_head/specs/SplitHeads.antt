@@ -1,7 +1,7 @@
 -- What a split makes of a header word: its 1-side, and the segment itself, which is the 0-side behind it.
 use Rattle.std.specs.Prelude.{ℕ, suc, min, ◌+◌, ◌%◌, ◌^◌}
 use Rattle.hash_word.specs.Hash.{hash_bits}
-use Rattle.segment_head.specs.HeadWord.{depth_bits, pattern_bits, version_in, depth_in, pattern_in, header_of}
+use Rattle.segment_head.specs.HeadWord.{depth_bits, pattern_bits, version_in, depth_in, pattern_in, header_of, normal}
 use Rattle.segment_head.specs.Prefixes.{pattern_of_zero_side, pattern_of_one_side}
 
 -- the depth of the 1-side of a segment with this header, and its pattern
@@ -32,6 +32,10 @@ with_state head state = header_of (version_in head) state (depth_in head) (patte
 -- that of the 0-side, of this state and of the version that it had
 abbrev pub zero_side_head : ℕ → ℕ → ℕ
 zero_side_head state head = header_of (version_in head) state (side_depth_field head) (zero_pattern_field head)
+
+-- the header of a segment when its split is made: that of the 0-side, normal
+abbrev pub finished_head : ℕ → ℕ
+finished_head head = zero_side_head normal head
 
 -- that of the 1-side, of this version and this state
 abbrev pub one_side_head : ℕ → ℕ → ℕ → ℕ

@@ -3,9 +3,9 @@
 
 ghost use Rattle.std.specs.Prelude.{◌≡◌, ◌<◌, ◌≤◌, ◌+◌, ◌^◌};
 ghost use Rattle.segment_head.specs.HeadWord.{pattern_bits};
-ghost use Rattle.segment_head.specs.SplitHeads.{side_depth, side_pattern_in, side_depth_field, zero_pattern_field, one_pattern_field, with_state, zero_side_head, one_side_head};
+ghost use Rattle.segment_head.specs.SplitHeads.{side_depth, side_pattern_in, side_depth_field, zero_pattern_field, one_pattern_field, with_state, zero_side_head, finished_head, one_side_head};
 
-use crate::word::{depth_of, header_of, pattern_of, version_of};
+use crate::word::{NORMAL, depth_of, header_of, pattern_of, version_of};
 use hash_word::HASH_BITS;
 
 /// How deep a segment is at the most that can be split: its sides have one more bit of a hash.
@@ -65,6 +65,13 @@ pub fn zero_side_head(state: u8, head: u64) -> u64
         side_depth_field(head),
         zero_pattern_field(head),
     )
+}
+
+/// The header of a segment when its split is made: normal, of the version that it had, one deeper, with a 0 behind its pattern.
+pub fn finished_head(head: u64) -> u64
+    ensures { result ≡ finished_head head }
+{
+    zero_side_head(NORMAL, head)
 }
 
 /// That of the 1-side, of this version and this state.

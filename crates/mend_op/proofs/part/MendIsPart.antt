@@ -4,6 +4,7 @@ use Rattle.std.specs.Prelude.{if◌then◌else◌}
 use Rattle.std.proofs.lemmas.Bool.{lt-ltb}
 use Rattle.std.proofs.lemmas.List.{length-replicate}
 use Rattle.trace.specs.Events.{Words, line_of}
+use Rattle.segment_head.specs.SplitHeads.{finished_head}
 use Rattle.op_core.specs.declared.want.Want.{Want}
 use Rattle.op_core.specs.declared.want.Want.TheVariants as wants
 use Rattle.image_layout.specs.Places.{Shape}
@@ -38,7 +39,7 @@ use Rattle.mend_op.specs.declared.stage.Stage.TheVariants as stage
 use Rattle.mend_op.specs.declared.op.MendStep.{MendStep}
 use Rattle.mend_op.specs.declared.op.MendStep.TheVariants.{Fill, Round, Finish, FinishFlush, FinishFence, Note, Renew, RenewFlush, RenewFence, Give, Ended}
 use Rattle.mend_op.specs.declared.op.MendOp.{MendOp}
-use Rattle.mend_op.specs.Words.{finished_head, renewed_head}
+use Rattle.mend_op.specs.Words.{renewed_head}
 use Rattle.mend_op.specs.Stages.{most, place}
 use Rattle.mend_op.specs.Steps.{head_at, word_at, due, store_wanted, wanted_in, next_in, wanted, end_at}
 use Rattle.mend_op.specs.Stands.{kind_at, place_of, IsBefore, IsRounding, IsInStage, SuitsStep}

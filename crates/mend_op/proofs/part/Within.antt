@@ -1,6 +1,7 @@
 -- What a mending asks of the memory: words of the image and those behind it, and stores of words.
 use Rattle.std.proofs.Common.{◌≡◌, ℕ, ◌+◌, ◌*◌, ◌/◌, ◌^◌, ◌<◌, ◌≤◌, Option, None, Some, refl, sym, ◌∙◌, subst, arith}
 use Rattle.trace.specs.Events.{line_of}
+use Rattle.segment_head.specs.SplitHeads.{finished_head}
 use Rattle.op_core.specs.declared.want.Want.{Want}
 use Rattle.op_core.specs.declared.want.Want.TheVariants as wants
 use Rattle.image_layout.specs.Places.{first_segment, head_at as header_at, words_of, segment_words, words_of_buckets}
@@ -21,7 +22,7 @@ use Rattle.mend_op.specs.declared.stage.Stage.TheVariants as stage
 use Rattle.mend_op.specs.declared.op.MendStep.{MendStep}
 use Rattle.mend_op.specs.declared.op.MendStep.TheVariants.{Fill, Round, Finish, FinishFlush, FinishFence, Note, Renew, RenewFlush, RenewFence, Give, Ended}
 use Rattle.mend_op.specs.declared.op.MendOp.{MendOp}
-use Rattle.mend_op.specs.Words.{finished_head, renewed_head}
+use Rattle.mend_op.specs.Words.{renewed_head}
 use Rattle.mend_op.specs.Stages.{most, place}
 use Rattle.mend_op.specs.Steps.{head_at, word_at, due, store_wanted, wanted_in}
 use Rattle.mend_op.specs.Stands.{place_of, IsStageLine, SuitsStep}

@@ -2,6 +2,7 @@
 use Rattle.std.proofs.Common.{◌≡◌, ℕ, ◌*◌, List, [], slice_index, inl, inr, refl, sym, ap, ◌∙◌, subst, arith}
 use Rattle.trace.specs.Events.{Words, line_of}
 use Rattle.segment_head.specs.HeadWord.{version_in, state_in, depth_in, pattern_in, normal}
+use Rattle.segment_head.specs.SplitHeads.{finished_head}
 use Rattle.image_layout.specs.Places.{words_of_buckets}
 use Rattle.frame_facts.specs.Facts.{Lacks, Deep}
 use Rattle.map_model.specs.declared.call.Call.{Call}
@@ -24,7 +25,6 @@ use Rattle.rounds.proofs.Settling.{settled_firm}
 use Rattle.mend_op.specs.declared.stage.Stage.TheVariants as stage
 use Rattle.mend_op.specs.declared.op.MendStep.TheVariants.{Finish, FinishFlush, FinishFence}
 use Rattle.mend_op.specs.declared.op.MendOp.{MendOp}
-use Rattle.mend_op.specs.Words.{finished_head}
 use Rattle.mend_op.specs.Steps.{head_at, at_step, begin, finished}
 use Rattle.mend_op.specs.Stands.{place_of, SuitsStep}
 use Rattle.mend_op.specs.MendPart.{IsOf, MendStands}

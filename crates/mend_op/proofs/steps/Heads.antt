@@ -1,10 +1,11 @@
 -- The two headers that are stored.
 use Rattle.std.proofs.Common.{◌≡◌, ℕ, ◌+◌, ◌*◌, ◌%◌, ◌^◌, ◌<◌, ◌∙◌, arith}
 use Rattle.segment_head.specs.HeadWord.{version_in, state_in, depth_in, pattern_in, header_of, normal}
+use Rattle.segment_head.specs.SplitHeads.{finished_head}
 use Rattle.segment_head.proofs.Headers.{header_version, header_state, header_depth, header_pattern, header_below}
 use Rattle.world.specs.areas.Splitting.{IsHeader}
 use Rattle.world.specs.areas.Repairing.{side_depth_in}
-use Rattle.mend_op.specs.Words.{finished_head, renewed_head}
+use Rattle.mend_op.specs.Words.{renewed_head}
 use Rattle.mend_op.proofs.whole.Newest.{IsInRange}
 
 -- a header of these fields

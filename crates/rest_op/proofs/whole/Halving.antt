@@ -3,6 +3,7 @@ use Rattle.std.proofs.Common.{◌≡◌, ℕ, suc, ◌+◌, ◌*◌, ◌/◌, �
 use Rattle.std.proofs.lemmas.Nat.{pow_below}
 use Rattle.hash_word.specs.Hash.{Covers, top}
 use Rattle.segment_head.specs.HeadWord.{version_in, depth_in, pattern_in, header_of, normal}
+use Rattle.segment_head.specs.SplitHeads.{finished_head}
 use Rattle.segment_head.proofs.Headers.{header_version, header_state, header_depth, header_pattern}
 use Rattle.image_layout.specs.Places.{most_depth}
 use Rattle.segment_head.proofs.Tops.{top_halved}
@@ -14,7 +15,6 @@ use Rattle.world.specs.Ground.{Ground, IsGround}
 use Rattle.world.specs.areas.Splitting.{IsHeader}
 use Rattle.enclose_op.specs.declared.enclosed.Enclosed.{Enclosed}
 use Rattle.enclose_op.specs.Whole.{IsOf, IsWhole}
-use Rattle.rest_op.specs.Steps.{rest_head}
 
 -- a half is one of two
 half_is : (q p : ℕ) → q / 2 ≡ p → (q ≡ 2 * p + 1 → ⊥) → q ≡ 2 * p
@@ -52,5 +52,5 @@ module _ (site : Ground) (ground : IsGround site) (here : Site) (call : Call) (e
       let below : top (depth_in e.head) e.hash < 2 ^ depth_in e.head = top_below (depth_in e.head) e.hash (omega (arith, depth_low)) is.fits in
       few (depth_in e.head) (pattern_in e.head) depth_low (subst (λ p. p < 2 ^ depth_in e.head) (leading_is e.head e.hash whole.head.leads).covers below)
 
-  pub rest_is : IsHeader (rest_head e) normal (suc (depth_in e.head)) (2 * pattern_in e.head) (version_in e.head)
+  pub rest_is : IsHeader (finished_head e.head) normal (suc (depth_in e.head)) (2 * pattern_in e.head) (version_in e.head)
   rest_is = head_fields (version_in e.head) (depth_in e.head) (pattern_in e.head) (omega arith) (omega (arith, depth_low)) (omega (arith, pattern_low))
