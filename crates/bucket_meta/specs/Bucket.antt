@@ -57,6 +57,13 @@ key_place r = first_key + record_words * r
 abbrev pub value_place : ℕ → ℕ
 value_place r = first_value + record_words * r
 
+-- the same two, counted from where the words begin of which the bucket's are a part; of these brackets, by which proofs go on
+abbrev pub key_behind : ℕ → ℕ → ℕ
+key_behind at r = at + first_key + record_words * r
+
+abbrev pub value_behind : ℕ → ℕ → ℕ
+value_behind at r = at + first_value + record_words * r
+
 -- 1 where the bucket is locked: the lowest bit of its lock word
 abbrev pub lock_bit : ℕ → ℕ
 lock_bit w0 = w0 % 2

@@ -1,6 +1,6 @@
 -- One bucket, by its words: which record slots are taken, and what a key has there.
-use Rattle.std.specs.Prelude.{◌≡◌, ℕ, zero, suc, ◌+◌, ◌*◌, ◌==◌, ◌&&◌, Option, None, Some, if◌then◌else◌}
-use Rattle.bucket_meta.specs.Bucket.{mark_place, fingers_place, rest_place, allocated, finger, first_key, first_value, record_words}
+use Rattle.std.specs.Prelude.{◌≡◌, ℕ, zero, suc, ◌+◌, ◌==◌, ◌&&◌, Option, None, Some, if◌then◌else◌}
+use Rattle.bucket_meta.specs.Bucket.{mark_place, fingers_place, rest_place, allocated, finger, key_behind, value_behind}
 use Rattle.bucket_meta.specs.Search.{is_taken}
 use Rattle.trace.specs.Events.{Words}
 
@@ -11,10 +11,10 @@ module _ (word : Words) (at : ℕ) where
   IsTaken r = allocated r (word (at + mark_place)) ≡ 1
 
   abbrev pub key_in : ℕ → ℕ
-  key_in r = word (at + first_key + record_words * r)
+  key_in r = word (key_behind at r)
 
   abbrev pub value_in : ℕ → ℕ
-  value_in r = word (at + first_value + record_words * r)
+  value_in r = word (value_behind at r)
 
   abbrev pub finger_in : ℕ → ℕ
   finger_in r = finger r (word (at + fingers_place)) (word (at + rest_place))

@@ -1,7 +1,7 @@
 -- Where the parts of an image stand, by word number. An image is a list of 64-bit words.
 use Rattle.std.specs.Prelude.{ℕ, ◌+◌, ◌-◌, ◌*◌, ◌/◌, ◌%◌, ◌^◌, ◌≤◌}
 pub use Rattle.hash_word.specs.Hash.{homes, most_depth}
-use Rattle.bucket_meta.specs.Bucket.{record_slots, first_key, first_value, record_words}
+use Rattle.bucket_meta.specs.Bucket.{record_slots, key_behind, value_behind}
 
 -- how many slots for segments an image may have at most, and the greatest kind of hash
 abbrev pub most_segments : ℕ
@@ -168,7 +168,7 @@ bucket_at shape s b = head_at shape s + block + block * b
 
 -- the key and the value of record slot r in a bucket
 abbrev pub key_at : Shape → ℕ → ℕ → ℕ → ℕ
-key_at shape s b r = bucket_at shape s b + first_key + record_words * r
+key_at shape s b r = key_behind (bucket_at shape s b) r
 
 abbrev pub value_at : Shape → ℕ → ℕ → ℕ → ℕ
-value_at shape s b r = bucket_at shape s b + first_value + record_words * r
+value_at shape s b r = value_behind (bucket_at shape s b) r

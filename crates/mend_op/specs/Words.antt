@@ -1,7 +1,7 @@
 -- The words of the buckets of a segment, by their numbers: word n of bucket b is number 32 * b + n. And what a mending makes of them, in its
 -- three stages: of a split that ends the records of the 1-side leave, then locks are free and spoiled records leave, and then notes are exact.
-use Rattle.std.specs.Prelude.{◌≡◌, ℕ, min, ◌+◌, ◌*◌, ◌/◌, ◌%◌, ◌<◌, ◌==◌, ◌&&◌, nat_lt, List, slice_index, if◌then◌else◌}
-use Rattle.bucket_meta.specs.Bucket.{record_slots, lock_place, mark_place, rest_place, first_key, without_lock, record_words}
+use Rattle.std.specs.Prelude.{◌≡◌, ℕ, min, ◌*◌, ◌/◌, ◌%◌, ◌<◌, ◌==◌, ◌&&◌, nat_lt, List, slice_index, if◌then◌else◌}
+use Rattle.bucket_meta.specs.Bucket.{record_slots, lock_place, mark_place, rest_place, key_behind, without_lock}
 use Rattle.bucket_meta.specs.Marks.{cleared_mark}
 use Rattle.segment_head.specs.HeadWord.{depth_in, pattern_in, header_of, normal}
 use Rattle.hash_word.specs.Hash.{hash_bits}
@@ -42,7 +42,7 @@ module _ (words : List ℕ) where
   third_of b = word_of_bucket words b rest_place
 
   abbrev pub key_of : ℕ → ℕ → ℕ
-  key_of b r = slice_index words (block * b + first_key + record_words * r)
+  key_of b r = slice_index words (key_behind (block * b) r)
 
   -- these, as what is loaded of a segment
   pub record HasWords (loaded : Loaded) : Type 0 where

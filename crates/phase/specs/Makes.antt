@@ -1,6 +1,6 @@
 -- The stores of one record, up to where they are settled: what is wanted, and what comes after.
-use Rattle.std.specs.Prelude.{ℕ, ◌+◌, ◌-◌, ◌*◌, ◌/◌, nat_lt, if◌then◌else◌}
-use Rattle.bucket_meta.specs.Bucket.{first_key, first_value, record_words}
+use Rattle.std.specs.Prelude.{ℕ, ◌+◌, ◌-◌, ◌/◌, nat_lt, if◌then◌else◌}
+use Rattle.bucket_meta.specs.Bucket.{first_key, record_words, key_behind, value_behind}
 use Rattle.bucket_meta.specs.Marks.{finger_place}
 use Rattle.trace.specs.Events.{line_words, line_of}
 use Rattle.map_model.specs.declared.change.Effect.{Effect}
@@ -22,10 +22,10 @@ brought Remove = 0
 -- ---- the words of a record in the bucket of a lock word
 module _ (lock : ℕ) (written : Record) where
   abbrev pub key_at : ℕ
-  key_at = lock + first_key + record_words * written.slot
+  key_at = key_behind lock written.slot
 
   abbrev pub value_at : ℕ
-  value_at = lock + first_value + record_words * written.slot
+  value_at = value_behind lock written.slot
 
   -- the word of its fingerprint
   abbrev pub fingers_at : ℕ

@@ -2,7 +2,7 @@
 //! change.
 
 ghost use Rattle.std.specs.Prelude.{◌≡◌, ◌≤◌, ◌+◌, ◌*◌};
-ghost use Rattle.bucket_meta.specs.Bucket.{first_key, record_words};
+ghost use Rattle.bucket_meta.specs.Bucket.{key_behind};
 ghost use Rattle.image_layout.specs.Places.{most_words};
 ghost use Rattle.phase.specs.Makes.{brought, make_wanted, make_taken};
 
@@ -85,7 +85,7 @@ pub fn brought(effect: Effect) -> u64
 /// The key word of a record slot, in the bucket of this lock word; the value word stands behind it.
 fn key_at(lock: u64, slot: u8) -> u64
     requires { lock ≤ most_words }
-    ensures is { result ≡ lock + first_key + record_words * slot }
+    ensures is { result ≡ key_behind lock slot }
     ensures most { result ≤ 2 * most_words }
 {
     lock + FIRST_KEY + RECORD_WORDS * u64::from(slot)
