@@ -14,7 +14,7 @@ ghost use Rattle.image_rules.specs.Leaves.{IsUnder, AreRaised, AreDeepest, AreSe
 use crate::heads::{is_live, prefix_of, ready_side};
 use image_layout::{Geometry, HEADER, ROOT_WORD};
 use map_model::NoMemory;
-use segment_head::prefix::Prefix;
+use segment_head::prefix::{Prefix, pattern_of_one_side, pattern_of_zero_side};
 use std::alloc::Global;
 
 /// Two to the power `bits`, which is at most one more than the greatest depth: how many patterns have so many bits.
@@ -192,11 +192,11 @@ fn owns_its_part(geometry: &Geometry, words: &[u64], leaves: &[u8], s: u64) -> b
     };
     let zeros = Prefix {
         depth: prefix.depth + 1,
-        pattern: 2 * prefix.pattern,
+        pattern: pattern_of_zero_side(prefix.pattern) as u32,
     };
     let ones = Prefix {
         depth: prefix.depth + 1,
-        pattern: 2 * prefix.pattern + 1,
+        pattern: pattern_of_one_side(prefix.pattern) as u32,
     };
     all_have(leaves, greatest, zeros, prefix.depth + 1)
         && none_has(leaves, greatest, ones, prefix.depth + 1)

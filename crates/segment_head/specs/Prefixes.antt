@@ -7,7 +7,7 @@ abbrev pub pattern_of_zero_side : ℕ → ℕ
 pattern_of_zero_side pattern = 2 * pattern
 
 abbrev pub pattern_of_one_side : ℕ → ℕ
-pattern_of_one_side pattern = 2 * pattern + 1
+pattern_of_one_side pattern = pattern_of_zero_side pattern + 1
 
 -- the pattern of the 1-side of a segment of this depth and pattern, followed by zeros alone down to a greater depth
 abbrev pub one_side_down_to : ℕ → ℕ → ℕ → ℕ

@@ -18,6 +18,7 @@ pub mod split;
 pub mod version;
 pub mod word;
 
+use crate::prefix::pattern_of_one_side;
 use crate::word::{
     FREE, FRESH, NORMAL, SPLITTING, depth_of, header_of, pattern_of, state_of, version_of,
 };
@@ -108,7 +109,7 @@ impl Head {
     {
         Head {
             depth: self.depth + 1,
-            pattern: 2 * self.pattern + 1,
+            pattern: pattern_of_one_side(self.pattern) as u32,
             ..*self
         }
     }

@@ -3,7 +3,7 @@
 ghost use Rattle.std.specs.Prelude.{◌≡◌, ◌+◌, ◌^◌, ◌<◌, ◌≤◌, ◌↔◌, IsTrue};
 ghost use Rattle.hash_word.specs.Hash.{most_depth, Covers};
 ghost use Rattle.segment_head.specs.HeadWord.{depth_in, pattern_in};
-ghost use Rattle.segment_head.specs.Prefixes.{IsSidePrefix, pattern_of_one_side};
+ghost use Rattle.segment_head.specs.Prefixes.{IsSidePrefix, pattern_of_zero_side, pattern_of_one_side};
 
 use crate::word::{depth_of, pattern_of};
 use hash_word::covers;
@@ -28,6 +28,20 @@ pub fn prefix_in(header: u64) -> Prefix
     }
 }
 
+/// The pattern of the 0-side of a segment with this one: that with a 0 behind it.
+pub fn pattern_of_zero_side(pattern: u32) -> u64
+    ensures { result ≡ pattern_of_zero_side pattern }
+{
+    2 * u64::from(pattern)
+}
+
+/// That of its 1-side: the same with a 1 behind it.
+pub fn pattern_of_one_side(pattern: u32) -> u64
+    ensures { result ≡ pattern_of_one_side pattern }
+{
+    pattern_of_zero_side(pattern) + 1
+}
+
 /// Whether a prefix is that of the 1-side of another, with zeros alone behind it.
 pub fn is_side(whole: Prefix, side: Prefix) -> bool
     requires whole { whole.depth ≤ most_depth }
@@ -36,7 +50,7 @@ pub fn is_side(whole: Prefix, side: Prefix) -> bool
 {
     whole.depth < side.depth
         && u64::from(side.pattern)
-            == (2 * u64::from(whole.pattern) + 1) << (side.depth - whole.depth - 1)
+            == pattern_of_one_side(whole.pattern) << (side.depth - whole.depth - 1)
 }
 
 /// Whether a hash is in the 1-side of a prefix.
@@ -45,5 +59,9 @@ pub fn in_one_side(prefix: Prefix, hash: u64) -> bool
     requires pattern { prefix.pattern < 2 ^ prefix.depth }
     ensures { IsTrue result ↔ Covers (prefix.depth + 1) (pattern_of_one_side prefix.pattern) hash }
 {
-    covers(prefix.depth + 1, 2 * prefix.pattern + 1, hash)
+    covers(
+        prefix.depth + 1,
+        pattern_of_one_side(prefix.pattern) as u32,
+        hash,
+    )
 }

@@ -5,11 +5,15 @@ ghost use Rattle.std.specs.Prelude.{◌≡◌, ◌<◌, ◌≤◌, ◌+◌, ◌^
 ghost use Rattle.segment_head.specs.HeadWord.{pattern_bits};
 ghost use Rattle.segment_head.specs.SplitHeads.{side_depth, side_pattern_in, side_depth_field, zero_pattern_field, one_pattern_field, with_state, zero_side_head, finished_head, one_side_head};
 
-use crate::word::{NORMAL, depth_of, header_of, pattern_of, version_of};
+use crate::prefix::{pattern_of_one_side, pattern_of_zero_side};
+use crate::word::{NORMAL, PATTERN_BITS, depth_of, header_of, pattern_of, version_of};
 use hash_word::HASH_BITS;
 
 /// How deep a segment is at the most that can be split: its sides have one more bit of a hash.
 const DEEPEST_SPLIT: u8 = HASH_BITS - 1;
+
+/// How many patterns a header may have.
+const PATTERNS: u64 = 1 << PATTERN_BITS;
 
 /// The depth of the sides of a segment with this header: one more than its own, and 64 at the most.
 pub fn side_depth(head: u64) -> u8
@@ -24,7 +28,7 @@ pub fn side_pattern_of(head: u64) -> u64
     ensures most { result < 2 ^ (pattern_bits + 1) }
     ensures some { 1 ≤ result }
 {
-    2 * u64::from(pattern_of(head)) + 1
+    pattern_of_one_side(pattern_of(head))
 }
 
 /// What their headers have as their depth: its lowest 8 bits.
@@ -38,14 +42,14 @@ fn side_depth_field(head: u64) -> u8
 fn zero_pattern_field(head: u64) -> u32
     ensures { result ≡ zero_pattern_field head }
 {
-    pattern_of(head).wrapping_mul(2)
+    (pattern_of_zero_side(pattern_of(head)) % PATTERNS) as u32
 }
 
 /// What that of the 1-side has: the same with a 1 behind it.
 pub fn one_pattern_field(head: u64) -> u32
     ensures { result ≡ one_pattern_field head }
 {
-    pattern_of(head).wrapping_mul(2).wrapping_add(1)
+    (side_pattern_of(head) % PATTERNS) as u32
 }
 
 /// A header with another state, and else as it was.

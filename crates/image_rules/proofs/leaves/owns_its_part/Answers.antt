@@ -48,16 +48,16 @@ returns-then-all_have c =
     let ready : HasReadySide frame c.args.s = (c.in-Some.field-0, c.in-Some.ensures.some) in
     let further : prefix.depth + 1 ≤ greatest =
     omega (arith, halves_fit c.args.geometry.now (slice_index c.args.words.now) c.requires.numbered c.args.s c.in-Some.field-0 c.in-Some.ensures.some c.prefix_of-prefix.result c.prefix_of-prefix.ensures.is c.depth-greatest.result c.depth-greatest.ensures.is) in
-    let zeros_fit : 2 * prefix.pattern < 2 ^ (prefix.depth + 1) = omega (arith, power_double prefix.depth, c.prefix_of-prefix.ensures.pattern) in
-    let ones_fit : 2 * prefix.pattern + 1 < 2 ^ (prefix.depth + 1) = omega (arith, power_double prefix.depth, c.prefix_of-prefix.ensures.pattern) in
-    let zeros : Prefix = record { depth = prefix.depth + 1; pattern = 2 * prefix.pattern } in
-    let ones : Prefix = record { depth = prefix.depth + 1; pattern = 2 * prefix.pattern + 1 } in (
+    let zeros_fit : c.pattern_of_zero_side.result < 2 ^ (prefix.depth + 1) = omega (arith, power_double prefix.depth, c.prefix_of-prefix.ensures.pattern, c.pattern_of_zero_side.ensures) in
+    let ones_fit : c.pattern_of_one_side.result < 2 ^ (prefix.depth + 1) = omega (arith, power_double prefix.depth, c.prefix_of-prefix.ensures.pattern, c.pattern_of_one_side.ensures) in
+    let zeros : Prefix = record { depth = prefix.depth + 1; pattern = c.pattern_of_zero_side.result } in
+    let ones : Prefix = record { depth = prefix.depth + 1; pattern = c.pattern_of_one_side.result } in (
       (λ none. sides-part frame greatest c.depth-greatest.ensures.most c.args.leaves.now are c.args.s prefix c.requires.slot c.requires.live
-          c.prefix_of-prefix.ensures.is deep c.prefix_of-prefix.ensures.pattern ready zeros ones refl refl refl refl further zeros_fit ones_fit
+          c.prefix_of-prefix.ensures.is deep c.prefix_of-prefix.ensures.pattern ready zeros ones refl c.pattern_of_zero_side.ensures refl c.pattern_of_one_side.ensures further zeros_fit ones_fit
           (c.if-all_have.ensures.0 refl) (c.none_has.ensures.0 none)),
       (λ part. c.none_has.ensures.1
           (part-ones frame greatest c.depth-greatest.ensures.most c.args.leaves.now are c.args.s prefix c.requires.slot c.requires.live
-          c.prefix_of-prefix.ensures.is deep c.prefix_of-prefix.ensures.pattern ready zeros ones refl refl refl refl further zeros_fit ones_fit part)),
+          c.prefix_of-prefix.ensures.is deep c.prefix_of-prefix.ensures.pattern ready zeros ones refl c.pattern_of_zero_side.ensures refl c.pattern_of_one_side.ensures further zeros_fit ones_fit part)),
     )
 
 pub returns-else-all_have : goal.returns-else-all_have
@@ -70,12 +70,12 @@ returns-else-all_have c =
     let ready : HasReadySide frame c.args.s = (c.in-Some.field-0, c.in-Some.ensures.some) in
     let further : prefix.depth + 1 ≤ greatest =
     omega (arith, halves_fit c.args.geometry.now (slice_index c.args.words.now) c.requires.numbered c.args.s c.in-Some.field-0 c.in-Some.ensures.some c.prefix_of-prefix.result c.prefix_of-prefix.ensures.is c.depth-greatest.result c.depth-greatest.ensures.is) in
-    let zeros_fit : 2 * prefix.pattern < 2 ^ (prefix.depth + 1) = omega (arith, power_double prefix.depth, c.prefix_of-prefix.ensures.pattern) in
-    let ones_fit : 2 * prefix.pattern + 1 < 2 ^ (prefix.depth + 1) = omega (arith, power_double prefix.depth, c.prefix_of-prefix.ensures.pattern) in
-    let zeros : Prefix = record { depth = prefix.depth + 1; pattern = 2 * prefix.pattern } in
-    let ones : Prefix = record { depth = prefix.depth + 1; pattern = 2 * prefix.pattern + 1 } in (
+    let zeros_fit : c.pattern_of_zero_side.result < 2 ^ (prefix.depth + 1) = omega (arith, power_double prefix.depth, c.prefix_of-prefix.ensures.pattern, c.pattern_of_zero_side.ensures) in
+    let ones_fit : c.pattern_of_one_side.result < 2 ^ (prefix.depth + 1) = omega (arith, power_double prefix.depth, c.prefix_of-prefix.ensures.pattern, c.pattern_of_one_side.ensures) in
+    let zeros : Prefix = record { depth = prefix.depth + 1; pattern = c.pattern_of_zero_side.result } in
+    let ones : Prefix = record { depth = prefix.depth + 1; pattern = c.pattern_of_one_side.result } in (
       (λ all. absurd (false≢true (sym c.if-all_have.false ∙ all))),
       (λ part. c.all_have-2.ensures.1
           (part-zeros frame greatest c.depth-greatest.ensures.most c.args.leaves.now are c.args.s prefix c.requires.slot c.requires.live
-          c.prefix_of-prefix.ensures.is deep c.prefix_of-prefix.ensures.pattern ready zeros ones refl refl refl refl further zeros_fit ones_fit part)),
+          c.prefix_of-prefix.ensures.is deep c.prefix_of-prefix.ensures.pattern ready zeros ones refl c.pattern_of_zero_side.ensures refl c.pattern_of_one_side.ensures further zeros_fit ones_fit part)),
     )
