@@ -6,7 +6,7 @@
 #![tactic(auto)]
 
 ghost use Rattle.std.specs.Prelude.{◌≡◌, ◌<◌, ◌+◌, ◌*◌, IfSome, IfNone, IsNone, ◌^◌};
-ghost use Rattle.segment_head.specs.HeadWord.{state_in, fresh};
+ghost use Rattle.segment_head.specs.HeadWord.{pattern_bits, state_in, fresh};
 ghost use Rattle.segment_head.specs.Head.{IsHeadOf, number_of};
 ghost use Rattle.segment_head.specs.Sides.{IsOneSideOf, CoversOnes};
 ghost use Rattle.segment_head.specs.Written.{spare_in};
@@ -98,10 +98,10 @@ impl Head {
         )
     }
 
-    /// The header of the 1-side: one bit deeper, with a 1 behind the pattern, and else the same. It is for depths below 20, which is more
-    /// than the greatest depth of a directory, and so than that of any segment.
+    /// The header of the 1-side: one bit deeper, with a 1 behind the pattern, and else the same. It is for depths below the bits that a
+    /// header has for a pattern, so that the side's pattern has room there.
     pub fn sibling(&self) -> Head
-        requires depth { self.now.depth < 20 }
+        requires depth { self.now.depth < pattern_bits }
         requires pattern { self.now.pattern < 2 ^ self.now.depth }
         ensures fields { IsOneSideOf self.now result }
         ensures covers { CoversOnes self.now result }
