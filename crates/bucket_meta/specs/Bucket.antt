@@ -178,6 +178,13 @@ home_side = 0
 abbrev pub probing_side : ℕ
 probing_side = 1
 
+-- the numbers of the two stash buckets, as a note names them
+abbrev pub first_stash_index : ℕ
+first_stash_index = 0
+
+abbrev pub second_stash_index : ℕ
+second_stash_index = 1
+
 -- which of the two stash buckets the note names
 abbrev pub note_index : ℕ → ℕ → ℕ
 note_index i w1 = bit (note_index_from + i) w1

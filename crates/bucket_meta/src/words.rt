@@ -51,6 +51,12 @@ pub const HOME_SIDE: u8 = 0;
 /// That of a record of which it is the probing bucket.
 pub const PROBING_SIDE: u8 = 1;
 
+/// The number of the first stash bucket among the two, as a note names it.
+pub const FIRST_STASH_INDEX: u8 = 0;
+
+/// The number of the second one among them.
+pub const SECOND_STASH_INDEX: u8 = 1;
+
 /// From which bit of the metadata word on a bit of each note slot says which stash bucket the note names.
 pub const NOTE_INDEX_FROM: u32 = NOTE_MEMBER_FROM + NOTE_SET_BITS;
 

@@ -1,7 +1,7 @@
 -- Where the parts of an image stand, by word number. An image is a list of 64-bit words.
 use Rattle.std.specs.Prelude.{ℕ, ◌+◌, ◌-◌, ◌*◌, ◌/◌, ◌%◌, ◌^◌, ◌≤◌}
 pub use Rattle.hash_word.specs.Hash.{homes, most_depth}
-use Rattle.bucket_meta.specs.Bucket.{record_slots, key_behind, value_behind}
+use Rattle.bucket_meta.specs.Bucket.{record_slots, key_behind, value_behind, second_stash_index}
 
 -- how many slots for segments an image may have at most, and the greatest kind of hash
 abbrev pub most_segments : ℕ
@@ -59,7 +59,7 @@ stash_buckets = 2
 
 -- the number of the second one; that of the first is homes
 abbrev pub second_stash : ℕ
-second_stash = homes + 1
+second_stash = homes + second_stash_index
 
 -- how many buckets a segment has
 abbrev pub buckets : ℕ

@@ -2,7 +2,7 @@
 use Rattle.std.specs.Prelude.{◌≡◌, ℕ, ◌+◌, ◌≤◌, ◌==◌, ◌&&◌, ◌⊎◌, List, [], ◌∷◌, ◌++◌, if◌then◌else◌}
 use Rattle.std.specs.List.{flat_map}
 use Rattle.hash_word.specs.Hash.{home_of, finger_of, probing_of}
-use Rattle.bucket_meta.specs.Bucket.{allocated, overflow_count, record_slots, home_side, probing_side}
+use Rattle.bucket_meta.specs.Bucket.{allocated, overflow_count, record_slots, home_side, probing_side, first_stash_index, second_stash_index}
 use Rattle.bucket_meta.specs.Notes.{OverflowNote, numbers_below, notes_by, AreExact}
 use Rattle.image_layout.specs.Places.{Shape, homes}
 use Rattle.image_layout.specs.Keys.{key_hash}
@@ -24,7 +24,7 @@ module _ (first : ℕ → ℕ) (key : ℕ → ℕ → ℕ) (hash : ℕ → ℕ) 
   stashed_in b c = flat_map (λ r. stash_piece b c (allocated r (first (homes + c))) (hash (key (homes + c) r))) (numbers_below record_slots)
 
   abbrev pub stashed_of : ℕ → List OverflowNote
-  stashed_of b = stashed_in b 0 ++ stashed_in b 1
+  stashed_of b = stashed_in b first_stash_index ++ stashed_in b second_stash_index
 
 -- and by words 1 and 3 of each bucket
 module _ (first third : ℕ → ℕ) where

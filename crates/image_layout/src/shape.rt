@@ -4,7 +4,7 @@ ghost use Rattle.std.specs.Prelude.{◌≡◌, ◌<◌, ◌≤◌, ◌+◌, ◌*
 ghost use Rattle.image_layout.specs.Volatile.{counter_word, power_word, allocation_guard, directory_guard, segment_guard, all_words_of, power_from, allocation_from, directory_from, guards_from};
 ghost use Rattle.image_layout.specs.Places.{IsShape, first_segment, words_of, entry_at, head_at, bucket_at, block, homes, stash_buckets, buckets, segment_words, most_power, first_segment_of_largest, most_words, most_segments, most_depth, most_kind};
 
-use bucket_meta::words::{BUCKET_WORDS, SLOTS};
+use bucket_meta::words::{BUCKET_WORDS, SECOND_STASH_INDEX, SLOTS};
 use hash_word::{HOMES, MOST_DEPTH};
 use std::error::Error;
 use std::fmt;
@@ -27,7 +27,7 @@ pub const BLOCK: u64 = BUCKET_WORDS as u64;
 /// How many stash buckets a segment has, behind its homes.
 pub const STASH_BUCKETS: u8 = 2;
 /// The number of the second one; that of the first is [`HOMES`].
-pub const SECOND_STASH: u8 = HOMES + 1;
+pub const SECOND_STASH: u8 = HOMES + SECOND_STASH_INDEX;
 /// In how many buckets a key may stand: its home and its probing bucket, and the stash buckets.
 const BUCKETS_OF_KEY: u8 = 2 + STASH_BUCKETS;
 /// In how many record slots a key may stand: those of these buckets.

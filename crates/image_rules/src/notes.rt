@@ -10,8 +10,8 @@ ghost use Rattle.image_rules.specs.Slots.{IsRecordSlot};
 use crate::record_slot::{RecordSlot, bucket_word, is_empty, is_taken};
 use crate::records::hash_in;
 use bucket_meta::words::{
-    self, MARK_PLACE, NOTE_SLOTS, REST_PLACE, SLOTS, has_no_note, is_note_on, note_finger_of,
-    note_index_of, overflow_count_of,
+    self, FIRST_STASH_INDEX, MARK_PLACE, NOTE_SLOTS, REST_PLACE, SECOND_STASH_INDEX, SLOTS,
+    has_no_note, is_note_on, note_finger_of, note_index_of, overflow_count_of,
 };
 use image_layout::{Geometry, HOMES, SECOND_STASH};
 
@@ -202,7 +202,8 @@ fn count_stashed(
     ensures is { result ≡ how_many sought (stashed_of geometry.now (slice_index words.now) s b) }
     ensures most { result ≤ stash_buckets * record_slots }
 {
-    count_in(geometry, words, s, b, 0, sought) + count_in(geometry, words, s, b, 1, sought)
+    count_in(geometry, words, s, b, FIRST_STASH_INDEX, sought)
+        + count_in(geometry, words, s, b, SECOND_STASH_INDEX, sought)
 }
 
 /// Whether a note of home bucket `b` on a note slot of bucket `c`, if there is one on this side, stands at most as often among

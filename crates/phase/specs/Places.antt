@@ -1,6 +1,7 @@
 -- The buckets of a key, and their lock words.
 use Rattle.std.specs.Prelude.{ℕ, Bool, true, false}
 use Rattle.hash_word.specs.Hash.{home_of, probing_of, next_of, previous_of}
+use Rattle.bucket_meta.specs.Bucket.{first_stash_index, second_stash_index}
 use Rattle.image_layout.specs.Places.{homes, second_stash}
 use Rattle.way.specs.Ways.{bucket_word}
 use Rattle.world.specs.declared.site.Site.{Site}
@@ -16,10 +17,10 @@ bucket_of hash Second = second_stash
 bucket_of hash Next = next_of (home_of hash)
 bucket_of hash Previous = previous_of (home_of hash)
 
--- the number of a stash bucket among them; 0 for a bucket that is none
+-- the number of a stash bucket among the two, as a note names it; that of the first for a bucket that is none
 abbrev pub stash_index : Role → ℕ
-stash_index Second = 1
-stash_index place = 0
+stash_index Second = second_stash_index
+stash_index place = first_stash_index
 
 -- a third bucket: no key of this hash stands there, and room is made by it
 abbrev pub is_third : Role → Bool

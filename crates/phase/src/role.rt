@@ -4,6 +4,7 @@ ghost use Rattle.std.specs.Prelude.{◌≡◌, ◌<◌, ◌≤◌};
 ghost use Rattle.image_layout.specs.Places.{buckets, most_words};
 ghost use Rattle.phase.specs.Places.{bucket_of, stash_index, lock_word};
 
+use bucket_meta::words::{FIRST_STASH_INDEX, SECOND_STASH_INDEX};
 use hash_word::{home, next, previous, probing};
 use image_layout::{HOMES, SECOND_STASH};
 use way::bucket_word;
@@ -26,12 +27,6 @@ pub enum Role {
     /// The bucket before the home bucket.
     Previous,
 }
-
-/// The number of the first stash bucket among the two, as a note names it.
-pub const FIRST_STASH_INDEX: u8 = 0;
-
-/// The number of the second one among them.
-pub const SECOND_STASH_INDEX: u8 = 1;
 
 /// The number of the bucket in its segment, for a hash.
 pub fn bucket_of(place: Role, hash: u64) -> u8

@@ -1,5 +1,6 @@
 //! Words of the file format and numbers of words, from outside: the first number of the SplitMix64 stream from state 0 is one of the hashes.
 use crate::rows::{TellsOfNumbers, hex, said, shown, walk_numbers};
+use bucket_meta::words::SECOND_STASH_INDEX;
 use hash_word::{covers, dir_index, finger, home, next, previous, probing};
 use image_layout::{BUCKETS, Geometry, HOMES};
 use segment_head::{Head, version, word};
@@ -70,7 +71,7 @@ fn shape_told(alloc: Global, geometry: &Geometry) -> Result<String, Fail> {
         geometry.words(),
         geometry.head_at(last),
         geometry.bucket_at(last, HOMES - 1),
-        geometry.stash_at(last, 1),
+        geometry.stash_at(last, SECOND_STASH_INDEX),
         geometry.entry_at(geometry.depth(), (1 << geometry.depth()) - 1),
     ];
     shown(alloc, &(geometry, words))

@@ -12,12 +12,15 @@ ghost use Rattle.read_op.specs.Steps.{begun, seen_none, wanted, taken, moved, bu
 use crate::role::{Free, free_at};
 use crate::slots::value_of;
 use crate::step::{ReadEnd, ReadStep, Seen, Task};
-use bucket_meta::words::{BUCKET_WORDS, MARK_PLACE, REST_PLACE, is_locked, must_visit};
+use bucket_meta::words::{
+    BUCKET_WORDS, FIRST_STASH_INDEX, MARK_PLACE, REST_PLACE, SECOND_STASH_INDEX, is_locked,
+    must_visit,
+};
 use hash_word::finger;
 use op_core::{Ans, Machine, Want, Why};
 use phase::{
-    Back, Backed, FIRST_STASH_INDEX, Load, Path, Role, SECOND_STASH_INDEX, Walk, Walked, back_next,
-    back_want, load_put, load_want, lock_word, walk_next, walk_want,
+    Back, Backed, Load, Path, Role, Walk, Walked, back_next, back_want, load_put, load_want,
+    lock_word, walk_next, walk_want,
 };
 use way::key_hash;
 use world::Site;

@@ -10,7 +10,7 @@ ghost use Rattle.stash.specs.NoteSlots.{IsUnused, IsNoteAt, IsLowest, HoldsNowhe
 
 use crate::note_slots::{fill, free, note_slot_of, unused_note_slot};
 use bucket_meta::Meta;
-use bucket_meta::words::{HOME_SIDE, PROBING_SIDE};
+use bucket_meta::words::{FIRST_STASH_INDEX, HOME_SIDE, PROBING_SIDE, SECOND_STASH_INDEX};
 use image_layout::STASH_BUCKETS;
 
 /// The set of both stash buckets.
@@ -125,7 +125,7 @@ pub fn must_visit(home: &Meta, probe: &Meta, finger: u8) -> u8
     if home.ocount > 0 {
         return BOTH;
     }
-    let first = named_bit(home, probe, finger, 0);
-    let second = named_bit(home, probe, finger, 1);
+    let first = named_bit(home, probe, finger, FIRST_STASH_INDEX);
+    let second = named_bit(home, probe, finger, SECOND_STASH_INDEX);
     first + 2 * second
 }

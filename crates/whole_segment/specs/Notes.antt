@@ -2,7 +2,7 @@
 use Rattle.std.specs.Prelude.{◌≡◌, ℕ, ◌+◌, List, [], ◌∷◌, ◌++◌, if◌then◌else◌}
 use Rattle.std.specs.List.{flat_map}
 use Rattle.hash_word.specs.Hash.{home_of, finger_of}
-use Rattle.bucket_meta.specs.Bucket.{record_slots, slots_part, slot_fingers_part}
+use Rattle.bucket_meta.specs.Bucket.{record_slots, first_stash_index, second_stash_index, slots_part, slot_fingers_part}
 use Rattle.bucket_meta.specs.Search.{is_taken}
 use Rattle.bucket_meta.specs.Notes.{numbers_below}
 use Rattle.image_layout.specs.Places.{homes}
@@ -19,7 +19,7 @@ module _ (first : ℕ → ℕ) (key : ℕ → ℕ → ℕ) (hash : ℕ → ℕ) 
 
   -- all records in the stash, by stash bucket, then slot
   abbrev pub stash_entries : List Stashed
-  stash_entries = entries_below 0 record_slots ++ entries_below 1 record_slots
+  stash_entries = entries_below first_stash_index record_slots ++ entries_below second_stash_index record_slots
 
 -- words 1 and 3 of a bucket say of its record slots what they said
 pub record KeepsRecords (w1 w3 x1 x3 : ℕ) : Type 0 where

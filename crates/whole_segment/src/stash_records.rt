@@ -6,7 +6,7 @@ ghost use Rattle.image_layout.specs.Places.{stash_buckets};
 ghost use Rattle.sound_image.specs.Records.{key_hash};
 
 use crate::Loaded;
-use bucket_meta::words::SLOTS;
+use bucket_meta::words::{FIRST_STASH_INDEX, SECOND_STASH_INDEX, SLOTS};
 use hash_word::{finger, home};
 use image_layout::{Geometry, HOMES, STASH_BUCKETS};
 
@@ -87,8 +87,8 @@ impl StashRecords {
         ensures stashed { All IsStashed (records_of result) }
     {
         let mut gathered = StashRecords::none();
-        gathered.extend(loaded, geometry, 0);
-        gathered.extend(loaded, geometry, 1);
+        gathered.extend(loaded, geometry, FIRST_STASH_INDEX);
+        gathered.extend(loaded, geometry, SECOND_STASH_INDEX);
         gathered
     }
 

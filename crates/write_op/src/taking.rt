@@ -7,13 +7,12 @@ ghost use Rattle.write_op.specs.Steps.{end_of, giving, give, answered, amiss, ar
 use crate::asking::lock_of;
 use crate::search::{found, has_finger, leaves_note, record_at, room_in, unnoted, visits};
 use crate::step::{Seen, Spot, Stage, Task, WriteEnd, WriteStep};
-use bucket_meta::words::BUCKET_WORDS;
+use bucket_meta::words::{BUCKET_WORDS, FIRST_STASH_INDEX, SECOND_STASH_INDEX};
 use map_model::{Effect, Reply, SPENT_COUNT};
 use op_core::{Ans, Why};
 use phase::{
-    Back, Backed, Ending, FIRST_STASH_INDEX, Held, Load, Made, Make, NoteWord, Path, Role,
-    SECOND_STASH_INDEX, Take, Taken, Walked, back_next, give_next, given, load_put, make_next,
-    take_next, walk_next,
+    Back, Backed, Ending, Held, Load, Made, Make, NoteWord, Path, Role, Take, Taken, Walked,
+    back_next, give_next, given, load_put, make_next, take_next, walk_next,
 };
 
 // ---- ends
