@@ -3,7 +3,7 @@
 use Rattle.std.specs.Prelude.{◌≡◌, ℕ, zero, suc, ◌+◌, ◌-◌, ◌/◌, ◌%◌, ◌<◌, ◌≤◌, nat_lt, ◌==◌, ◌||◌, if◌then◌else◌}
 use Rattle.trace.specs.Events.{Words}
 use Rattle.bucket_meta.specs.Bucket.{mark_place, slots_part, slot_fingers_part}
-use Rattle.image_layout.specs.Places.{Shape, first_segment, words_of, bucket_at, block, buckets}
+use Rattle.image_layout.specs.Places.{Shape, first_segment, words_of, bucket_at, block, slot_blocks}
 
 -- of word n of a bucket, counted up from zero: of its lock word nothing, of `mark_place` the record slots, `fingers_place` as it is, of
 -- `rest_place` the fingerprints of record slots, and each word behind these as it is
@@ -17,7 +17,7 @@ core_in_bucket (suc (suc (suc (suc n)))) x = x
 module _ (shape : Shape) where
   -- the words of a segment go in 67 groups of 32: its header, and its 66 buckets
   abbrev pub group_of : ℕ → ℕ
-  group_of i = (i - first_segment shape) / block % (1 + buckets)
+  group_of i = (i - first_segment shape) / block % slot_blocks
 
   -- the core of word i with the value x: the words in front, those of a header, and those behind the image are whole
   abbrev pub core_of : ℕ → ℕ → ℕ

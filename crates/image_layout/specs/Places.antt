@@ -85,9 +85,17 @@ note_words_of_home = 2
 abbrev pub note_words : ℕ
 note_words = note_words_of_home * homes
 
--- how many words a segment has: a header and its buckets
+-- how many blocks of a slot are its header, in front of its buckets
+abbrev pub header_blocks : ℕ
+header_blocks = 1
+
+-- how many blocks a slot has: its header and its buckets
+abbrev pub slot_blocks : ℕ
+slot_blocks = header_blocks + buckets
+
+-- how many words a segment has: those of these blocks
 abbrev pub segment_words : ℕ
-segment_words = block * (1 + buckets)
+segment_words = block * slot_blocks
 
 -- how many words its buckets have together
 abbrev pub words_of_buckets : ℕ

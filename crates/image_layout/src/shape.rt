@@ -38,8 +38,10 @@ pub const BUCKETS: u8 = HOMES + STASH_BUCKETS;
 pub const HEADER: u64 = 1;
 /// Which of them is the word of its link.
 pub const LINK: u64 = 2;
+/// How many blocks of a slot for a segment are its header, in front of its buckets.
+pub const HEADER_BLOCKS: u16 = 1;
 /// How many words a segment has: a header and its buckets.
-pub const SEGMENT_WORDS: u64 = BLOCK * (1 + BUCKETS as u64);
+pub const SEGMENT_WORDS: u64 = BLOCK * (HEADER_BLOCKS as u64 + BUCKETS as u64);
 /// How many words the buckets of a segment have together.
 pub const WORDS_OF_BUCKETS: u64 = SEGMENT_WORDS - BLOCK;
 /// The last one of these words, counted from the first, which is 0.

@@ -3,7 +3,7 @@ use Rattle.std.specs.Prelude.{ℕ, zero, suc, ◌+◌, ◌-◌, ◌*◌, ◌/◌
 use Rattle.bucket_meta.specs.Bucket.{lock_place, mark_place, rest_place, first_key, lock_bit, without_lock, record_words}
 use Rattle.bucket_meta.specs.Search.{is_taken}
 use Rattle.segment_head.specs.HeadWord.{link_to}
-use Rattle.image_layout.specs.Places.{Shape, root_word, head_at, segment_words, buckets, block, header_number, link_number}
+use Rattle.image_layout.specs.Places.{Shape, root_word, head_at, segment_words, buckets, block, header_blocks, header_number, link_number}
 use Rattle.split_op.specs.declared.batch.Batch.{Batch}
 use Rattle.split_op.specs.declared.batch.Batch.TheVariants.{Empty, Link, Mark, New, Copy}
 use Rattle.split_op.specs.declared.copied.Copied.{Copied}
@@ -16,7 +16,7 @@ slot_word shape slot number = if nat_lt slot shape.segments then head_at shape s
 -- ---- a slot is emptied
 -- what a word is emptied to: a lock word to the free value of its version, and another to 0
 abbrev pub empty_value : List ℕ → ℕ → ℕ
-empty_value locks number = if nat_lt number block || nat_lt lock_place (number % block) then 0 else without_lock (slice_index locks (number / block - 1))
+empty_value locks number = if nat_lt number block || nat_lt lock_place (number % block) then 0 else without_lock (slice_index locks (number / block - header_blocks))
 
 -- the first word of a bucket that is emptied: its lock word where that is not free
 abbrev pub first_of : List ℕ → ℕ → ℕ

@@ -9,7 +9,9 @@ use crate::copied::Copied;
 use crate::seek::copied_from;
 use bucket_meta::words::{self, is_locked, without_lock};
 use enclose_op::Enclosed;
-use image_layout::{BLOCK_WORDS, BUCKETS, Geometry, HEADER, LINK, ROOT_WORD, SEGMENT_WORDS};
+use image_layout::{
+    BLOCK_WORDS, BUCKETS, Geometry, HEADER, HEADER_BLOCKS, LINK, ROOT_WORD, SEGMENT_WORDS,
+};
 use segment_head::link::link_to;
 use segment_head::split::{one_side_head, with_state};
 use segment_head::word::{FRESH, SPLITTING};
@@ -84,7 +86,7 @@ fn empty_value(locks: &[u64; BUCKETS as usize], number: u16) -> u64
     if number < BLOCK_WORDS || number % BLOCK_WORDS > LOCK_PLACE {
         0
     } else {
-        without_lock(locks[usize::from(number / BLOCK_WORDS - 1)])
+        without_lock(locks[usize::from(number / BLOCK_WORDS - HEADER_BLOCKS)])
     }
 }
 
