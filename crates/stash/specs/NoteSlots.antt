@@ -1,5 +1,5 @@
 -- The note slots of a bucket, and what a change of one of them leaves as it was.
-use Rattle.std.specs.Prelude.{◌≡◌, ◌≢◌, ℕ, ◌<◌, [], ◌∷◌, slice_index}
+use Rattle.std.specs.Prelude.{◌≡◌, ◌≢◌, ℕ, ◌<◌, replicate, slice_index}
 use Rattle.bucket_meta.specs.declared.metadata.Meta.{Meta}
 use Rattle.word_bits.specs.Bits.{bit}
 use Rattle.bucket_meta.specs.Bucket.{note_slots}
@@ -68,4 +68,4 @@ pub record IsBare (meta : Meta) : Type 0 where
   pub omember : meta.omember ≡ 0
   pub oindex : meta.oindex ≡ 0
   pub ocount : meta.ocount ≡ 0
-  pub ofps : meta.ofps ≡ 0 ∷ 0 ∷ 0 ∷ 0 ∷ []
+  pub ofps : meta.ofps ≡ replicate note_slots 0
