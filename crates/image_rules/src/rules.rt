@@ -11,7 +11,8 @@ ghost use Rattle.image_rules.specs.Slots.{IsStanding};
 
 use crate::heads::{header_of, version_of};
 use crate::records::RecordRule;
-use image_layout::{Geometry, HEADER, LINK, ROOT_WORD, STATE_WORD, state};
+use image_layout::state::{self, FIRST_VERSION};
+use image_layout::{Geometry, HEADER, LINK, ROOT_WORD, STATE_WORD};
 use segment_head::word::{FREE, FRESH, depth_of, pattern_of, state_of};
 
 /// Whether a header word is in its range.
@@ -48,8 +49,7 @@ pub(crate) fn rule_one(geometry: &Geometry, words: &[u64]) -> Option<u64>
     if words[ROOT_WORD as usize] > geometry.depth() {
         return Some(ROOT_WORD);
     }
-    // 0 alone is below the first version.
-    if state::version_of(words[STATE_WORD as usize]) == 0 {
+    if state::version_of(words[STATE_WORD as usize]) < FIRST_VERSION {
         return Some(STATE_WORD);
     }
     for s in 0..geometry.segments() {

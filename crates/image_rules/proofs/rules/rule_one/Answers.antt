@@ -16,7 +16,7 @@ returns-then-not-head_in_range-clause-some c =
     let shape = c.args.geometry.now in
     let word = slice_index c.args.words.now in
     let root : word 8 ≤ shape.depth = omega (arith, c.if-words-depth.false, c.depth.ensures.is) in
-    let version : 1 ≤ image_version (frame_of shape word) = omega (arith, c.if-version_of-eq0.false, c.version_of.ensures) in
+    let version : 1 ≤ image_version (frame_of shape word) = omega (arith, c.if-version_of-lt-FIRST_VERSION.false, c.version_of.ensures) in
     let slot : c.loop-s.s < shape.segments = subst (λ (n : ℕ). c.loop-s.s < n) c.segments-s-end.ensures.is c.loop-s-test.true in
     subst (λ (n : ℕ). IsLeast (NumbersFit shape word) (n + 1)) (sym c.head_at.ensures.is)
     (head_astray shape word root version c.loop-s.s slot c.loop-s.invariant.heads c.loop-s.invariant.links
@@ -27,7 +27,7 @@ returns-then-not-link_in_range-clause-some c =
     let shape = c.args.geometry.now in
     let word = slice_index c.args.words.now in
     let root : word 8 ≤ shape.depth = omega (arith, c.if-words-depth.false, c.depth.ensures.is) in
-    let version : 1 ≤ image_version (frame_of shape word) = omega (arith, c.if-version_of-eq0.false, c.version_of.ensures) in
+    let version : 1 ≤ image_version (frame_of shape word) = omega (arith, c.if-version_of-lt-FIRST_VERSION.false, c.version_of.ensures) in
     let slot : c.loop-s.s < shape.segments = subst (λ (n : ℕ). c.loop-s.s < n) c.segments-s-end.ensures.is c.loop-s-test.true in
     subst (λ (n : ℕ). IsLeast (NumbersFit shape word) (n + 2)) (sym c.head_at-then-not-link_in_range.ensures.is)
     (link_astray shape word root version c.loop-s.s slot c.loop-s.invariant.heads c.loop-s.invariant.links (c.if-not-head_in_range.ensures.0 refl)
@@ -45,7 +45,7 @@ returns-clause-none c =
     let shape = c.args.geometry.now in
     let word = slice_index c.args.words.now in
     let root : word 8 ≤ shape.depth = omega (arith, c.if-words-depth.false, c.depth.ensures.is) in
-    let version : 1 ≤ image_version (frame_of shape word) = omega (arith, c.if-version_of-eq0.false, c.version_of.ensures) in
+    let version : 1 ≤ image_version (frame_of shape word) = omega (arith, c.if-version_of-lt-FIRST_VERSION.false, c.version_of.ensures) in
     let all : shape.segments ≤ c.loop-s.s = subst (λ (n : ℕ). n ≤ c.loop-s.s) c.segments-s-end.ensures.is c.loop-s-test.false in
     numbers_fit shape word root version (λ t below. c.loop-s.invariant.heads t (omega (arith, below, all)))
     (λ t below. c.loop-s.invariant.links t (omega (arith, below, all)))
