@@ -7,17 +7,21 @@ use Rattle.mend_op.specs.declared.stage.Stage.{Stage}
 use Rattle.mend_op.specs.declared.stage.Stage.TheVariants.{Clear, Mend, Note}
 use Rattle.mend_op.specs.Words.{halved, mended, noted}
 
+-- how many words of a bucket the second stage may change: those from its first, which is its lock word, to its metadata word
+abbrev pub mended_words_of_bucket : ℕ
+mended_words_of_bucket = mark_place + 1
+
 -- how many words it may change: word 1 of each bucket, the lock word and word 1 of each, words 1 and 3 of each home
 abbrev pub most : Stage → ℕ
 most Clear = buckets
-most Mend = 2 * buckets
+most Mend = mended_words_of_bucket * buckets
 most Note = note_words
 
--- which word of the buckets is the one of this number among them. Of the lock word and word 1 of a bucket the remainder, 0 or 1, is the number of
--- the word itself: a sum with `lock_place` would be another term
+-- which word of the buckets is the one of this number among them. In the second stage the remainder is the number of the word itself in its bucket:
+-- a sum with `lock_place` would be another term
 abbrev pub place : Stage → ℕ → ℕ
 place Clear n = block * n + mark_place
-place Mend n = block * (n / 2) + n % 2
+place Mend n = block * (n / mended_words_of_bucket) + n % mended_words_of_bucket
 place Note n = block * (n / note_words_of_home) + mark_place + (rest_place - mark_place) * (n % note_words_of_home)
 
 -- the word that it makes, by all words before it and the header

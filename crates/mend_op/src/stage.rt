@@ -10,6 +10,9 @@ use image_layout::{BLOCK_WORDS, BUCKETS, NOTE_WORDS};
 /// How many words of a home have notes.
 const NOTE_WORDS_OF_HOME: u16 = image_layout::NOTE_WORDS_OF_HOME as u16;
 
+/// How many words of a bucket the second stage may change: those from its first, which is its lock word, to its metadata word.
+const MENDED_WORDS_OF_BUCKET: u8 = MARK_PLACE as u8 + 1;
+
 /// How far behind the metadata word the last word before the records stands.
 const REST_BEHIND_MARK: u16 = (REST_PLACE - MARK_PLACE) as u16;
 
@@ -31,7 +34,7 @@ impl Stage {
     {
         match self {
             Stage::Clear => BUCKETS,
-            Stage::Mend => 2 * BUCKETS,
+            Stage::Mend => MENDED_WORDS_OF_BUCKET * BUCKETS,
             Stage::Note => NOTE_WORDS,
         }
     }
@@ -44,8 +47,11 @@ impl Stage {
         let number = u16::from(number);
         match self {
             Stage::Clear => BLOCK_WORDS * number + MARK_PLACE as u16,
-            // The lock word is word 0: so the remainder, 0 or 1, is the number of the word itself.
-            Stage::Mend => BLOCK_WORDS * (number / 2) + number % 2,
+            // The remainder is the number of the word itself in its bucket.
+            Stage::Mend => {
+                BLOCK_WORDS * (number / u16::from(MENDED_WORDS_OF_BUCKET))
+                    + number % u16::from(MENDED_WORDS_OF_BUCKET)
+            }
             Stage::Note => {
                 BLOCK_WORDS * (number / NOTE_WORDS_OF_HOME)
                     + MARK_PLACE as u16
