@@ -3,7 +3,7 @@
 use Rattle.std.specs.Prelude.{ℕ, zero, suc, true, false, ◌+◌, ◌*◌, ◌==◌, ◌&&◌, not, Bool, if◌then◌else◌}
 use Rattle.trace.specs.Events.{Words}
 use Rattle.segment_head.specs.HeadWord.{version_in, state_in, free, is_live}
-use Rattle.image_layout.specs.Places.{Shape, state_word, header_word}
+use Rattle.image_layout.specs.Places.{Shape, state_word, header_word, most_segments}
 use Rattle.image_layout.specs.StateWord.{image_version_in}
 use Rattle.split_op.specs.SplitPart.{is_new_slot}
 use Rattle.directory_op.specs.Left.{left_alone as publish_left_alone}
@@ -110,3 +110,7 @@ events_left shape words e = attempts_left shape words e * (most_alone + 1) + lef
 -- of a call that has not begun
 abbrev pub events_of_call : Shape → ℕ
 events_of_call shape = (6 * shape.segments + 5) * (most_alone + 1)
+
+-- and at the most, in an image with all the slots that one may have
+abbrev pub most_of_call : ℕ
+most_of_call = (6 * most_segments + 5) * (most_alone + 1)

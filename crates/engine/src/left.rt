@@ -1,7 +1,7 @@
 //! How many events a call makes at most.
 
 ghost use Rattle.std.specs.Prelude.{◌≡◌, ◌≤◌};
-ghost use Rattle.engine.specs.Left.{events_of_call};
+ghost use Rattle.engine.specs.Left.{events_of_call, most_of_call};
 
 use image_layout::Geometry;
 
@@ -12,8 +12,7 @@ const EVENTS_OF_ATTEMPT: u64 = 490_817;
 /// leaves one stale segment fewer and frees one slot at the most, and the call is tried once before each of them and once behind the last.
 pub fn events_of_call(geometry: &Geometry) -> u64
     ensures is { result ≡ events_of_call geometry.now }
-    // The most is that of the largest image, `(6 * most_segments + 5) * (most_alone + 1)`, written out.
-    ensures most { result ≤ 48251728453 }
+    ensures most { result ≤ most_of_call }
 {
     (6 * geometry.segments() + 5) * EVENTS_OF_ATTEMPT
 }
