@@ -2,7 +2,7 @@
 //! that loads and stores single words looks at them and changes them here.
 
 ghost use Rattle.std.specs.Prelude.{◌≡◌, ◌==◌, ℕ, ◌^◌, ◌<◌, ◌↔◌, IfSome, IfNone, IsTrue, slice_set, ◌%◌};
-ghost use Rattle.bucket_meta.specs.Bucket.{allocated, member, finger, note_used, note_member, note_index, note_finger, overflow_count, record_slots, note_slots, first_key, count_bits, locked, unlocked, given_back, without_lock, lock_bit, lock_version, slot_fingers_part};
+ghost use Rattle.bucket_meta.specs.Bucket.{allocated, member, finger, note_used, note_member, note_index, note_finger, overflow_count, record_slots, note_slots, first_key, key_place, value_place, count_bits, locked, unlocked, given_back, without_lock, lock_bit, lock_version, slot_fingers_part};
 ghost use Rattle.bucket_meta.specs.Search.{is_taken, IsThere, lowest_with, lowest_free};
 ghost use Rattle.bucket_meta.specs.Notes.{IsNoteOn};
 ghost use Rattle.bucket_meta.specs.Marks.{inserted_mark, member_mark, removed_mark, finger_place, with_finger};
@@ -111,6 +111,20 @@ pub const RECORD_WORDS: usize = 2;
 /// How many words of metadata a bucket has: those from its metadata word to before its records.
 pub const META_WORDS: usize = FIRST_KEY - MARK_PLACE;
 
+/// The word of a bucket in which the key of a record slot stands.
+pub fn key_place(slot: u8) -> usize
+    ensures { result ≡ key_place slot }
+{
+    FIRST_KEY + RECORD_WORDS * usize::from(slot)
+}
+
+/// The word in which its value stands.
+pub fn value_place(slot: u8) -> usize
+    ensures { result ≡ value_place slot }
+{
+    FIRST_VALUE + RECORD_WORDS * usize::from(slot)
+}
+
 /// Whether a lock word says that its bucket is locked.
 pub fn is_locked(w0: u64) -> bool
     ensures { result ≡ (lock_bit w0 == 1) }
@@ -202,9 +216,7 @@ pub fn lowest_with(words: &[u64; BUCKET_WORDS], key: u64) -> Option<u8>
     ensures nowhere { IfNone result ((slot : ℕ) → slot < record_slots → IsThere words.now key slot → ⊥) }
 {
     for slot in 0..SLOTS {
-        if is_taken(words[MARK_PLACE], slot)
-            && words[FIRST_KEY + RECORD_WORDS * usize::from(slot)] == key
-        {
+        if is_taken(words[MARK_PLACE], slot) && words[key_place(slot)] == key {
             return Some(slot);
         }
     }

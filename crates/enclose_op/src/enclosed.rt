@@ -6,7 +6,7 @@ ghost use Rattle.segment_head.specs.SplitHeads.{side_depth, one_pattern_field};
 ghost use Rattle.image_layout.specs.Places.{buckets};
 ghost use Rattle.whole_segment.specs.Records.{first_in, third_in, key_in};
 
-use bucket_meta::words::{BUCKET_WORDS, FIRST_KEY, MARK_PLACE, RECORD_WORDS, REST_PLACE, SLOTS};
+use bucket_meta::words::{BUCKET_WORDS, MARK_PLACE, REST_PLACE, SLOTS, key_place};
 use image_layout::{BUCKETS, WORDS_OF_BUCKETS};
 use map_model::Change;
 use segment_head::split;
@@ -44,9 +44,7 @@ impl Enclosed {
         ensures third { loaded.new.third ≡ loaded.old.third }
     {
         for slot in 0..SLOTS {
-            let at = BUCKET_WORDS * usize::from(bucket)
-                + FIRST_KEY
-                + RECORD_WORDS * usize::from(slot);
+            let at = BUCKET_WORDS * usize::from(bucket) + key_place(slot);
             loaded.set_key(bucket, slot, self.buckets[at]);
         }
     }

@@ -6,7 +6,7 @@ ghost use Rattle.image_layout.specs.Places.{bucket_at, words_of, buckets, block,
 ghost use Rattle.sound_image.specs.Records.{slot_key, slot_value};
 ghost use Rattle.image_rules.specs.Slots.{IsRecordSlot, IsTaken};
 
-use bucket_meta::words::{self, FIRST_KEY, FIRST_VALUE, MARK_PLACE, RECORD_WORDS};
+use bucket_meta::words::{self, MARK_PLACE, key_place, value_place};
 use image_layout::Geometry;
 
 /// A record slot.
@@ -60,8 +60,7 @@ pub(crate) fn key_in(geometry: &Geometry, words: &[u64], record_slot: RecordSlot
     ensures { result ≡ slot_key geometry.now (slice_index words.now) record_slot.segment record_slot.bucket record_slot.slot }
 {
     words[bucket_word(geometry, record_slot.segment, record_slot.bucket)
-        + FIRST_KEY
-        + RECORD_WORDS * usize::from(record_slot.slot)]
+        + key_place(record_slot.slot)]
 }
 
 /// The value in a record slot.
@@ -71,6 +70,5 @@ pub(crate) fn value_in(geometry: &Geometry, words: &[u64], record_slot: RecordSl
     ensures { result ≡ slot_value geometry.now (slice_index words.now) record_slot.segment record_slot.bucket record_slot.slot }
 {
     words[bucket_word(geometry, record_slot.segment, record_slot.bucket)
-        + FIRST_VALUE
-        + RECORD_WORDS * usize::from(record_slot.slot)]
+        + value_place(record_slot.slot)]
 }

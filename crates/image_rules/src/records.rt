@@ -12,7 +12,7 @@ ghost use Rattle.image_rules.specs.Slots.{IsRecordSlot, IsTwin, Needs, IsStandin
 use crate::heads::owns;
 use crate::record_slot::{RecordSlot, bucket_word, is_empty, is_taken, key_in, value_in};
 use bucket_meta::words::{
-    FINGERS_PLACE, FIRST_KEY, MARK_PLACE, RECORD_WORDS, REST_PLACE, SLOTS, finger_of, is_member,
+    FINGERS_PLACE, MARK_PLACE, REST_PLACE, SLOTS, finger_of, is_member, key_place,
 };
 use image_layout::{BUCKETS, Geometry, HOMES, SECOND_STASH};
 use way::key_hash;
@@ -250,9 +250,7 @@ impl RecordRule {
     {
         for b in 0..BUCKETS {
             if let Some(slot) = self.first_broken(geometry, words, s, b) {
-                let key = bucket_word(geometry, s, b)
-                    + FIRST_KEY
-                    + RECORD_WORDS * usize::from(slot);
+                let key = bucket_word(geometry, s, b) + key_place(slot);
                 return Some(key as u64);
             }
         }

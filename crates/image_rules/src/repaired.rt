@@ -13,18 +13,12 @@ use crate::heads::{is_live, state_of, version_of};
 use crate::notes::has_exact_notes;
 use crate::record_slot::bucket_word;
 use crate::records::RecordRule;
-use bucket_meta::words::{self, is_locked};
+use bucket_meta::words::{self, is_locked, key_place};
 use image_layout::{BUCKETS, Geometry, HEADER, HOMES, STATE_WORD, state};
 use segment_head::word::NORMAL;
 
 /// The metadata word of a bucket, by its number in it.
 const MARK_PLACE: u64 = words::MARK_PLACE as u64;
-
-/// The word of a bucket in which the key of its first record slot stands.
-const FIRST_KEY: u64 = words::FIRST_KEY as u64;
-
-/// How many words a record has.
-const RECORD_WORDS: u64 = words::RECORD_WORDS as u64;
 
 /// Whether the notes of a bucket are exact, if it is a home.
 fn has_its_notes(geometry: &Geometry, words: &[u64], s: u64, b: u8) -> bool
@@ -57,7 +51,7 @@ fn bucket_breach(geometry: &Geometry, words: &[u64], s: u64, b: u8) -> Option<u6
         return Some(at as u64 + MARK_PLACE);
     }
     match RecordRule::Once.first_broken(geometry, words, s, b) {
-        Some(slot) => Some(at as u64 + FIRST_KEY + RECORD_WORDS * u64::from(slot)),
+        Some(slot) => Some((at + key_place(slot)) as u64),
         None => None,
     }
 }

@@ -8,8 +8,8 @@ ghost use Rattle.move_op.specs.Shifts.{source_of, target_of, arrived_mark, movin
 use crate::step::{Direction, Leg, Shift};
 use bucket_meta::Meta;
 use bucket_meta::words::{
-    BUCKET_WORDS, FINGERS_PLACE, FIRST_KEY, FIRST_VALUE, MARK_PLACE, RECORD_WORDS, REST_PLACE,
-    finger_of, finger_place, inserted_mark, lowest_free, member_mark, removed_mark, with_finger,
+    BUCKET_WORDS, FINGERS_PLACE, MARK_PLACE, REST_PLACE, finger_of, finger_place, inserted_mark,
+    key_place, lowest_free, member_mark, removed_mark, value_place, with_finger,
 };
 use displace::{backward, forward};
 use hash_word::finger;
@@ -89,11 +89,10 @@ fn copied(
     requires to { to < record_slots }
     ensures { result ≡ copied direction source.now from target.now to }
 {
-    let before = RECORD_WORDS * usize::from(from);
     Record {
         slot: to,
-        key: source[FIRST_KEY + before],
-        value: source[FIRST_VALUE + before],
+        key: source[key_place(from)],
+        value: source[value_place(from)],
         fingers: with_finger(
             target[finger_place(to)],
             to,

@@ -6,7 +6,7 @@ ghost use Rattle.bucket_meta.specs.Bucket.{key_behind};
 ghost use Rattle.image_layout.specs.Places.{most_words};
 ghost use Rattle.phase.specs.Makes.{brought, make_wanted, make_taken};
 
-use bucket_meta::words::{self, finger_place};
+use bucket_meta::words::{self, finger_place, key_place};
 use map_model::Effect;
 use op_core::Want;
 use trace::{LINE, line_of};
@@ -88,7 +88,7 @@ fn key_at(lock: u64, slot: u8) -> u64
     ensures is { result ≡ key_behind lock slot }
     ensures most { result ≤ 2 * most_words }
 {
-    lock + FIRST_KEY + RECORD_WORDS * u64::from(slot)
+    lock + key_place(slot) as u64
 }
 
 /// A word of a bucket by its number there.

@@ -10,19 +10,13 @@ use crate::step::{Seen, Spot, Task};
 use balance::{Choice, choose};
 use bucket_meta::Meta;
 use bucket_meta::words::{
-    self, BUCKET_WORDS, FINGERS_PLACE, HOME_SIDE, MARK_PLACE, PROBING_SIDE, REST_PLACE,
-    finger_place, freed_fingers, freed_mark, inserted_mark, lowered_count, lowest_free,
-    lowest_with, member_mark, must_visit, note_place, removed_mark, with_finger,
+    BUCKET_WORDS, FINGERS_PLACE, HOME_SIDE, MARK_PLACE, PROBING_SIDE, REST_PLACE, finger_place,
+    freed_fingers, freed_mark, inserted_mark, lowered_count, lowest_free, lowest_with, member_mark,
+    must_visit, note_place, removed_mark, value_place, with_finger,
 };
 use hash_word::finger;
 use map_model::Effect;
 use phase::{Buckets, Record, Role, brought, stash_index};
-
-/// The word of a bucket in which the value of its first record slot stands.
-const FIRST_VALUE: u8 = words::FIRST_VALUE as u8;
-
-/// How many words a record has.
-const RECORD_WORDS: u8 = words::RECORD_WORDS as u8;
 
 // ---- where the key stands, and where a slot is free
 
@@ -123,7 +117,7 @@ fn published_word(effect: Effect, slot: u8) -> u8
     ensures { result ≡ published_word effect slot }
 {
     match effect {
-        Effect::Update(_) => FIRST_VALUE + RECORD_WORDS * slot,
+        Effect::Update(_) => value_place(slot) as u8,
         Effect::Insert(_) | Effect::Remove => MARK_PLACE as u8,
     }
 }

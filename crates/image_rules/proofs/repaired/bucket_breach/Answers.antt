@@ -1,5 +1,5 @@
 -- The bucket's lock and notes were looked at before its keys.
-use Rattle.std.proofs.Common.{◌+◌, ◌*◌, ℕ, subst, sym, refl, slice_index}
+use Rattle.std.proofs.Common.{◌≡◌, ◌+◌, ◌*◌, ℕ, subst, refl, arith, slice_index}
 use Rattle.image_rules.specs.Slots.{IsBrokenIn}
 use Rattle.image_rules.proofs.Answered.{never}
 use Rattle.image_rules.proofs.standing.CleanSegments.{unlocked_word, once_breaks, notes_break, none_breaks}
@@ -12,8 +12,9 @@ returns-then-not-has_its_notes-clause-some c =
 
 pub returns-in-Some-clause-some : goal.returns-in-Some-clause-some
 returns-in-Some-clause-some c =
-    subst (λ (n : ℕ). IsBrokenIn c.args.geometry.now (slice_index c.args.words.now) c.args.s c.args.b (c.bucket_word-at.result + 4 + 2 * n))
-    (sym c.from.ensures)
+    let at = c.bucket_word-at.result in
+    let key : at + 4 + 2 * c.in-Some.slot ≡ at + c.key_place.result = omega (arith, c.key_place.ensures) in
+    subst (λ (n : ℕ). IsBrokenIn c.args.geometry.now (slice_index c.args.words.now) c.args.s c.args.b n) key
     (once_breaks c.args.geometry.now (slice_index c.args.words.now) c.args.s c.args.b c.in-Some.slot c.bucket_word-at.result c.bucket_word-at.ensures.is
     (unlocked_word _ c.if-is_locked.ensures) (c.if-not-has_its_notes.ensures.0 refl) c.in-Some.ensures.some)
 
