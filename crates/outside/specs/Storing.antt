@@ -23,7 +23,11 @@ pub record HasReadCause {T : Type 0} (before now : ℕ) (result : Result T Store
   pub later : before ≤ now
   pub failed : IsErrOf result Failed → Rose before now
 
+-- the sentence that is printed where the outside failed
+abbrev pub failed_text : List ℕ
+failed_text = codes "the outside failed"
+
 -- the sentence that is printed for a fault
 abbrev pub fault_text : StoreFault → List ℕ
-fault_text Failed = codes "the outside failed"
+fault_text Failed = failed_text
 fault_text NoMemory = codes "memory was wanting"

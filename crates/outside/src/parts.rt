@@ -9,17 +9,21 @@ use std::alloc::{AllocError, Global};
 use std::error::Error;
 use std::fmt;
 
+/// The sentence that is printed where the outside failed.
+const FAILED: &str = "the outside failed";
+
 /// A call on the outside failed, and its count of faults rose.
 #[derive(Clone, Copy, Debug, PartialEq, Eq)]
 pub struct Failed;
 
 impl fmt::Display for Failed {
-    ghost use Rattle.std.specs.Prelude.{Some, codes};
+    ghost use Rattle.std.specs.Prelude.{Some};
+    ghost use Rattle.outside.specs.Storing.{failed_text};
 
-    ghost output = { λ _. Some (codes "the outside failed") };
+    ghost output = { λ _. Some failed_text };
 
     fn fmt<W: fmt::Write>(&self, f: &mut fmt::Formatter<W>) -> fmt::Result {
-        f.write_str("the outside failed")
+        f.write_str(FAILED)
     }
 }
 
@@ -42,7 +46,7 @@ impl fmt::Display for StoreFault {
 
     fn fmt<W: fmt::Write>(&self, f: &mut fmt::Formatter<W>) -> fmt::Result {
         f.write_str(match self {
-            StoreFault::Failed => "the outside failed",
+            StoreFault::Failed => FAILED,
             StoreFault::NoMemory => "memory was wanting",
         })
     }
