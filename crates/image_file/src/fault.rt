@@ -35,7 +35,7 @@ impl fmt::Display for ImageFault {
             ImageFault::Format => write!(f, "format"),
             ImageFault::Geometry => write!(f, "geometry"),
             ImageFault::Unsound { rule, word } => write!(f, "rule {rule} word {word}"),
-            ImageFault::NoMemory => write!(f, "out of memory"),
+            ImageFault::NoMemory => write!(f, "{}", map_model::NoMemory),
         }
     }
 }

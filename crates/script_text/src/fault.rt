@@ -44,7 +44,7 @@ impl fmt::Display for ScriptFault {
             ScriptFault::Caller { line } => write!(f, "line {line}: no such caller"),
             ScriptFault::Order { line } => write!(f, "line {line}: out of order"),
             ScriptFault::TooLong { line } => write!(f, "line {line}: too many bytes or lines"),
-            ScriptFault::NoMemory => write!(f, "out of memory"),
+            ScriptFault::NoMemory => write!(f, "{}", map_model::NoMemory),
         }
     }
 }
