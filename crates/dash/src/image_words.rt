@@ -1,6 +1,17 @@
 // What is wrong with an image, in words.
 
-/// What the kind of an image's fault, or the number of the rule that it breaks, means, and what to do.
+/// What makes an image a damaged one, by the kind of its fault or the number of the rule that it breaks; none for a fault that tells of no damage.
+pub fn damage_words(fault: &str) -> Option<&'static str> {
+    match fault {
+        "geometry" => Some("its shape is out of range (1 to 16384 segments, depth 0 to 16)"),
+        _ => match fault.as_bytes() {
+            [b'r', b'u', b'l', b'e', b' ', rule, ..] => Some(broken_words(*rule)),
+            _ => None,
+        },
+    }
+}
+
+/// What any other fault of an image means, and what to do.
 pub fn image_words(fault: &str) -> &'static str {
     match fault {
         "length" => {
@@ -10,17 +21,6 @@ pub fn image_words(fault: &str) -> &'static str {
         "format" => {
             "its format is none that this version knows (format 1, hash 0 or 1): give the path of another image"
         }
-        "geometry" => {
-            "its shape is out of range (1 to 16384 segments, depth 0 to 16), so it is damaged: use an earlier copy of it"
-        }
-        _ => rule_words(fault),
-    }
-}
-
-// The same of the text `rule R word W`.
-fn rule_words(fault: &str) -> &'static str {
-    match fault.as_bytes() {
-        [b'r', b'u', b'l', b'e', b' ', rule, ..] => broken_words(*rule),
         _ => "it is refused: docs/FORMAT.md says what an image is",
     }
 }
@@ -28,26 +28,14 @@ fn rule_words(fault: &str) -> &'static str {
 // An image that is not sound. No version takes it.
 fn broken_words(rule: u8) -> &'static str {
     match rule {
-        b'1' => {
-            "a number in its head or in a segment's header is out of range, so it is damaged: use an earlier copy of it"
-        }
-        b'2' => {
-            "some keys belong to no segment, or to two, so it is damaged: use an earlier copy of it"
-        }
-        b'3' => {
-            "an entry of its directory does not lead to the segment of its keys, so it is damaged: use an earlier copy of it"
-        }
+        b'1' => "a number in its head or in a segment's header is out of range",
+        b'2' => "some keys belong to no segment, or to two",
+        b'3' => "an entry of its directory does not lead to the segment of its keys",
         b'4' => {
-            "a record stands in a bucket that is not its key's, or its fingerprint is another, so it is damaged: use an earlier copy of it"
+            "a record stands in a bucket that is not its key's, or its fingerprint is another"
         }
-        b'5' => {
-            "a key stands in it twice, with two values, so it is damaged: use an earlier copy of it"
-        }
-        b'6' => {
-            "a segment has a later version than the image, so it is damaged: use an earlier copy of it"
-        }
-        _ => {
-            "it is marked as closed, and is not as a close leaves it, so it is damaged: use an earlier copy of it"
-        }
+        b'5' => "a key stands in it twice, with two values",
+        b'6' => "a segment has a later version than the image",
+        _ => "it is marked as closed, and is not as a close leaves it",
     }
 }

@@ -7,26 +7,26 @@ mod image_words;
 mod number;
 mod refusal;
 mod script_words;
+mod wanting;
 
 use command_line::{Heard, parted, program_of, purpose_of, received};
 use dash_top::{DONE, NO_MEMORY, dash_run};
 use outside::{FileStore, Fuses, StdSink, StdSource};
 use refusal::Refusal;
 use std::process::ExitCode;
+use wanting::Wanting;
 
 fn main(rt: HostRuntime) -> ExitCode {
     let Ok(arguments) = received(&rt) else {
-        let _ = rt.eprintln(
-            "dash: memory was wanting for its words: let the process have more (ulimit -v)",
-        );
+        let _ = rt.eprintln(Wanting { what: "its words" });
         return ExitCode::from(NO_MEMORY);
     };
     let (path, words) = parted(&arguments);
     let purpose = purpose_of(words);
     let Ok(mut image) = FileStore::new(&rt, rt.alloc(), path, purpose, number::drawn(&rt)) else {
-        let _ = rt.eprintln(
-            "dash: memory was wanting for the image's path: let the process have more (ulimit -v)",
-        );
+        let _ = rt.eprintln(Wanting {
+            what: "the image's path",
+        });
         return ExitCode::from(NO_MEMORY);
     };
     let mut input = StdSource::new(rt.stdin());

@@ -1,6 +1,7 @@
 // What is told on standard error where a call was not done: one line, which says what to do. It carries no promise.
-use crate::image_words::image_words;
+use crate::image_words::{damage_words, image_words};
 use crate::script_words::script_words;
+use crate::wanting::GIVE_MORE;
 use dash_top::{BAD_IMAGE, BAD_SCRIPT, BAD_WORDS, SINK_FAILED, SOURCE_FAILED, STORE_FAILED};
 use outside::Trouble;
 use std::{fmt, io};
@@ -55,8 +56,17 @@ impl<'a> Refusal<'a> {
 
     fn image<W: fmt::Write>(&self, f: &mut fmt::Formatter<W>) -> fmt::Result {
         let path = self.path;
-        let words = image_words(self.line.strip_prefix("fault image ").unwrap_or(""));
-        write!(f, "dash: {path}: {words}")
+        let fault = self.line.strip_prefix("fault image ").unwrap_or("");
+        match damage_words(fault) {
+            Some(words) => write!(
+                f,
+                "dash: {path}: {words}, so it is damaged: use an earlier copy of it"
+            ),
+            None => {
+                let words = image_words(fault);
+                write!(f, "dash: {path}: {words}")
+            }
+        }
     }
 
     // What the system refused, and its reason where it gave one.
@@ -115,7 +125,8 @@ impl<'a> fmt::Display for Refusal<'a> {
                 let path = self.path;
                 write!(
                     f,
-                    "dash: {path}: memory was wanting, and the image is as it was: let the process have more (ulimit -v), or take a shorter script"
+                    "dash: {path}: memory was wanting, and the image is as it was: {}, or take a shorter script",
+                    GIVE_MORE
                 )
             }
         }
