@@ -3,7 +3,7 @@ use Rattle.std.proofs.Common.{◌≡◌, ℕ, ◌+◌, ◌*◌, ◌%◌, ◌^◌
 use Rattle.std.specs.Prelude.{min}
 use Rattle.std.specs.Int.{bit_not, w64}
 use Rattle.std.proofs.lemmas.Nat.{and_le_r}
-use Rattle.bucket_meta.specs.Bucket.{overflow_count, record_slots}
+use Rattle.bucket_meta.specs.Bucket.{overflow_count, record_slots, KeepsRecords}
 use Rattle.bucket_meta.specs.Notes.{OverflowNote, AreExact, notes_by}
 use Rattle.bucket_meta.specs.Marks.{slot_bits, cleared_mark}
 use Rattle.hash_word.specs.Hash.{probing_of}
@@ -13,7 +13,6 @@ use Rattle.sound_image.specs.Records.{key_hash}
 use Rattle.whole_segment.specs.Words.{words_by}
 use Rattle.whole_segment.specs.Records.{first_in, third_in, key_in, HasWords, covered_set}
 use Rattle.image_layout.specs.Standing.{stashed_of, HasExactNotes}
-use Rattle.whole_segment.specs.Notes.{KeepsRecords}
 use Rattle.whole_segment.specs.Rebuilding.{first_with, third_with, rebuilt}
 use Rattle.whole_segment.specs.declared.loaded.Loaded.{Loaded}
 use Rattle.whole_segment.specs.declared.notes.Notes.{Notes}
