@@ -1,5 +1,5 @@
 -- The fields of a bucket's words. Word 0 is the lock word and words 1 to 3 are the metadata, here w0 to w3; record slot s has its key in word 4 + 2s and its value in word 5 + 2s. Bits are counted from 0, the lowest.
-use Rattle.std.specs.Prelude.{ℕ, ◌+◌, ◌-◌, ◌*◌, ◌/◌, ◌%◌, ◌^◌, nat_lt, count_ones, if◌then◌else◌}
+use Rattle.std.specs.Prelude.{◌≡◌, ℕ, ◌+◌, ◌-◌, ◌*◌, ◌/◌, ◌%◌, ◌^◌, nat_lt, count_ones, if◌then◌else◌}
 use Rattle.word_bits.specs.Bits.{word_bits, bits, bit}
 use Rattle.hash_word.specs.Hash.{fingerprint_bits}
 
@@ -221,3 +221,8 @@ slot_fingers_part w3 = w3 % 2 ^ note_fingers_from
 
 abbrev pub note_fingers_part : ℕ → ℕ
 note_fingers_part w3 = w3 / 2 ^ note_fingers_from % 2 ^ note_fingers_bits
+
+-- words 1 and 3 of a bucket, x1 and x3, say of its record slots what w1 and w3 say
+pub record KeepsRecords (w1 w3 x1 x3 : ℕ) : Type 0 where
+  pub slots : slots_part x1 ≡ slots_part w1
+  pub fingers : slot_fingers_part x3 ≡ slot_fingers_part w3

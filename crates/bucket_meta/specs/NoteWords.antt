@@ -1,16 +1,12 @@
 -- Overflow notes in the words of a bucket: where one stands or may be put, and the words with it and without it.
-use Rattle.std.specs.Prelude.{◌≡◌, ◌≢◌, ℕ, zero, suc, ◌+◌, ◌-◌, ◌*◌, ◌%◌, ◌^◌, ◌<◌, ◌==◌, Bool, not, Option, None, Some, bit_and, bit_or, if◌then◌else◌}
+use Rattle.std.specs.Prelude.{◌≡◌, ◌≢◌, ℕ, zero, suc, ◌+◌, ◌-◌, ◌*◌, ◌%◌, ◌^◌, ◌<◌, ◌==◌, Bool, not, Option, bit_and, bit_or, if◌then◌else◌}
 use Rattle.std.specs.Int.{bit_not, w64}
 use Rattle.word_bits.specs.Bits.{mask}
 use Rattle.hash_word.specs.Hash.{fingerprint_bits, finger_mask}
-use Rattle.bucket_meta.specs.Bucket.{note_used, note_member, note_index, note_finger, overflow_count, note_slots, lower_notes, last_lower_note, last_note, rest_fingers, note_used_from, note_member_from, note_index_from, count_from, upper_fingers_from, last_finger_from, note_fingers_from, slots_part, slot_fingers_part}
+use Rattle.bucket_meta.specs.Bucket.{note_used, note_member, note_index, note_finger, overflow_count, note_slots, lower_notes, last_lower_note, last_note, rest_fingers, note_used_from, note_member_from, note_index_from, count_from, upper_fingers_from, last_finger_from, note_fingers_from, slots_part, slot_fingers_part, KeepsRecords}
 use Rattle.bucket_meta.specs.Marks.{with_finger}
 use Rattle.bucket_meta.specs.Visits.{is_note}
-
--- the lowest number, of n from one on, of which this holds
-abbrev pub lowest_among : (ℕ → Bool) → ℕ → ℕ → Option ℕ
-lowest_among holds at zero = None
-lowest_among holds at (suc n) = if holds at then Some at else lowest_among holds (at + 1) n
+use Rattle.bucket_meta.specs.Search.{lowest_among}
 
 -- the lowest note slot with a note of this side, fingerprint and stash bucket
 abbrev pub note_place : ℕ → ℕ → ℕ → ℕ → ℕ → Option ℕ
@@ -48,8 +44,8 @@ pub record KeepsOtherPlaces (w1 w3 x1 x3 i : ℕ) : Type 0 where
   pub indexes : (j : ℕ) → j < note_slots → j ≢ i → note_index j x1 ≡ note_index j w1
   pub fingers : (j : ℕ) → j < note_slots → j ≢ i → note_finger j x1 x3 ≡ note_finger j w1 w3
   pub count : overflow_count x1 ≡ overflow_count w1
-  pub slots : slots_part x1 ≡ slots_part w1
-  pub records : slot_fingers_part x3 ≡ slot_fingers_part w3
+  pub kept : KeepsRecords w1 w3 x1 x3
+  pub open kept use {slots, fingers as records}
 
 -- they have note slot i free, and say of the others what w1 and w3 say
 pub record FreesPlace (w1 w3 x1 x3 i : ℕ) : Type 0 where

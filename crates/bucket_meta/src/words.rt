@@ -209,7 +209,6 @@ pub fn finger_of(w2: u64, w3: u64, slot: u8) -> u8
 }
 
 /// The lowest taken slot with this key, among a bucket's words by their numbers in it.
-#[tactic(auto, using(crate::proofs::Search::with_found, crate::proofs::Search::with_bit, crate::proofs::Search::with_key, crate::proofs::Search::with_end))]
 pub fn lowest_with(words: &[u64; BUCKET_WORDS], key: u64) -> Option<u8>
     ensures is { result ≡ lowest_with words.now key }
     ensures there { IfSome result (λ slot. (slot < record_slots) × IsThere words.now key slot) }
@@ -224,7 +223,6 @@ pub fn lowest_with(words: &[u64; BUCKET_WORDS], key: u64) -> Option<u8>
 }
 
 /// The lowest slot without a record, by the metadata word.
-#[tactic(auto, using(crate::proofs::Search::free_found, crate::proofs::Search::free_next, crate::proofs::Search::free_end))]
 pub fn lowest_free(w1: u64) -> Option<u8>
     ensures is { result ≡ lowest_free w1 }
     ensures free { IfSome result (λ slot. (slot < record_slots) × (allocated slot w1 ≡ 0)) }

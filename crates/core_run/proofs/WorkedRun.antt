@@ -6,7 +6,7 @@ use Rattle.script_text.specs.declared.line.Counted.TheVariants.{Store, Exchange,
 use Rattle.script_text.specs.declared.line.Line.TheVariants.{Step, Until, At, Close, Cut}
 use Rattle.phase.specs.declared.role.Role.TheVariants.{Home, Probing}
 use Rattle.write_op.specs.declared.step.WriteStep.TheVariants.{Count}
-use Rattle.bucket_meta.specs.Search.{slot_with, slot_free}
+use Rattle.bucket_meta.specs.Search.{lowest_among}
 use Rattle.engine.specs.Core.{Core}
 use Rattle.core_run.specs.declared.keeper.Keeper.TheVariants.{Open}
 use Rattle.core_run.specs.State.{State}
@@ -101,7 +101,7 @@ pub probing_all : after_line (Step 1 11) (standing 62 (loading Probing 20)) ≡ 
 probing_all = refl
 
 pub counted : after_line (Step 1 1) (standing 73 Count) ≡ before_change
-unfolding slot_with slot_free lib.Count.ones
+unfolding lowest_among lib.Count.ones
 counted = refl
 
 -- the end rule is not computed to so many rounds: the second of them leaves no call

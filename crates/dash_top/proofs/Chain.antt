@@ -1,13 +1,13 @@
 -- What one play leaves is what the next reads: the bytes of an image say its words, and these its shape.
 use Rattle.std.proofs.Common.{◌≡◌, ℕ, List, [], ◌∷◌, sym, ◌∙◌, subst}
 use Rattle.image_layout.specs.Places.{Shape}
-use Rattle.sound_image.specs.Image.{image_bytes, IsSoundImage}
+use Rattle.sound_image.specs.Image.{image_bytes, IsSoundImage, IsSoundFileOf}
 use Rattle.image_file.proofs.RoundTrip.{same_words, same_shape}
 use Rattle.session.specs.Session.{IsSession}
 use Rattle.serve.specs.Played.{scripts_of}
 use Rattle.serve.specs.Runs.{ending_of, CarriesOn, MapsCarryOn}
 use Rattle.dash_top.specs.Played.{IsPlayed}
-use Rattle.dash_top.specs.Chains.{IsSoundFileOf, PlaysLeaveSound, map_before, map_after, open_calls, PlaysShareMap}
+use Rattle.dash_top.specs.Chains.{PlaysLeaveSound, map_before, map_after, open_calls, PlaysShareMap}
 
 -- ---- two sound images with one file
 module _ (s t : Shape) (xs ys bytes : List ℕ) (one : IsSoundImage s xs) (other : IsSoundImage t ys) (first : bytes ≡ image_bytes xs) (second : bytes ≡ image_bytes ys) where

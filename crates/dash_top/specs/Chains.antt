@@ -6,7 +6,7 @@ use Rattle.map_model.specs.Map.{Map}
 use Rattle.map_model.specs.Weave.{weave}
 use Rattle.map_model.specs.Legal.{replay}
 use Rattle.image_layout.specs.Places.{Shape}
-use Rattle.sound_image.specs.Image.{image_bytes, IsSoundImage}
+use Rattle.sound_image.specs.Image.{IsSoundFileOf}
 use Rattle.session.specs.Callers.{history_of, undrawn}
 use Rattle.serve.specs.Played.{scripts_of}
 use Rattle.serve.specs.Runs.{ending_of, CarriesOn}
@@ -22,12 +22,6 @@ pub record PlayBytes : Type 0 where
 abbrev pub ArePlayed : List ℕ → List PlayBytes → Type 0
 ArePlayed start [] = ⊤
 ArePlayed start (play ∷ plays) = IsPlayed start play.script play.transcript play.ending × ArePlayed play.ending plays
-
--- the bytes are the file of a sound image of this shape
-pub record IsSoundFileOf (shape : Shape) (bytes : List ℕ) : Type 0 where
-  pub words : List ℕ
-  pub sound : IsSoundImage shape words
-  pub file : bytes ≡ image_bytes words
 
 -- WHAT EACH LEAVES is so again, of the shape of the first
 abbrev pub PlaysLeaveSound : Type 0

@@ -81,7 +81,7 @@ module _ (site : Ground) (here : Site) (call : Call) (c : Copied) (P : ℕ → T
     is = s.is;
     whole = s.whole;
     copy = s.copy;
-    there = record { within = s.there.within; lives = k.facts (Lives c.whole.segment) refl s.there.lives; current = k.facts (Current c.whole.segment) refl s.there.current };
+    there = record { live = record { within = s.there.within; lives = k.facts (Lives c.whole.segment) refl s.there.lives }; current = k.facts (Current c.whole.segment) refl s.there.current };
     areas = is;
     locks = locks_stay site c v u k.held s.locks;
     known = λ i word. k.known i (copied_words c i) (far i word) (s.known i word);

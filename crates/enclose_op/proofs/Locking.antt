@@ -74,7 +74,7 @@ module _ (site : Ground) (here : Site) (call : Call) (e : Enclosed) (is : IsOf s
         view = (
           record {
             near = omega arith;
-            there = record { within = s.1.within; lives = s.1.lives; current = s.1.current };
+            there = s.1;
             part = record {
               areas = ap (λ (l : List Area). Segment e.segment ∷ l) none.areas;
               locks = hold_none site e 0 u none.held;
@@ -115,7 +115,7 @@ module _ (site : Ground) (here : Site) (call : Call) (e : Enclosed) (is : IsOf s
     }
 
     taking_still : (locks : List ℕ) → IsTakingLock site e b (record v { spent_locks = locks })
-    taking_still locks = record { near = s.0.near; there = record { within = s.0.there.within; lives = s.0.there.lives; current = s.0.there.current }; part = part_still locks }
+    taking_still locks = record { near = s.0.near; there = s.0.there; part = part_still locks }
 
     -- the lock after it, or the header
     module _ (free : ℕ) (may : MayBeTaken free) where
@@ -125,7 +125,7 @@ module _ (site : Ground) (here : Site) (call : Call) (e : Enclosed) (is : IsOf s
       taking_more : IsTakingLock site (with_lock e b free) (b + 1) u
       taking_more = record {
         near = (let low = s.1 in omega (arith, low));
-        there = record { within = s.0.there.within; lives = s.0.there.lives; current = s.0.there.current };
+        there = s.0.there;
         part = record {
           areas = s.0.part.areas;
           locks = hold_more site e l b free v s.1 is.each_lock may s.0.part.locks u refl;

@@ -2,7 +2,7 @@
 -- next.
 use Rattle.std.specs.Prelude.{◌≡◌, ℕ, ◌+◌, ◌-◌, ◌^◌, ◌<◌, ◌≤◌, ◌==◌, ◌⊎◌, true, [], ◌∷◌, length, slice_index, if◌then◌else◌}
 use Rattle.trace.specs.Events.{Words}
-use Rattle.bucket_meta.specs.Bucket.{record_slots, mark_place, rest_place, key_place, locked}
+use Rattle.bucket_meta.specs.Bucket.{mark_place, locked}
 use Rattle.hash_word.specs.Hash.{Covers, home_of}
 use Rattle.segment_head.specs.HeadWord.{version_in, depth_in, pattern_in}
 use Rattle.segment_head.specs.SplitHeads.{side_depth_in, side_pattern_in, one_pattern_field}
@@ -11,9 +11,8 @@ use Rattle.image_layout.specs.Places.{bucket_at, buckets, block, words_of_bucket
 use Rattle.image_layout.specs.Volatile.{segment_guard}
 use Rattle.sound_image.specs.Records.{key_hash}
 use Rattle.way.specs.Ways.{head_word, bucket_word, is_leading}
-use Rattle.whole_segment.specs.declared.loaded.Loaded.{Loaded}
 use Rattle.whole_segment.specs.Words.{word_of_bucket}
-use Rattle.whole_segment.specs.Records.{first_in, third_in, key_in, covered_set}
+use Rattle.whole_segment.specs.Records.{covered_set, first_of, third_of, key_of}
 use Rattle.whole_segment.specs.Room.{has_no_room}
 use Rattle.bucket_words.specs.Hits.{Hit}
 use Rattle.world.specs.DeadSlots.{IsInSlot}
@@ -43,19 +42,13 @@ kept_words e i = if i == head_word e.site.geometry e.segment then e.head else sl
 
 -- word 1 of each bucket, word 3, and the key in each record slot
 abbrev pub kept_first : Enclosed → ℕ → ℕ
-kept_first e b = kept_word e b mark_place
+kept_first e = first_of e.buckets
 
 abbrev pub kept_third : Enclosed → ℕ → ℕ
-kept_third e b = kept_word e b rest_place
+kept_third e = third_of e.buckets
 
 abbrev pub kept_key : Enclosed → ℕ → ℕ → ℕ
-kept_key e b r = kept_word e b (key_place r)
-
--- these words, as what is loaded of a segment
-pub record HasKept (e : Enclosed) (loaded : Loaded) : Type 0 where
-  pub first : (b : ℕ) → b < buckets → first_in loaded b ≡ kept_first e b
-  pub third : (b : ℕ) → b < buckets → third_in loaded b ≡ kept_third e b
-  pub keys : (b r : ℕ) → b < buckets → r < record_slots → key_in loaded b r ≡ kept_key e b r
+kept_key e = key_of e.buckets
 
 -- ---- the records that go to its side where it is split
 -- the depth and the pattern of the side: one deeper, with a 1 behind the pattern of the segment

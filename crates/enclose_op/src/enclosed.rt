@@ -1,12 +1,9 @@
 //! What is held on to from one machine of a split to the next: a whole segment, with its guard, all its locks and all its words.
 
-ghost use Rattle.std.specs.Prelude.{◌≡◌, ◌<◌, ℕ};
-ghost use Rattle.bucket_meta.specs.Bucket.{record_slots};
+ghost use Rattle.std.specs.Prelude.{◌≡◌};
 ghost use Rattle.segment_head.specs.SplitHeads.{side_depth, one_pattern_field};
-ghost use Rattle.image_layout.specs.Places.{buckets};
-ghost use Rattle.whole_segment.specs.Records.{first_in, third_in, key_in};
+ghost use Rattle.whole_segment.specs.Records.{HasWords};
 
-use bucket_meta::words::{BUCKET_WORDS, MARK_PLACE, REST_PLACE, SLOTS, key_place};
 use image_layout::{BUCKETS, WORDS_OF_BUCKETS};
 use map_model::Change;
 use segment_head::split;
@@ -33,34 +30,11 @@ pub struct Enclosed {
 }
 
 impl Enclosed {
-    ghost use Rattle.enclose_op.specs.Whole.{kept_word, kept_first, kept_third, kept_key, HasKept};
-
-    /// Puts the keys of a bucket.
-    fn put_keys(&self, loaded: &mut Loaded, bucket: u8)
-        requires { bucket < buckets }
-        ensures here { (r : ℕ) → r < record_slots → key_in loaded.new bucket r ≡ kept_key self.now bucket r }
-        ensures others { (b r : ℕ) → b < bucket → r < record_slots → key_in loaded.new b r ≡ key_in loaded.old b r }
-        ensures first { loaded.new.first ≡ loaded.old.first }
-        ensures third { loaded.new.third ≡ loaded.old.third }
-    {
-        for slot in 0..SLOTS {
-            let at = BUCKET_WORDS * usize::from(bucket) + key_place(slot);
-            loaded.set_key(bucket, slot, self.buckets[at]);
-        }
-    }
-
     /// What is kept of its records: words 1 and 3 of each bucket, and the keys.
     pub fn loaded(&self) -> Loaded
-        ensures { HasKept self.now result }
+        ensures { HasWords self.now.buckets result }
     {
-        let mut loaded = Loaded::blank();
-        for bucket in 0..BUCKETS {
-            let at = BUCKET_WORDS * usize::from(bucket);
-            loaded.set_first(bucket, self.buckets[at + MARK_PLACE]);
-            loaded.set_third(bucket, self.buckets[at + REST_PLACE]);
-            self.put_keys(&mut loaded, bucket);
-        }
-        loaded
+        Loaded::of_words(&self.buckets)
     }
 
     /// The depth of the side that it gets where it is split: one more than its own, and 64 at the most.

@@ -6,9 +6,9 @@ ghost use Rattle.enclose_op.specs.Giving.{guard_of, lock_of, free_value, give_fr
 
 use crate::enclosed::Enclosed;
 use bucket_meta::words::given_back;
-use image_layout::{BUCKETS, FREE_GUARD, ROOT_WORD};
+use image_layout::{BUCKETS, FREE_GUARD};
 use op_core::Want;
-use way::bucket_word;
+use way::{bucket_word, slot_guard};
 
 /// What is given back next.
 #[derive(Clone, Copy)]
@@ -51,12 +51,7 @@ impl Enclosed {
     pub fn guard(&self) -> u64
         ensures { result ≡ guard_of self.now }
     {
-        let geometry = &self.site.geometry;
-        if self.segment < geometry.segments() {
-            geometry.segment_guard(self.segment)
-        } else {
-            ROOT_WORD
-        }
+        slot_guard(&self.site.geometry, self.segment)
     }
 
     /// The lock word of a bucket.

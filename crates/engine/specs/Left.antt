@@ -4,7 +4,6 @@ use Rattle.std.specs.Prelude.{ℕ, zero, suc, true, false, ◌+◌, ◌*◌, ◌
 use Rattle.trace.specs.Events.{Words}
 use Rattle.segment_head.specs.HeadWord.{version_in, state_in, free, is_live}
 use Rattle.image_layout.specs.Places.{Shape, state_word, header_word, most_segments}
-use Rattle.image_layout.specs.StateWord.{image_version_in}
 use Rattle.split_op.specs.SplitPart.{is_new_slot}
 use Rattle.directory_op.specs.Left.{left_alone as publish_left_alone}
 use Rattle.rest_op.specs.RestPart.{rest_part}
@@ -61,7 +60,7 @@ free_slots shape words = free_below shape words shape.segments
 
 -- how many of them are stale: their segments are live, and have not the version of the image
 abbrev pub is_stale : Words → ℕ → Bool
-is_stale words head = is_live head && not (version_in head == image_version_in (words state_word))
+is_stale words head = is_live head && not (version_in head == version_in (words state_word))
 
 abbrev pub stale_below : Shape → Words → ℕ → ℕ
 stale_below shape words zero = 0

@@ -68,6 +68,10 @@ most_depth = 16
 abbrev pub version_bits : ℕ
 version_bits = 8
 
+-- bits 0 to 7 of either: in the state word the version of the image, and in a header word that of the image when its segment was last current
+abbrev pub version_in : ℕ → ℕ
+version_in w = w % 2 ^ version_bits
+
 -- the place of a hash in a directory of depth g
 abbrev pub index_of : ℕ → ℕ → ℕ
 index_of g h = top g h

@@ -2,11 +2,11 @@
 //!
 //! A hash is 64 bits. Its lowest byte is the fingerprint of a record, the next six bits name the home bucket,
 //! and its top bits choose the segment. Numbers of which words of several crates above are made stand here too: the greatest
-//! depth of a directory, and the bits of a fingerprint and of a version.
+//! depth of a directory, the bits of a fingerprint, and the bits of a version, which is the lowest byte of such words.
 #![tactic(auto)]
 
 ghost use Rattle.std.specs.Prelude.{◌≡◌, ◌<◌, ◌≤◌, ◌^◌, ◌↔◌, IsTrue};
-ghost use Rattle.hash_word.specs.Hash.{hash_bits, homes, hash_of, home_of, probing_of, next_of, previous_of, finger_of, index_of, Covers};
+ghost use Rattle.hash_word.specs.Hash.{hash_bits, homes, hash_of, home_of, probing_of, next_of, previous_of, finger_of, version_in, index_of, Covers};
 
 /// How many bits a hash has.
 pub const HASH_BITS: u8 = 64;
@@ -19,6 +19,9 @@ pub const MOST_DEPTH: u64 = 16;
 
 /// How many bits the version of an image has, in its state word and in each header word.
 pub const VERSION_BITS: u32 = 8;
+
+/// The bits of a version, which are the lowest ones.
+const VERSION_MASK: u64 = (1 << VERSION_BITS) - 1;
 
 /// How many home buckets a segment has.
 pub const HOMES: u8 = 64;
@@ -92,6 +95,13 @@ pub fn finger(h: u64) -> u8
     ensures { result ≡ finger_of h }
 {
     (h & FINGER_MASK) as u8
+}
+
+/// The version in a state word or a header word: its lowest byte.
+pub fn version_of(word: u64) -> u8
+    ensures { result ≡ version_in word }
+{
+    (word & VERSION_MASK) as u8
 }
 
 /// The place of the hash in a directory of depth `g`, from 0 to 64: its top `g` bits.

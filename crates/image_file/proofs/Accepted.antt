@@ -70,50 +70,50 @@ module _ (bytes words : List ℕ) (file : bytes ≡ image_bytes words) (fits : (
 
 -- SUCH A FILE has no fault
 module _ (bytes : List ℕ) (f : IsSoundFile bytes) where
-  sound_spelled : word_in_file bytes ≡ slice_index f.words
-  sound_spelled = spelled bytes f.words f.file f.sound.each_fits
+  sound_spelled : word_in_file bytes ≡ slice_index f.1.words
+  sound_spelled = spelled bytes f.1.words f.1.file f.1.sound.each_fits
 
-  sound_word : (i : ℕ) → word_in_file bytes i ≡ slice_index f.words i
+  sound_word : (i : ℕ) → word_in_file bytes i ≡ slice_index f.1.words i
   sound_word i = ap (λ (w : ImageWords). w i) sound_spelled
 
-  upper_half : word_in_file bytes 1 / 2 ^ 32 ≡ f.shape.kind
-  upper_half = omega (arith, sound_word 1, f.sound.says_shape.format)
+  upper_half : word_in_file bytes 1 / 2 ^ 32 ≡ f.0.kind
+  upper_half = omega (arith, sound_word 1, f.1.sound.says_shape.format)
 
-  sound_shape : shape_in (word_in_file bytes) ≡ f.shape
+  sound_shape : shape_in (word_in_file bytes) ≡ f.0
   sound_shape =
       λ j. record {
-        segments = (sound_word 2 ∙ f.sound.says_shape.segments) j;
-        depth = (sound_word 3 ∙ f.sound.says_shape.depth) j;
+        segments = (sound_word 2 ∙ f.1.sound.says_shape.segments) j;
+        depth = (sound_word 3 ∙ f.1.sound.says_shape.depth) j;
         kind = upper_half j;
       }
 
   sound_format : HasFormat (word_in_file bytes)
   sound_format =
       record {
-        number = omega (arith, sound_word 1, f.sound.says_shape.format);
-        kind = omega (arith, upper_half, f.sound.in_range.kind);
+        number = omega (arith, sound_word 1, f.1.sound.says_shape.format);
+        kind = omega (arith, upper_half, f.1.sound.in_range.kind);
       }
 
   sound_magic : HasMagic (word_in_file bytes)
-  sound_magic = sound_word 0 ∙ f.sound.says_shape.magic_word
+  sound_magic = sound_word 0 ∙ f.1.sound.says_shape.magic_word
 
   sound_in_range : IsShape (shape_in (word_in_file bytes))
-  sound_in_range = subst IsShape (sym sound_shape) f.sound.in_range
+  sound_in_range = subst IsShape (sym sound_shape) f.1.sound.in_range
 
   sound_long : length bytes ≡ 8 * words_of (shape_in (word_in_file bytes))
   sound_long =
-      ap length f.file ∙ length-image_bytes f.words ∙ ap (λ n. 8 * n) (f.sound.whole ∙ ap words_of (sym sound_shape))
+      ap length f.1.file ∙ length-image_bytes f.1.words ∙ ap (λ n. 8 * n) (f.1.sound.whole ∙ ap words_of (sym sound_shape))
 
   long_enough : length bytes < 256 → ⊥
   long_enough short =
-      let long : length bytes ≡ 8 * words_of f.shape = ap length f.file ∙ length-image_bytes f.words ∙ ap (λ n. 8 * n) f.sound.whole in
-      absurd (omega (arith, short, long, f.sound.in_range.some))
+      let long : length bytes ≡ 8 * words_of f.0 = ap length f.1.file ∙ length-image_bytes f.1.words ∙ ap (λ n. 8 * n) f.1.sound.whole in
+      absurd (omega (arith, short, long, f.1.sound.in_range.some))
 
   sound_holds : (r : Rule) (w : ℕ) → HoldsAt (shape_in (word_in_file bytes)) (word_in_file bytes) r w
   sound_holds r w =
       subst (λ (s : Shape). HoldsAt s (word_in_file bytes) r w) (sym sound_shape)
-      (subst (λ (word : ImageWords). HoldsAt f.shape word r w) (sym sound_spelled)
-      (rules_hold f.shape (slice_index f.words) f.sound.follows r w))
+      (subst (λ (word : ImageWords). HoldsAt f.0 word r w) (sym sound_spelled)
+      (rules_hold f.0 (slice_index f.1.words) f.1.sound.follows r w))
 
   pub no_fault : (fault : ImageFault) → HasFault bytes fault → fault ≡ NoMemory
   no_fault Length (inl short) = absurd (long_enough short)

@@ -3,7 +3,7 @@ use Rattle.std.specs.Prelude.{◌≡◌, ◌≢◌, ℕ, ◌*◌, ◌<◌, ◌�
 use Rattle.byteorder.specs.Endian.{little_number}
 use Rattle.image_layout.specs.Places.{Shape, IsShape, most_kind, format_number, format_in, kind_in, block, front_magic, front_format, front_segments, front_depth, words_of}
 use Rattle.sound_image.specs.Segments.{ImageWords}
-use Rattle.sound_image.specs.Image.{word_bytes, image_bytes, magic, IsSoundImage}
+use Rattle.sound_image.specs.Image.{word_bytes, magic, IsSoundFileOf}
 use Rattle.image_file.specs.declared.fault.ImageFault.{ImageFault}
 use Rattle.image_file.specs.declared.fault.ImageFault.TheVariants.{Length, Magic, Format, Geometry, Unsound, NoMemory}
 use Rattle.image_rules.specs.Breach.{IsFirstBreach}
@@ -50,8 +50,5 @@ HasFault bytes (Unsound broken word) = IsFramed bytes × IsFirstBreach (shape_in
 HasFault bytes NoMemory = ⊤
 
 -- the bytes are the file of a sound image
-pub record IsSoundFile (bytes : List ℕ) : Type 0 where
-  pub shape : Shape
-  pub words : List ℕ
-  pub sound : IsSoundImage shape words
-  pub file : bytes ≡ image_bytes words
+abbrev pub IsSoundFile : List ℕ → Type 0
+IsSoundFile bytes = (shape : Shape) × IsSoundFileOf shape bytes

@@ -1,6 +1,7 @@
 pub mod Places
 pub mod Faults
 pub mod Parts
+pub mod Largest
 pub mod Keys
 pub mod Standing
 pub mod Volatile

@@ -1,14 +1,11 @@
 -- The state word of an image: its version and the clean marker.
 use Rattle.std.specs.Prelude.{◌≡◌, ℕ, ◌+◌, ◌-◌, ◌/◌, ◌%◌, ◌^◌, ◌==◌, if◌then◌else◌}
 use Rattle.hash_word.specs.Hash.{version_bits}
+pub use Rattle.hash_word.specs.Hash.{version_in}
 
 -- the version of a new image, and of one whose headers lost theirs
 abbrev pub first_version : ℕ
 first_version = 1
-
--- bits 0 to 7: the version of the image
-abbrev pub image_version_in : ℕ → ℕ
-image_version_in state = state % 2 ^ version_bits
 
 -- the last version that an image may have
 abbrev pub last_image_version : ℕ

@@ -1,7 +1,8 @@
-//! A geometry is in range, and no two parts of an image share a word.
+//! A geometry is in range, no two parts of an image share a word, and the largest image has the numbers that are written out.
 
 ghost use Rattle.image_layout.specs.Places.{IsShape};
 ghost use Rattle.image_layout.specs.Parts.{PartsWithin, PartsApart};
+ghost use Rattle.image_layout.specs.Largest.{LargestIsWrittenOut};
 
 use crate::Geometry;
 
@@ -22,4 +23,9 @@ pub fn parts_within()
 /// Parts of an image with the same word number are the same part.
 pub fn parts_apart()
     ensures { PartsApart }
+{}
+
+/// The numbers of the largest image that are written out are those that its shape gives.
+pub fn largest_is_written_out()
+    ensures { LargestIsWrittenOut }
 {}

@@ -10,7 +10,7 @@ mod shape;
 pub mod state;
 
 pub use hash_word::{HOMES, MOST_DEPTH};
-pub use laws::{parts_apart, parts_within, shape_in_range};
+pub use laws::{largest_is_written_out, parts_apart, parts_within, shape_in_range};
 pub use shape::{
     BLOCK, BLOCK_WORDS, BUCKETS, FREE_GUARD, FRONT_DEPTH, FRONT_FORMAT, FRONT_MAGIC,
     FRONT_SEGMENTS, GeoFault, Geometry, HEADER, HEADER_BLOCKS, IDENTITY_KIND, LAST_OF_BUCKETS,

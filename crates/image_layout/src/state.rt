@@ -1,9 +1,10 @@
 //! The state word of an image: its version, and whether it is marked clean.
 
 ghost use Rattle.std.specs.Prelude.{◌≡◌, ◌↔◌, IsTrue};
-ghost use Rattle.image_layout.specs.StateWord.{image_version_in, with_marker, IsMarked};
+ghost use Rattle.image_layout.specs.StateWord.{with_marker, IsMarked};
 
 use hash_word::VERSION_BITS;
+pub use hash_word::version_of;
 
 /// The version of a new image, and of one whose headers lost theirs.
 pub const FIRST_VERSION: u8 = 1;
@@ -11,18 +12,8 @@ pub const FIRST_VERSION: u8 = 1;
 /// The clean marker, bit 8 of the state word: the one above the version.
 pub const MARKER: u64 = 1 << VERSION_BITS;
 
-/// The bits of the version.
-const VERSION_MASK: u64 = MARKER - 1;
-
 /// The last version that an image may have; the first is [`FIRST_VERSION`].
-pub const LAST_VERSION: u8 = VERSION_MASK as u8;
-
-/// The version of the image, 1 to 255 in a sound one.
-pub fn version_of(state: u64) -> u8
-    ensures { result ≡ image_version_in state }
-{
-    (state & VERSION_MASK) as u8
-}
+pub const LAST_VERSION: u8 = (MARKER - 1) as u8;
 
 /// Whether the image is marked clean.
 pub fn is_marked(state: u64) -> bool

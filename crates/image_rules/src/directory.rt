@@ -11,9 +11,8 @@ ghost use Rattle.image_rules.specs.Divided.{IsNumbered, IsDivided};
 ghost use Rattle.image_rules.specs.Steps.{IsStep};
 
 use crate::heads::{is_live, prefix_of, ready_side};
-use crate::leaves::power;
 use hash_word::covers;
-use image_layout::{Geometry, ROOT_WORD};
+use image_layout::{Geometry, ROOT_WORD, power_of_two};
 use segment_head::prefix::in_one_side;
 
 /// How many bits a hash has.
@@ -116,7 +115,7 @@ pub(crate) fn rule_three(geometry: &Geometry, words: &[u64]) -> Option<u64>
     ensures some { IfSome result (λ w. IsLeast (EntriesLead geometry.now (slice_index words.now)) w) }
 {
     let root = root_of(geometry, words);
-    for i in 0..power(root as u8) as u64 {
+    for i in 0..power_of_two(root) {
         if !entry_leads(geometry, words, i) {
             return Some(geometry.entry_at(root, i));
         }

@@ -3,7 +3,7 @@
 //! depth. One pass over the segments finds the depth of the deepest one over each leaf, and with it who owns what.
 
 ghost use Rattle.std.specs.Prelude.{◌≡◌, ◌≢◌, ℕ, ◌+◌, ◌-◌, ◌*◌, ◌/◌, ◌^◌, ◌<◌, ◌≤◌, ◌↔◌, IfOk, IfSome, IfNone, IsTrue, length, slice_index, slice_set};
-ghost use Rattle.image_layout.specs.Places.{words_of, root_word, entry_at, most_power, most_depth};
+ghost use Rattle.image_layout.specs.Places.{words_of, root_word, entry_at, most_depth};
 ghost use Rattle.sound_image.specs.Segments.{frame_of, IsLive};
 ghost use Rattle.sound_image.specs.Directory.{OwnsItsPart, SharesWell};
 ghost use Rattle.sound_image.specs.Rules.{HashesAreOwned};
@@ -12,20 +12,10 @@ ghost use Rattle.image_rules.specs.Divided.{IsNumbered};
 ghost use Rattle.image_rules.specs.Leaves.{IsUnder, AreRaised, AreDeepest, AreSeen, HasTwin, ShareWellBelow, IsFirstAtFault};
 
 use crate::heads::{is_live, prefix_of, ready_side};
-use image_layout::{Geometry, HEADER, ROOT_WORD};
+use image_layout::{Geometry, HEADER, ROOT_WORD, power_of_two};
 use map_model::NoMemory;
 use segment_head::prefix::{Prefix, pattern_of_one_side, pattern_of_zero_side};
 use std::alloc::Global;
-
-/// Two to the power `bits`, which is at most one more than the greatest depth: how many patterns have so many bits.
-pub(crate) fn power(bits: u8) -> usize
-    requires { bits ≤ most_depth + 1 }
-    ensures is { result ≡ 2 ^ bits }
-    ensures some { 1 ≤ result }
-    ensures most { result ≤ most_power }
-{
-    1 << bits
-}
 
 /// The first leaf under a prefix of this depth and pattern.
 fn first_leaf(greatest: u8, depth: u8, pattern: usize) -> usize
@@ -35,7 +25,7 @@ fn first_leaf(greatest: u8, depth: u8, pattern: usize) -> usize
     ensures is { result ≡ pattern * 2 ^ (greatest - depth) }
     ensures most { result ≤ 2 ^ greatest }
 {
-    pattern * power(greatest - depth)
+    pattern * power_of_two((greatest - depth) as u64) as usize
 }
 
 /// Raises the leaves under a prefix to one more than its depth, where they are lower.
@@ -116,7 +106,7 @@ fn see(nodes: &mut [u8], greatest: u8, prefix: Prefix) -> bool
     ensures noted { nodes.new ≡ slice_set nodes.old (2 ^ prefix.depth + prefix.pattern) 1 }
     ensures within { 2 ^ prefix.depth + prefix.pattern < length nodes.old }
 {
-    let node = power(prefix.depth) + prefix.pattern as usize;
+    let node = power_of_two(prefix.depth as u64) as usize + prefix.pattern as usize;
     let seen = nodes[node] == 1;
     nodes[node] = 1;
     seen
@@ -167,8 +157,8 @@ fn deepest(alloc: Global, geometry: &Geometry, words: &[u64]) -> Result<Vec<u8>,
     ensures is { IfOk result (λ leaves. AreDeepest (frame_of geometry.now (slice_index words.now)) geometry.now.depth geometry.now.segments leaves.items) }
 {
     let greatest = geometry.depth() as u8;
-    let mut leaves = vec![in alloc; 0u8; power(greatest)]?;
-    let mut nodes = vec![in alloc; 0u8; power(greatest + 1)]?;
+    let mut leaves = vec![in alloc; 0u8; power_of_two(greatest as u64) as usize]?;
+    let mut nodes = vec![in alloc; 0u8; power_of_two(greatest as u64 + 1) as usize]?;
     for s in 0..geometry.segments() {
         add_segment(&mut leaves, &mut nodes, geometry, words, s);
     }
@@ -301,6 +291,6 @@ pub(crate) fn rule_two(
     ensures some { IfOk result (λ found. IfSome found (λ w. IsLeast (HashesAreOwned geometry.now (slice_index words.now)) w)) }
 {
     let leaves = deepest(alloc, geometry, words)?;
-    let mut nodes = vec![in alloc; 0u8; power(geometry.depth() as u8 + 1)]?;
+    let mut nodes = vec![in alloc; 0u8; power_of_two(geometry.depth() + 1) as usize]?;
     Ok(first_unowned(&mut nodes, &leaves, geometry, words))
 }

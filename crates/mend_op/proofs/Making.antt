@@ -9,7 +9,7 @@ use Rattle.bucket_meta.specs.Marks.{cleared_mark}
 use Rattle.image_layout.specs.Places.{Shape, homes, buckets, block, words_of_buckets}
 use Rattle.sound_image.specs.Records.{key_hash}
 use Rattle.whole_segment.specs.declared.loaded.Loaded.{Loaded}
-use Rattle.whole_segment.specs.Records.{first_in, third_in, key_in, covered_set}
+use Rattle.whole_segment.specs.Records.{first_in, third_in, key_in, covered_set, HasWords}
 use Rattle.whole_segment.specs.Order.{bucket_at, slot_at, position_of, own_home, own_position, is_at, is_below, stands_before}
 use Rattle.whole_segment.specs.Mending.{is_spoiled, spoiled_set}
 use Rattle.whole_segment.specs.Rebuilding.{Overflow, first_with, third_with, rebuilt}
@@ -17,7 +17,7 @@ use Rattle.whole_segment.proofs.Stashing.{set_same, covered_same, rebuilt_same}
 use Rattle.whole_segment.proofs.Words.{same_words}
 use Rattle.mend_op.specs.declared.stage.Stage.TheVariants.{Clear, Mend, Note}
 use Rattle.mend_op.specs.Stages.{made}
-use Rattle.mend_op.specs.Words.{side_depth, side_pattern, own_depth, mended_lock, first_of, third_of, key_of, HasWords, halved_first, mended_first, notes_of, halved, mended, noted}
+use Rattle.mend_op.specs.Words.{side_depth, side_pattern, own_depth, mended_lock, first_of, third_of, key_of, halved_first, mended_first, notes_of, halved, mended, noted}
 
 -- ---- spoiled records, by words that are the same
 module _ (first later_first : ℕ → ℕ) (key later_key : ℕ → ℕ → ℕ) (hash : ℕ → ℕ) (words : (b : ℕ) → b < buckets → later_first b ≡ first b)

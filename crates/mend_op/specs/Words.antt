@@ -1,17 +1,16 @@
 -- The words of the buckets of a segment, by their numbers: word n of bucket b is number 32 * b + n. And what a mending makes of them, in its
 -- three stages: of a split that ends the records of the 1-side leave, then locks are free and spoiled records leave, and then notes are exact.
-use Rattle.std.specs.Prelude.{◌≡◌, ℕ, min, ◌*◌, ◌/◌, ◌%◌, ◌<◌, ◌==◌, ◌&&◌, nat_lt, List, slice_index, if◌then◌else◌}
-use Rattle.bucket_meta.specs.Bucket.{record_slots, lock_place, mark_place, rest_place, key_behind, without_lock}
+use Rattle.std.specs.Prelude.{ℕ, min, ◌/◌, ◌%◌, ◌==◌, ◌&&◌, nat_lt, List, slice_index, if◌then◌else◌}
+use Rattle.bucket_meta.specs.Bucket.{lock_place, mark_place, rest_place, without_lock}
 use Rattle.bucket_meta.specs.Marks.{cleared_mark}
 use Rattle.segment_head.specs.HeadWord.{depth_in, pattern_in, header_of, normal}
 use Rattle.hash_word.specs.Hash.{hash_bits}
 use Rattle.segment_head.specs.SplitHeads.{one_pattern_field}
 pub use Rattle.segment_head.specs.SplitHeads.{side_depth}
-use Rattle.image_layout.specs.Places.{Shape, homes, buckets, block}
+use Rattle.image_layout.specs.Places.{Shape, homes, block}
 use Rattle.sound_image.specs.Records.{key_hash}
-use Rattle.whole_segment.specs.declared.loaded.Loaded.{Loaded}
-use Rattle.whole_segment.specs.Words.{word_of_bucket}
-use Rattle.whole_segment.specs.Records.{first_in, third_in, key_in, covered_set}
+use Rattle.whole_segment.specs.Records.{covered_set}
+pub use Rattle.whole_segment.specs.Records.{first_of, third_of, key_of}
 use Rattle.whole_segment.specs.Mending.{spoiled_set}
 use Rattle.whole_segment.specs.Rebuilding.{Overflow, first_with, third_with, rebuilt}
 
@@ -34,35 +33,19 @@ mended_lock w = without_lock w
 
 -- ---- words
 module _ (words : List ℕ) where
-  -- words 1 and 3 of each bucket, and the key in each record slot
-  abbrev pub first_of : ℕ → ℕ
-  first_of b = word_of_bucket words b mark_place
-
-  abbrev pub third_of : ℕ → ℕ
-  third_of b = word_of_bucket words b rest_place
-
-  abbrev pub key_of : ℕ → ℕ → ℕ
-  key_of b r = slice_index words (key_behind (block * b) r)
-
-  -- these, as what is loaded of a segment
-  pub record HasWords (loaded : Loaded) : Type 0 where
-    pub first : (b : ℕ) → b < buckets → first_in loaded b ≡ first_of b
-    pub third : (b : ℕ) → b < buckets → third_in loaded b ≡ third_of b
-    pub keys : (b r : ℕ) → b < buckets → r < record_slots → key_in loaded b r ≡ key_of b r
-
   -- ---- what is made of them, by the header as it stands
   module _ (shape : Shape) (head : ℕ) where
     -- word 1 of a bucket without the records of the 1-side
     abbrev pub halved_first : ℕ → ℕ
-    halved_first b = cleared_mark (first_of b) (covered_set first_of key_of (key_hash shape) (side_depth head) (side_pattern head) b)
+    halved_first b = cleared_mark (first_of words b) (covered_set (first_of words) (key_of words) (key_hash shape) (side_depth head) (side_pattern head) b)
 
     -- without those that are spoiled
     abbrev pub mended_first : ℕ → ℕ
-    mended_first b = cleared_mark (first_of b) (spoiled_set first_of key_of (key_hash shape) (own_depth head) (pattern_in head) b)
+    mended_first b = cleared_mark (first_of words b) (spoiled_set (first_of words) (key_of words) (key_hash shape) (own_depth head) (pattern_in head) b)
 
     -- the notes of each home, made anew of the records in the stash
     abbrev pub notes_of : ℕ → Overflow
-    notes_of = rebuilt first_of key_of (key_hash shape)
+    notes_of = rebuilt (first_of words) (key_of words) (key_hash shape)
 
     -- the words of this number that these make
     abbrev pub halved : ℕ → ℕ
@@ -73,6 +56,6 @@ module _ (words : List ℕ) where
 
     abbrev pub noted : ℕ → ℕ
     noted i =
-        if nat_lt (i / block) homes && (i % block == mark_place) then first_with (first_of (i / block)) (notes_of (i / block))
-        else if nat_lt (i / block) homes && (i % block == rest_place) then third_with (third_of (i / block)) (notes_of (i / block))
+        if nat_lt (i / block) homes && (i % block == mark_place) then first_with (first_of words (i / block)) (notes_of (i / block))
+        else if nat_lt (i / block) homes && (i % block == rest_place) then third_with (third_of words (i / block)) (notes_of (i / block))
         else slice_index words i

@@ -8,7 +8,6 @@
 
 mod heads;
 mod laws;
-mod load;
 mod make;
 pub mod op;
 pub mod stage;

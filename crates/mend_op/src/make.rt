@@ -6,13 +6,15 @@ ghost use Rattle.mend_op.specs.Words.{mended_lock};
 ghost use Rattle.mend_op.specs.Stages.{made};
 
 use crate::heads::own_depth;
-use crate::load::{Words, loaded_of};
 use crate::stage::Stage;
 use bucket_meta::words::{BUCKET_WORDS, MARK_PLACE, REST_PLACE, without_lock};
-use image_layout::{BUCKETS, Geometry};
+use image_layout::{BUCKETS, Geometry, WORDS_OF_BUCKETS};
 use segment_head::split::{one_pattern_field, side_depth};
 use segment_head::word::pattern_of;
-use whole_segment::rebuilt_notes;
+use whole_segment::{Loaded, rebuilt_notes};
+
+/// The words of the buckets of a segment: word `n` of bucket `b` is number `32 * b + n`.
+pub(crate) type Words = [u64; WORDS_OF_BUCKETS as usize];
 
 /// Puts the words of this number of the first buckets.
 fn put(words: &mut Words, number: usize, values: &[u64])
@@ -41,7 +43,11 @@ fn free_locks(words: &mut Words)
 fn halved(words: &Words, geometry: &Geometry, head: u64) -> Words
     ensures { result ≡ made Stage.Clear geometry.now head words.now }
 {
-    let rest = loaded_of(words).without_half(geometry, side_depth(head), one_pattern_field(head));
+    let rest = Loaded::of_words(words).without_half(
+        geometry,
+        side_depth(head),
+        one_pattern_field(head),
+    );
     let mut next = *words;
     put(&mut next, MARK_PLACE, &rest.first);
     next
@@ -51,7 +57,7 @@ fn halved(words: &Words, geometry: &Geometry, head: u64) -> Words
 fn mended(words: &Words, geometry: &Geometry, head: u64) -> Words
     ensures { result ≡ made Stage.Mend geometry.now head words.now }
 {
-    let mended = loaded_of(words).mended(geometry, own_depth(head), pattern_of(head));
+    let mended = Loaded::of_words(words).mended(geometry, own_depth(head), pattern_of(head));
     let mut next = *words;
     free_locks(&mut next);
     put(&mut next, MARK_PLACE, &mended.first);
@@ -62,7 +68,7 @@ fn mended(words: &Words, geometry: &Geometry, head: u64) -> Words
 fn noted(words: &Words, geometry: &Geometry) -> Words
     ensures { (head : ℕ) → result ≡ made Stage.Note geometry.now head words.now }
 {
-    let notes = rebuilt_notes(&loaded_of(words), geometry);
+    let notes = rebuilt_notes(&Loaded::of_words(words), geometry);
     let mut next = *words;
     put(&mut next, MARK_PLACE, &notes.first);
     put(&mut next, REST_PLACE, &notes.third);

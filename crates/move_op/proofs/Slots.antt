@@ -1,7 +1,7 @@
 -- The lowest slot whose record has a membership bit; and the slot that `displace` gives is that one.
-use Rattle.std.proofs.Common.{◌≡◌, ◌⊎◌, ◌==◌, ◌&&◌, ℕ, zero, suc, ◌+◌, ◌<◌, ◌≤◌, inl, inr, Bool, true, false, cond, Option, Some, None, ◌↔◌, refl, sym, ap, ◌∙◌, subst, arith}
+use Rattle.std.proofs.Common.{◌≡◌, ◌⊎◌, ◌==◌, ℕ, ◌<◌, inl, inr, true, false, Option, Some, None, ◌↔◌, refl, sym, ap, ◌∙◌, subst, arith}
 use Rattle.std.specs.Option.{IfSome, IsNone}
-use Rattle.std.proofs.lemmas.Bool.{cases_eq, cases_lt, eq-eqb, eqb-true, and_parts, and_from, true≢false}
+use Rattle.std.proofs.lemmas.Bool.{cases_lt, eq-eqb, eqb-true, and_parts, and_from, true≢false}
 use Rattle.word_bits.specs.Bits.{bit}
 use Rattle.bucket_meta.specs.declared.metadata.Meta.{Meta}
 use Rattle.bucket_meta.specs.Bucket.{allocated, member}
@@ -9,90 +9,64 @@ use Rattle.bucket_meta.specs.MetaWords.{IsMetaOf}
 use Rattle.bucket_meta.specs.Search.{is_taken, lowest_free}
 use Rattle.bucket_meta.specs.Slots.{IsFull}
 use Rattle.bucket_meta.proofs.fields.FieldBits.{allocated_is, member_is}
-use Rattle.bucket_meta.proofs.Found.{FindsFree, finds_free, none_free}
+use Rattle.bucket_meta.proofs.Found.{Finds, finds, free_at, none_free}
 use Rattle.displace.specs.Members.{OnlyMembersBelow, NoMembersBelow}
 use Rattle.move_op.specs.declared.step.Direction.TheVariants.{Forward, Backward}
-use Rattle.move_op.specs.Shifts.{slot_of, lowest_of, moving_slot}
+use Rattle.move_op.specs.Shifts.{has_bit, lowest_of, moving_slot}
 
 -- slot s is taken by a record with this membership bit
 pub record HasBit (bit w1 s : ℕ) : Type 0 where
   pub taken : allocated s w1 ≡ 1
   pub same : member s w1 ≡ bit
 
--- the test of a slot
-module _ (bit w1 s : ℕ) where
-  abbrev has_bit : Bool
-  has_bit = is_taken w1 s && (member s w1 == bit)
-
-  there : has_bit ≡ true → HasBit bit w1 s
-  there e =
+-- the test of a slot, and the lowest one that passes it
+module _ (bit w1 : ℕ) where
+  there : (s : ℕ) → has_bit bit w1 s ≡ true → HasBit bit w1 s
+  there s e =
       let parts = and_parts (is_taken w1 s) (member s w1 == bit) e in record { taken = eqb-true (allocated s w1) 1 parts.0; same = eqb-true (member s w1) bit parts.1 }
 
-  not_there : has_bit ≡ false → HasBit bit w1 s → ⊥
-  not_there e h = true≢false (sym (and_from (is_taken w1 s) (member s w1 == bit) (eq-eqb (allocated s w1) 1 h.taken) (eq-eqb (member s w1) bit h.same)) ∙ e)
+  not_there : (s : ℕ) → has_bit bit w1 s ≡ false → HasBit bit w1 s → ⊥
+  not_there s e h = true≢false (sym (and_from (is_taken w1 s) (member s w1 == bit) (eq-eqb (allocated s w1) 1 h.taken) (eq-eqb (member s w1) bit h.same)) ∙ e)
 
--- what a search finds, of slots at to m - 1
-abbrev Finds : ℕ → ℕ → ℕ → ℕ → Option ℕ → Type 0
-Finds bit w1 at m (Some s) = HasBit bit w1 s × (s < m) × ((t : ℕ) → at ≤ t → t < s → HasBit bit w1 t → ⊥)
-Finds bit w1 at m None = (t : ℕ) → at ≤ t → t < m → HasBit bit w1 t → ⊥
+  found : (o : Option ℕ) → lowest_of bit w1 ≡ o → Finds (has_bit bit w1) 0 14 o
+  found o is = subst (Finds (has_bit bit w1) 0 14) is (finds (has_bit bit w1) 14)
 
-by_test : (bit w1 at m : ℕ) (rest : Option ℕ) → at < m → Finds bit w1 (at + 1) m rest → (b : Bool) → has_bit bit w1 at ≡ b → Finds bit w1 at m (cond b (Some at) rest)
-by_test bit w1 at m rest below next true e = (there bit w1 at e, below, λ t from low. absurd (omega (arith, from, low)))
-by_test bit w1 at m (Some s) below next false e = (
-  next.0,
-  next.1,
-  (λ t from low h. elim (cases_eq t at) [
-    | inl same ↦ not_there bit w1 at e (subst (λ z. HasBit bit w1 z) same h)
-    | inr apart ↦ next.2 t (omega (arith, from, apart)) low h
-  ]),
-)
-by_test bit w1 at m None below next false e = λ t from low h. elim (cases_eq t at) [
-  | inl same ↦ not_there bit w1 at e (subst (λ z. HasBit bit w1 z) same h)
-  | inr apart ↦ next t (omega (arith, from, apart)) low h
-]
+  pub found_slot : (s : ℕ) → lowest_of bit w1 ≡ Some s → HasBit bit w1 s × (s < 14)
+  found_slot s is = let f = found (Some s) is in (there s f.0, f.1)
 
-finds : (bit w1 n at m : ℕ) → at + n ≡ m → Finds bit w1 at m (slot_of bit w1 at n)
-unfolding slot_of
-finds bit w1 zero at m e = λ t from low. absurd (omega (arith, from, low, e))
-finds bit w1 (suc n) at m e = by_test bit w1 at m (slot_of bit w1 (at + 1) n) (omega (arith, e)) (finds bit w1 n (at + 1) m (omega (arith, e))) (has_bit bit w1 at) refl
+  pub found_lowest : (s : ℕ) → lowest_of bit w1 ≡ Some s → (t : ℕ) → t < s → HasBit bit w1 t → ⊥
+  found_lowest s is t below = let f = found (Some s) is in not_there t (f.2 t (omega arith) below)
 
--- the whole search
-pub found_slot : (bit w1 s : ℕ) → lowest_of bit w1 ≡ Some s → HasBit bit w1 s × (s < 14)
-found_slot bit w1 s is = let f = subst (Finds bit w1 0 14) is (finds bit w1 14 0 14 refl) in (f.0, f.1)
+  pub no_slot : lowest_of bit w1 ≡ None → (s : ℕ) → s < 14 → HasBit bit w1 s → ⊥
+  no_slot is s low = not_there s (found None is s (omega arith) low)
 
-pub found_lowest : (bit w1 s : ℕ) → lowest_of bit w1 ≡ Some s → (t : ℕ) → t < s → HasBit bit w1 t → ⊥
-found_lowest bit w1 s is t below h = let f = subst (Finds bit w1 0 14) is (finds bit w1 14 0 14 refl) in f.2 t (omega arith) below h
-
-pub no_slot : (bit w1 : ℕ) → lowest_of bit w1 ≡ None → (s : ℕ) → s < 14 → HasBit bit w1 s → ⊥
-no_slot bit w1 is s low h = subst (Finds bit w1 0 14) is (finds bit w1 14 0 14 refl) s (omega arith) low h
-
-lowest_is : (bit w1 s : ℕ) → s < 14 → HasBit bit w1 s → ((t : ℕ) → t < s → HasBit bit w1 t → ⊥) → lowest_of bit w1 ≡ Some s
-lowest_is bit w1 s low h first = by (lowest_of bit w1) (finds bit w1 14 0 14 refl)
-  where
-    by : (o : Option ℕ) → Finds bit w1 0 14 o → o ≡ Some s
-    by (Some t) f = elim (cases_lt t s) [
-      | inl before ↦ absurd (first t before f.0)
-      | inr not_before ↦ elim (cases_lt s t) [
-        | inl behind ↦ absurd (f.2 s (omega arith) behind h)
-        | inr not_behind ↦ ap (λ z. Some z) (omega (arith, not_before, not_behind))
+  lowest_is : (s : ℕ) → s < 14 → HasBit bit w1 s → ((t : ℕ) → t < s → HasBit bit w1 t → ⊥) → lowest_of bit w1 ≡ Some s
+  lowest_is s low h first = by (lowest_of bit w1) refl
+    where
+      by : (o : Option ℕ) → lowest_of bit w1 ≡ o → o ≡ Some s
+      by (Some t) is = elim (cases_lt t s) [
+        | inl before ↦ absurd (first t before (found_slot t is).0)
+        | inr not_before ↦ elim (cases_lt s t) [
+          | inl behind ↦ absurd (found_lowest t is s behind h)
+          | inr not_behind ↦ ap (λ z. Some z) (omega (arith, not_before, not_behind))
+        ]
       ]
-    ]
-    by None f = absurd (f s (omega arith) low h)
+      by None is = absurd (no_slot is s low h)
 
-lowest_none : (bit w1 : ℕ) → ((s : ℕ) → s < 14 → HasBit bit w1 s → ⊥) → lowest_of bit w1 ≡ None
-lowest_none bit w1 none = by (lowest_of bit w1) (finds bit w1 14 0 14 refl)
-  where
-    by : (o : Option ℕ) → Finds bit w1 0 14 o → o ≡ None
-    by (Some t) f = absurd (none t f.1 f.0)
-    by None f = refl
+  lowest_none : ((s : ℕ) → s < 14 → HasBit bit w1 s → ⊥) → lowest_of bit w1 ≡ None
+  lowest_none none = by (lowest_of bit w1) refl
+    where
+      by : (o : Option ℕ) → lowest_of bit w1 ≡ o → o ≡ None
+      by (Some t) is = let f = found_slot t is in absurd (none t f.1 f.0)
+      by None is = refl
 
 -- no slot is free where all bits are set
 full_none : (w1 : ℕ) → ((s : ℕ) → s < 14 → allocated s w1 ≡ 1) → lowest_free w1 ≡ None
-full_none w1 full = by (lowest_free w1) (finds_free w1 14 0 14 refl)
+full_none w1 full = by (lowest_free w1) refl
   where
-    by : (o : Option ℕ) → FindsFree w1 0 14 o → o ≡ None
-    by (Some t) f = absurd (let is = full t f.1 in let off = f.0 in omega (arith, is, off))
-    by None f = refl
+    by : (o : Option ℕ) → lowest_free w1 ≡ o → o ≡ None
+    by (Some t) e = let f = free_at w1 t e in absurd (let is = full t f.1 in let off = f.0 in omega (arith, is, off))
+    by None e = refl
 
 -- ---- what is found of the fields is what the words have
 module _ (m : Meta) (w1 w2 w3 : ℕ) (is : IsMetaOf m w1 w2 w3) where

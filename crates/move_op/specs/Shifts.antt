@@ -1,8 +1,8 @@
 -- Which record moves to make room for a new one, and what is stored of its copy, of its source, and of the new record.
-use Rattle.std.specs.Prelude.{◌==◌, ◌&&◌, ℕ, zero, suc, ◌+◌, Option, None, Some, List, slice_index, if◌then◌else◌}
+use Rattle.std.specs.Prelude.{◌==◌, ◌&&◌, ℕ, Bool, Option, None, Some, List, slice_index}
 use Rattle.hash_word.specs.Hash.{finger_of}
 use Rattle.bucket_meta.specs.Bucket.{member, finger, record_slots, mark_place, fingers_place, rest_place, key_place, value_place}
-use Rattle.bucket_meta.specs.Search.{is_taken, lowest_free}
+use Rattle.bucket_meta.specs.Search.{lowest_among, is_taken, lowest_free}
 use Rattle.bucket_meta.specs.Marks.{inserted_mark, member_mark, removed_mark, finger_place, with_finger}
 use Rattle.phase.specs.declared.role.Role.{Role}
 use Rattle.phase.specs.declared.role.Role.TheVariants.{Home, Probing, Next, Previous}
@@ -38,13 +38,13 @@ abbrev pub bit_of : Direction → ℕ
 bit_of Forward = 0
 bit_of Backward = 1
 
--- the lowest slot, of n from one on, that is taken by a record with this membership bit
-unfoldable pub slot_of : ℕ → ℕ → ℕ → ℕ → Option ℕ
-slot_of bit w1 at zero = None
-slot_of bit w1 at (suc n) = if is_taken w1 at && (member at w1 == bit) then Some at else slot_of bit w1 (at + 1) n
+-- a slot is taken by a record with this membership bit
+abbrev pub has_bit : ℕ → ℕ → ℕ → Bool
+has_bit bit w1 slot = is_taken w1 slot && (member slot w1 == bit)
 
+-- the lowest such slot
 abbrev pub lowest_of : ℕ → ℕ → Option ℕ
-lowest_of bit w1 = slot_of bit w1 0 record_slots
+lowest_of bit w1 = lowest_among (has_bit bit w1) 0 record_slots
 
 -- the slot of the record that moves, where a slot is free for it
 abbrev pub moving_slot : Direction → ℕ → Option ℕ → Option ℕ

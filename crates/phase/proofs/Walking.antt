@@ -18,6 +18,7 @@ use Rattle.world.specs.Views.{Glance, Answer, View, Has}
 use Rattle.world.specs.Wants.{word_of}
 use Rattle.world.specs.Kinds.{Kind, peeks, meets_entry, meets_head, says_current, wanted as wanted_by, view_after}
 use Rattle.world.specs.Conditions.{May, IsNewest}
+use Rattle.part.specs.Part.{IsKnownLive}
 use Rattle.phase.specs.declared.walk.Walk.{Walk}
 use Rattle.phase.specs.declared.walk.Walk.TheVariants.{Power, Root, Entry, Head}
 use Rattle.phase.specs.declared.walk.Walked.{Walked}
@@ -72,7 +73,7 @@ module _ (site : Ground) (here : Site) (hash : ℕ) where
       let most = is.depth in
       let low = known.1 in
       may_if site v (nat_le root here.geometry.depth) (meets_entry root (index_of root hash)) (known.0, low, index_below root hash (omega (arith, most, low)) fits)
-  walk_may (Head root segment) v is same current fits known = may_if site v (nat_lt segment here.geometry.segments) (meets_head segment here.version) (known.0, current)
+  walk_may (Head root segment) v is same current fits known = may_if site v (nat_lt segment here.geometry.segments) (meets_head segment here.version) (known.lives, current)
 
 pub walk_fits : WalkFits
 walk_fits = record { wants = walk_wants; may = walk_may; leaves = walk_leaves }
@@ -170,20 +171,17 @@ module _ (site : Ground) (here : Site) (hash : ℕ) (same : here.geometry ≡ si
         let live : IsLiveSlot (frame_of site.shape words) n = subst (IsLiveSlot (frame_of site.shape words)) (sym found) (named root known.0 known.1) in
         subst (λ (u : View). HasWalked site (walk_taken here hash (Entry root) n) u.facts) (sym (after_entry root n v known.1))
         (cond_both (nat_lt n here.geometry.segments) (On (Head root n)) (Amiss (entry_word here.geometry hash root) n) (λ (x : Walked). HasWalked site x (Lives n ∷ v.facts))
-        (λ t. (inl refl, live.slot))
+        (λ t. record { within = live.slot; lives = inl refl })
         (λ f. let high = ltb-false n here.geometry.segments f in let s = segments_are in let within = live.slot in omega (arith, high, s, within)))
     walk_on (Head root segment) known n found =
-        let live = (new.says (Lives segment) known.0).live in
-        let header : n ≡ words (head_at site.shape segment + 1) = found ∙ ap words (head_is segment known.1) in
+        let live = (new.says (Lives segment) known.lives).live in
+        let header : n ≡ words (head_at site.shape segment + 1) = found ∙ ap words (head_is segment known.within) in
         let facts : List Fact = says_current (is_live n && (version_in n == here.version)) segment n ++ v.facts in
-        subst (λ (u : View). HasWalked site (walk_taken here hash (Head root segment) n) u.facts) (sym (after_head root segment n v known.1))
+        let known_live : IsKnownLive site segment facts = record { within = known.within; lives = said (is_live n && (version_in n == here.version)) segment n (Lives segment) v.facts known.lives } in
+        subst (λ (u : View). HasWalked site (walk_taken here hash (Head root segment) n) u.facts) (sym (after_head root segment n v known.within))
         (by_head (λ x. HasWalked site x facts) here hash root segment n
-        (λ alive current. record {
-          within = known.1;
-          lives = said (is_live n && (version_in n == here.version)) segment n (Lives segment) v.facts known.0;
-          current = says segment n v.facts alive current;
-        })
-        (λ alive old. record { within = known.1; lives = said (is_live n && (version_in n == here.version)) segment n (Lives segment) v.facts known.0 })
+        (λ alive current. record { live = known_live; current = says segment n v.facts alive current })
+        (λ alive old. known_live)
         (λ dead. both_ways (is_live n) dead (live_test n (subst HasLiveState (sym header) live))))
 
   -- WHAT IS NOTED: nothing, and at the end the header
@@ -202,7 +200,7 @@ module _ (site : Ground) (here : Site) (hash : ℕ) (same : here.geometry ≡ si
         (Amiss (entry_word here.geometry hash root) n)
         (bare_if (nat_le root here.geometry.depth) root (index_of root hash) n bare) tt
     walk_notes_on (Head root segment) known bare n =
-        subst (λ (u : View). NotesWay site.shape (walk_taken here hash (Head root segment) n) u) (sym (after_head root segment n v known.1))
+        subst (λ (u : View). NotesWay site.shape (walk_taken here hash (Head root segment) n) u) (sym (after_head root segment n v known.within))
         (by_head (λ x. NotesWay site.shape x (view_after site.shape (meets_head segment here.version) n v)) here hash root segment n
         (λ alive current. record {
           notes = ap (λ ns. head_note site.shape (record { root = root; segment = segment; head = n }) ∷ ns) bare.notes;
@@ -218,9 +216,9 @@ module _ (site : Ground) (here : Site) (hash : ℕ) (same : here.geometry ≡ si
     never_by (Entry root) known n found =
         by_both (λ (x : Walked). x ≡ Stale segment byte → ⊥) (nat_lt n here.geometry.segments) (On (Head root n)) (Amiss (entry_word here.geometry hash root) n) (λ e. cc) (λ e. cc)
     never_by (Head root slot) known n found =
-        let header : n ≡ words (head_at site.shape slot + 1) = found ∙ ap words (head_is slot known.1) in
+        let header : n ≡ words (head_at site.shape slot + 1) = found ∙ ap words (head_is slot known.within) in
         by_head (λ x. x ≡ Stale segment byte → ⊥) here hash root slot n (λ live is e. cc)
-        (λ live old e. eqb-false (version_in n) here.version old (ap version_in header ∙ current slot known.1 (subst (λ m. is_live m ≡ true) header live)))
+        (λ live old e. eqb-false (version_in n) here.version old (ap version_in header ∙ current slot known.within (subst (λ m. is_live m ≡ true) header live)))
         (λ dead e. cc)
 
 pub walk_stands : WalkStands

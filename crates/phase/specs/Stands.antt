@@ -5,7 +5,7 @@ use Rattle.bucket_meta.specs.Bucket.{mark_place}
 use Rattle.trace.specs.Events.{Words}
 use Rattle.segment_head.specs.HeadWord.{version_in, is_live}
 use Rattle.image_layout.specs.Places.{Shape, IsShape, root_word, header_word, block}
-use Rattle.world.specs.Facts.{Fact, Lives, Current, Rooted}
+use Rattle.world.specs.Facts.{Fact, Current, Rooted}
 use Rattle.way.specs.Ways.{entry_word, is_leading}
 use Rattle.world.specs.declared.site.Site.{Site}
 use Rattle.world.specs.Ground.{Ground}
@@ -48,8 +48,8 @@ IsCurrent shape words version = (s : ℕ) → s < shape.segments → is_live (wo
 
 -- THE WAY IS AT A SEGMENT of the image, of which a view relies on that it is live and current
 pub record IsThere (site : Ground) (segment : ℕ) (facts : List Fact) : Type 0 where
-  pub within : segment < site.shape.segments
-  pub lives : Has (Lives segment) facts
+  pub live : IsKnownLive site segment facts
+  pub open live use *
   pub current : Has (Current segment) facts
 
 module _ (site : Ground) where
@@ -58,7 +58,7 @@ module _ (site : Ground) where
   IsWalking Power facts = ⊤
   IsWalking Root facts = ⊤
   IsWalking (Entry root) facts = Has (Rooted root) facts × (root ≤ site.shape.depth)
-  IsWalking (Head root segment) facts = Has (Lives segment) facts × (segment < site.shape.segments)
+  IsWalking (Head root segment) facts = IsKnownLive site segment facts
 
   -- and on what a word makes of it: a segment that is stale is known to be live, and nothing is found amiss
   abbrev pub HasWalked : Walked → List Fact → Type 0

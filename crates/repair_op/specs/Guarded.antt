@@ -1,8 +1,7 @@
 -- WHAT IS GUARDED: a stale segment whose guard is held, as one machine of a repair hands it on to the next.
-use Rattle.std.specs.Prelude.{◌≡◌, ◌≢◌, ℕ, ⊤, ◌^◌, ◌<◌, ◌⊎◌, nat_lt, Option, None, Some, [], ◌∷◌, if◌then◌else◌}
+use Rattle.std.specs.Prelude.{◌≡◌, ◌≢◌, ℕ, ⊤, ◌^◌, ◌<◌, ◌⊎◌, Option, None, Some, [], ◌∷◌}
 use Rattle.trace.specs.Events.{Words}
 use Rattle.segment_head.specs.HeadWord.{version_in, state_in, depth_in, normal, splitting, link_to}
-use Rattle.image_layout.specs.Places.{Shape, root_word}
 use Rattle.frame_facts.specs.Facts.{Lacks, Deep, Begins}
 use Rattle.map_model.specs.declared.call.Call.{Call}
 use Rattle.world.specs.declared.site.Site.{Site}
@@ -13,13 +12,9 @@ use Rattle.world.specs.Kinds.{first_hash_of}
 use Rattle.world.specs.areas.Repairing.{side_depth_in, side_pattern_in, HasStale}
 use Rattle.phase.specs.Giving.{IsQuiet}
 use Rattle.repair_op.specs.declared.guarded.Guarded.{Guarded}
-use Rattle.way.specs.Ways.{slot_guard}
+use Rattle.way.specs.Ways.{slot_guard, slot_link}
 
 -- ---- its words
--- the link of a slot; a slot that the image has not gives the root's word
-abbrev pub slot_link : Shape → ℕ → ℕ
-slot_link shape segment = if nat_lt segment shape.segments then link_word shape segment else root_word
-
 abbrev pub guard_of : Guarded → ℕ
 guard_of g = slot_guard g.site.geometry g.segment
 

@@ -4,7 +4,7 @@ ghost use Rattle.std.specs.Prelude.{◌≡◌, ◌≤◌};
 ghost use Rattle.image_layout.specs.Places.{most_words};
 ghost use Rattle.repair_op.specs.Guarded.{guard_of, link_of};
 
-use image_layout::{LINK, ROOT_WORD};
+use way::{slot_guard, slot_link};
 use world::Site;
 
 /// A segment that has not the image's version, and whose guard is held.
@@ -25,23 +25,13 @@ impl Guarded {
     pub fn guard(&self) -> u64
         ensures { result ≡ guard_of self.now }
     {
-        let geometry = &self.site.geometry;
-        if self.segment < geometry.segments() {
-            geometry.segment_guard(self.segment)
-        } else {
-            ROOT_WORD
-        }
+        slot_guard(&self.site.geometry, self.segment)
     }
 
     /// The word of the segment's link; that of the root where there is no such slot.
     pub fn link(&self) -> u64
         ensures { result ≡ link_of self.now }
     {
-        let geometry = &self.site.geometry;
-        if self.segment < geometry.segments() {
-            geometry.head_at(self.segment) + LINK
-        } else {
-            ROOT_WORD
-        }
+        slot_link(&self.site.geometry, self.segment)
     }
 }

@@ -2,12 +2,12 @@
 -- notes of the records that are left.
 use Rattle.std.specs.Prelude.{◌≡◌, ℕ, ◌^◌, ◌<◌, slice_index}
 use Rattle.bucket_meta.specs.Marks.{cleared_mark}
+use Rattle.bucket_meta.specs.Bucket.{KeepsRecords}
 use Rattle.image_layout.specs.Places.{homes, buckets}
 use Rattle.sound_image.specs.Records.{key_hash}
 use Rattle.whole_segment.specs.Words.{words_by}
 use Rattle.whole_segment.specs.Records.{covered_set}
 use Rattle.image_layout.specs.Standing.{stashed_of, HasExactNotes}
-use Rattle.whole_segment.specs.Notes.{KeepsRecords}
 use Rattle.whole_segment.specs.Rebuilding.{Overflow, first_with, third_with, rebuilt}
 use Rattle.whole_segment.specs.declared.notes.Notes.{Notes}
 use Rattle.enclose_op.specs.declared.enclosed.Enclosed.{Enclosed}

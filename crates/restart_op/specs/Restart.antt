@@ -3,7 +3,7 @@ use Rattle.std.specs.Prelude.{ℕ, ◌+◌, ◌-◌, ◌==◌, nat_lt, true, fal
 use Rattle.trace.specs.Events.{line_of, most_unfenced}
 use Rattle.segment_head.specs.Versions.{unversioned}
 use Rattle.image_layout.specs.Places.{Shape, state_word}
-use Rattle.image_layout.specs.StateWord.{image_version_in, marker_in, last_image_version, first_version}
+use Rattle.image_layout.specs.StateWord.{version_in, marker_in, last_image_version, first_version}
 use Rattle.op_core.specs.declared.want.Want.{Want}
 use Rattle.op_core.specs.declared.want.Want.TheVariants as want
 use Rattle.op_core.specs.declared.want.Ans.{Ans}
@@ -25,8 +25,8 @@ swept_through = record { version = first_version; swept = true }
 -- BY THE STATE WORD that it finds: of a clean image the version stays, and any other gets the next one; above the last one there is none
 abbrev pub started_for : ℕ → Started
 started_for state =
-    if marker_in state == 1 then started_with (image_version_in state)
-    else (if image_version_in state == last_image_version then swept_through else started_with (image_version_in state + 1))
+    if marker_in state == 1 then started_with (version_in state)
+    else (if version_in state == last_image_version then swept_through else started_with (version_in state + 1))
 
 -- ---- the steps
 -- a restart that has done nothing yet

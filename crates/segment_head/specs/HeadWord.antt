@@ -1,6 +1,7 @@
 -- The fields of the header word of a segment.
 use Rattle.std.specs.Prelude.{◌≡◌, ◌⊎◌, ℕ, zero, suc, Bool, Option, None, Some, ◌==◌, ◌||◌, ◌+◌, ◌*◌, ◌/◌, ◌%◌, ◌^◌}
 use Rattle.hash_word.specs.Hash.{version_bits}
+pub use Rattle.hash_word.specs.Hash.{version_in}
 
 -- how many bits each field behind the version has, and the lowest bit of each; they follow one another, the version from bit 0 on, and spare bits are no field
 abbrev pub state_bits : ℕ
@@ -26,10 +27,6 @@ spare_from = depth_from + depth_bits
 
 abbrev pub pattern_from : ℕ
 pattern_from = spare_from + spare_bits
-
--- bits 0 to 7: the version of the image when the segment was last current
-abbrev pub version_in : ℕ → ℕ
-version_in h1 = h1 % 2 ^ version_bits
 
 -- bits 8 to 15: the state
 abbrev pub state_in : ℕ → ℕ

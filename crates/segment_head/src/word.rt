@@ -2,9 +2,10 @@
 //! have bits that no field has, and a state byte that is none of the four.
 
 ghost use Rattle.std.specs.Prelude.{◌≡◌, ◌↔◌, IsTrue};
-ghost use Rattle.segment_head.specs.HeadWord.{version_in, state_in, depth_in, pattern_in, header_of, is_live, HasLiveState};
+ghost use Rattle.segment_head.specs.HeadWord.{state_in, depth_in, pattern_in, header_of, is_live, HasLiveState};
 
 use hash_word::VERSION_BITS;
+pub use hash_word::version_of;
 use word_bits::with_bits;
 
 /// How many bits the state byte has.
@@ -16,9 +17,7 @@ const SPARE_BITS: u32 = 8;
 /// How many bits the pattern has.
 pub const PATTERN_BITS: u8 = 32;
 
-/// The bits of the version.
-const VERSION_MASK: u64 = (1 << VERSION_BITS) - 1;
-/// Those of the state byte, shifted down to the lowest ones.
+/// The bits of the state byte, shifted down to the lowest ones.
 const STATE_MASK: u64 = (1 << STATE_BITS) - 1;
 /// Those of the depth, shifted down too.
 const DEPTH_MASK: u64 = (1 << DEPTH_BITS) - 1;
@@ -40,13 +39,6 @@ pub const NORMAL: u8 = 1;
 pub const SPLITTING: u8 = 2;
 /// That of a segment that takes records from a splitting one, and is not looked at yet.
 pub const FRESH: u8 = 3;
-
-/// The version of the image when the segment was last current.
-pub fn version_of(h1: u64) -> u8
-    ensures { result ≡ version_in h1 }
-{
-    (h1 & VERSION_MASK) as u8
-}
 
 /// The state byte: one of the four states, or a number above 3.
 pub fn state_of(h1: u64) -> u8

@@ -5,7 +5,7 @@ use Rattle.hash_word.specs.Hash.{index_of}
 use Rattle.segment_head.specs.HeadWord.{version_in, state_in, depth_in, pattern_in, free, normal, splitting, fresh, link_to, no_link}
 use Rattle.segment_head.specs.Prefixes.{pattern_of_zero_side, pattern_of_one_side}
 use Rattle.sound_image.specs.Places.{Shape, root_word, state_word, entry_at, header_word, link_word}
-use Rattle.sound_image.specs.StateWord.{first_version, image_version_in}
+use Rattle.sound_image.specs.StateWord.{first_version}
 use Rattle.sound_image.specs.Segments.{ImageWords, Frame, frame_of, image_version, state_at, depth_at, pattern_at, InOneSide, IsReadySide, HasReadySide}
 use Rattle.segment_table.specs.Claims.{Claims, named_for, IsSoundFrame}
 use Rattle.segment_table.specs.Media.{IsSteady}
@@ -129,8 +129,8 @@ module _ (frame : Frame) where
 
   -- THE STATE WORD of the image: its version is not 0, and no version byte is above it
   pub record Opens (x : ℕ) : Type 0 where
-    pub some : first_version ≤ image_version_in x
-    pub past : (s : ℕ) → s < frame.segments → version_in (frame.header s) ≤ image_version_in x
+    pub some : first_version ≤ version_in x
+    pub past : (s : ℕ) → s < frame.segments → version_in (frame.header s) ≤ version_in x
 
 module _ (shape : Shape) (word : ImageWords) where
   -- THE ROOT, one deeper: there is room, and each entry of the area that is one deeper names what the entry above it names

@@ -13,8 +13,7 @@ use Rattle.sound_image.proofs.SameRecords.{HasSameRecords, record_there, own_the
 pub turned : (shape : Shape) (word other : ImageWords) → AgreeButForLocksAndOverflow shape word other → AgreeButForLocksAndOverflow shape other word
 turned shape word other agree = record {
   elsewhere = λ i apart. sym (agree.elsewhere i apart);
-  slots = λ s b segment bucket. sym (agree.slots s b segment bucket);
-  fingers = λ s b segment bucket. sym (agree.fingers s b segment bucket);
+  records = λ s b segment bucket. let there = agree.records s b segment bucket in record { slots = sym there.slots; fingers = sym there.fingers };
 }
 
 -- WHERE A HEADER, fingerprints, a key and a value stand there is no lock and no overflow part
@@ -52,7 +51,7 @@ module _ (shape : Shape) (word other : ImageWords) (agree : AgreeButForLocksAndO
   pub same_records : HasSameRecords shape word other
   same_records = record {
     header = same_header;
-    taken = λ s b r segment bucket slot. same_allocated r _ _ slot (agree.slots s b segment bucket);
+    taken = λ s b r segment bucket slot. same_allocated r _ _ slot (agree.records s b segment bucket).slots;
     key = same_key;
     value = same_value;
   }
@@ -62,8 +61,8 @@ module _ (shape : Shape) (word other : ImageWords) (agree : AgreeButForLocksAndO
       let hash = ap (key_hash shape) (same_key s b r has.bucket has.slot) in
       let second = same_part s b 2 (bucket_at shape s b + 2) has.bucket (omega arith) (inl (omega arith)) (omega arith) in
       record {
-        bucket = moved hash (same_member r _ _ has.slot (agree.slots s b has.segment has.bucket)) right.bucket;
-        fingerprint = sym (same_finger r _ _ _ _ has.slot second (agree.fingers s b has.segment has.bucket)) ∙ right.fingerprint ∙ ap finger_of hash;
+        bucket = moved hash (same_member r _ _ has.slot (agree.records s b has.segment has.bucket).slots) right.bucket;
+        fingerprint = sym (same_finger r _ _ _ _ has.slot second (agree.records s b has.segment has.bucket).fingers) ∙ right.fingerprint ∙ ap finger_of hash;
       }
     where
       moved : slot_hash shape word s b r ≡ slot_hash shape other s b r → member r (word_in shape word s b 1) ≡ member r (word_in shape other s b 1)

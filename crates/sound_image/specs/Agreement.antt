@@ -1,7 +1,7 @@
 -- When two images agree but for locks and overflow parts: for the lock words of buckets, and for what their metadata
 -- say of notes and of counts.
 use Rattle.std.specs.Prelude.{◌≡◌, ℕ, ◌+◌, ◌<◌, ◌⊎◌}
-use Rattle.image_layout.specs.Bucket.{lock_place, mark_place, rest_place, slots_part, slot_fingers_part}
+use Rattle.image_layout.specs.Bucket.{lock_place, mark_place, rest_place, KeepsRecords}
 use Rattle.image_layout.specs.Places.{Shape, bucket_at, buckets}
 use Rattle.sound_image.specs.Segments.{ImageWords}
 
@@ -20,5 +20,5 @@ module _ (shape : Shape) where
   -- stand in their probing bucket, and of word 3 the fingerprints of slots 8 to 13
   pub record AgreeButForLocksAndOverflow (word other : ImageWords) : Type 0 where
     pub elsewhere : (i : ℕ) → (IsLockOrOverflow i → ⊥) → word i ≡ other i
-    pub slots : (s b : ℕ) → s < shape.segments → b < buckets → slots_part (word (bucket_at shape s b + mark_place)) ≡ slots_part (other (bucket_at shape s b + mark_place))
-    pub fingers : (s b : ℕ) → s < shape.segments → b < buckets → slot_fingers_part (word (bucket_at shape s b + rest_place)) ≡ slot_fingers_part (other (bucket_at shape s b + rest_place))
+    pub records : (s b : ℕ) → s < shape.segments → b < buckets
+        → KeepsRecords (other (bucket_at shape s b + mark_place)) (other (bucket_at shape s b + rest_place)) (word (bucket_at shape s b + mark_place)) (word (bucket_at shape s b + rest_place))

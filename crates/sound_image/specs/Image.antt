@@ -32,3 +32,9 @@ pub record IsSoundImage (shape : Shape) (words : List ℕ) : Type 0 where
   pub each_fits : (i : ℕ) → slice_index words i < 2 ^ 64
   pub says_shape : SaysShape shape (slice_index words)
   pub follows : FollowsRules shape (slice_index words)
+
+-- the bytes are the file of a sound image of this shape
+pub record IsSoundFileOf (shape : Shape) (bytes : List ℕ) : Type 0 where
+  pub words : List ℕ
+  pub sound : IsSoundImage shape words
+  pub file : bytes ≡ image_bytes words

@@ -2,7 +2,7 @@
 use Rattle.std.specs.Prelude.{◌≡◌, ℕ, ◌+◌, ◌<◌, ◌≤◌}
 use Rattle.hash_word.specs.Hash.{Covers}
 use Rattle.image_layout.specs.Places.{Shape, root_word, state_word, entry_at, header_word, link_word}
-use Rattle.image_layout.specs.StateWord.{image_version_in, IsMarked}
+use Rattle.image_layout.specs.StateWord.{version_in, IsMarked}
 use Rattle.segment_head.specs.HeadWord.{state_in, depth_in, pattern_in, splitting, HasLiveState, link_to}
 use Rattle.segment_head.specs.Prefixes.{pattern_of_one_side, one_side_down_to}
 
@@ -34,7 +34,7 @@ frame_of shape word =
 module _ (frame : Frame) where
   -- V, the version of the image
   abbrev pub image_version : ℕ
-  image_version = image_version_in frame.status
+  image_version = version_in frame.status
 
   -- the clean marker is set
   abbrev pub IsClean : Type 0

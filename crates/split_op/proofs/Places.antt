@@ -6,7 +6,8 @@ use Rattle.bucket_meta.specs.Bucket.{without_lock}
 use Rattle.image_layout.specs.Places.{Shape, root_word, head_at, bucket_at, buckets, segment_words, most_segments}
 use Rattle.frame_facts.specs.DeadSlots.{IsInSlot}
 use Rattle.world.proofs.fitting.OneHolder.{one_slot}
-use Rattle.split_op.specs.Batches.{slot_word, empty_value, first_of, after_empty}
+use Rattle.way.specs.Ways.{slot_word}
+use Rattle.split_op.specs.Batches.{empty_value, first_of, after_empty}
 
 pub slot_is : (geometry shape : Shape) → geometry ≡ shape → (n number : ℕ) → n < shape.segments → slot_word geometry n number ≡ head_at shape n + number
 slot_is geometry shape g n number low =

@@ -33,7 +33,8 @@ use Rattle.split_op.specs.declared.batch.Batch.{Batch}
 use Rattle.split_op.specs.declared.batch.Batch.TheVariants.{Empty, Link, Mark, New, Copy}
 use Rattle.split_op.specs.declared.op.SplitOp.{SplitOp}
 use Rattle.split_op.specs.Copied.{split_head, side_head}
-use Rattle.split_op.specs.Batches.{slot_word, empty_value, after_empty, copied_from, due, after}
+use Rattle.way.specs.Ways.{slot_word}
+use Rattle.split_op.specs.Batches.{empty_value, after_empty, copied_from, due, after}
 use Rattle.split_op.specs.Steps.{put_to, batch_after, stored}
 use Rattle.split_op.specs.Fits.{put_kind, KeepsOn, side_at, areas_at, KnowsFreeHeader, KnowsLink, KnowsSideHeader, KnowsSideWords, IsEmptying, IsSplitting, SuitsStep}
 use Rattle.split_op.proofs.Places.{slot_is}

@@ -57,7 +57,8 @@ use Rattle.split_op.specs.declared.step.SplitStep.{SplitStep}
 use Rattle.split_op.specs.declared.step.SplitStep.TheVariants.{Take, Search, Count, Return, Look, Put, Release, Back, Ended}
 use Rattle.split_op.specs.declared.op.SplitOp.{SplitOp}
 use Rattle.split_op.specs.Copied.{split_head, side_head, KeepsCopied}
-use Rattle.split_op.specs.Batches.{slot_word, empty_value, due}
+use Rattle.way.specs.Ways.{slot_word}
+use Rattle.split_op.specs.Batches.{empty_value, due}
 use Rattle.split_op.specs.Steps.{go, last_slot, searched, finished, put_by, stored, given_to, wanted_in, next_in, wanted}
 use Rattle.split_op.specs.Fits.{head_kind, put_kind, look_word, look_kind, kind_at, outcome_of, outcome_at, is_copied_end, hands_on_at, IsPutting, SuitsStep}
 use Rattle.split_op.specs.SplitPart.{SplitStands, split_part, BeginsAsPart, BeginsUndecided, HandsOnCopied}

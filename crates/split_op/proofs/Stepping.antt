@@ -169,7 +169,7 @@ module _ (site : Ground) (ground : IsGround site) (here : Site) (call : Call) (o
 
       searching : IsSearching site here call c more
       searching = record {
-        keeps = keeps_there site here call c v more k (record { within = k.there.within; lives = inr k.there.lives; current = inr k.there.current }) refl refl refl refl (λ b m y _ _ _ has. has);
+        keeps = keeps_there site here call c v more k (record { live = record { within = k.there.within; lives = inr k.there.lives }; current = inr k.there.current }) refl refl refl refl (λ b m y _ _ _ has. has);
         areas = st.0.areas;
         header = st.0.header;
         settled = record { dirty = st.0.settled.dirty; flushed = st.0.settled.flushed };
@@ -392,8 +392,7 @@ module _ (site : Ground) (ground : IsGround site) (here : Site) (call : Call) (o
       -- with the guard goes only which slots are taken
       there_still : IsThere site s v.facts → IsThere site s (facts_without of_free_slots v.facts)
       there_still there = record {
-        within = there.within;
-        lives = has_filtered (λ fact. not (is_taken fact)) v.facts (Lives s) there.lives refl;
+        live = record { within = there.within; lives = has_filtered (λ fact. not (is_taken fact)) v.facts (Lives s) there.lives refl };
         current = has_filtered (λ fact. not (is_taken fact)) v.facts (Current s) there.current refl;
       }
 

@@ -3,15 +3,12 @@ use Rattle.std.specs.Prelude.{ℕ, zero, suc, ◌+◌, ◌-◌, ◌*◌, ◌/◌
 use Rattle.bucket_meta.specs.Bucket.{lock_place, mark_place, rest_place, first_key, lock_bit, without_lock, record_words}
 use Rattle.bucket_meta.specs.Search.{is_taken}
 use Rattle.segment_head.specs.HeadWord.{link_to}
-use Rattle.image_layout.specs.Places.{Shape, root_word, head_at, segment_words, buckets, block, header_blocks, header_number, link_number}
+use Rattle.image_layout.specs.Places.{segment_words, buckets, block, header_blocks, header_number, link_number}
+use Rattle.way.specs.Ways.{slot_word}
 use Rattle.split_op.specs.declared.batch.Batch.{Batch}
 use Rattle.split_op.specs.declared.batch.Batch.TheVariants.{Empty, Link, Mark, New, Copy}
 use Rattle.split_op.specs.declared.copied.Copied.{Copied}
 use Rattle.split_op.specs.Copied.{split_head, side_head}
-
--- a word of a slot, by its number; a slot that the image has not gives the root's word
-abbrev pub slot_word : Shape → ℕ → ℕ → ℕ
-slot_word shape slot number = if nat_lt slot shape.segments then head_at shape slot + number else root_word
 
 -- ---- a slot is emptied
 -- what a word is emptied to: a lock word to the free value of its version, and another to 0

@@ -37,7 +37,8 @@ use Rattle.split_op.specs.declared.step.SplitStep.{SplitStep}
 use Rattle.split_op.specs.declared.step.SplitStep.TheVariants.{Take, Search, Count, Return, Look, Put, Release, Back, Ended}
 use Rattle.split_op.specs.declared.op.SplitOp.{SplitOp}
 use Rattle.split_op.specs.Copied.{split_head, side_head, IsCopy, KnowsOnlyOfBoth, KeepsCopied}
-use Rattle.split_op.specs.Batches.{slot_word, empty_value, is_copied, due}
+use Rattle.way.specs.Ways.{slot_word}
+use Rattle.split_op.specs.Batches.{empty_value, is_copied, due}
 
 -- ---- the kind of each event
 -- the store of a header is a row of the structure; flushes and fences are those of any round

@@ -22,7 +22,8 @@ use Rattle.split_op.specs.declared.step.SplitStep.{SplitStep}
 use Rattle.split_op.specs.declared.step.SplitStep.TheVariants.{Take, Search, Count, Return, Look, Put, Release, Back, Ended}
 use Rattle.split_op.specs.declared.op.SplitOp.{SplitOp}
 use Rattle.split_op.specs.Sides.{side_words}
-use Rattle.split_op.specs.Batches.{slot_word, copied_from, due, after}
+use Rattle.way.specs.Ways.{slot_word}
+use Rattle.split_op.specs.Batches.{copied_from, due, after}
 
 -- the same, at another step
 abbrev pub go : SplitOp → SplitStep → SplitOp

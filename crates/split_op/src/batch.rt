@@ -3,18 +3,17 @@
 ghost use Rattle.std.specs.Prelude.{◌≡◌, ◌<◌};
 ghost use Rattle.image_layout.specs.Places.{segment_words};
 ghost use Rattle.split_op.specs.Copied.{split_head, side_head};
-ghost use Rattle.split_op.specs.Batches.{slot_word, empty_value, first_of, after_empty, due, after};
+ghost use Rattle.split_op.specs.Batches.{empty_value, first_of, after_empty, due, after};
 
 use crate::copied::Copied;
 use crate::seek::copied_from;
 use bucket_meta::words::{self, is_locked, without_lock};
 use enclose_op::Enclosed;
-use image_layout::{
-    BLOCK_WORDS, BUCKETS, Geometry, HEADER, HEADER_BLOCKS, LINK, ROOT_WORD, SEGMENT_WORDS,
-};
+use image_layout::{BLOCK_WORDS, BUCKETS, HEADER, HEADER_BLOCKS, LINK, SEGMENT_WORDS};
 use segment_head::link::link_to;
 use segment_head::split::{one_side_head, with_state};
 use segment_head::word::{FRESH, SPLITTING};
+use way::slot_word;
 
 /// What is stored. Words of a slot are numbered from its first header word on: number 1 is its header, number 2 its link, and number
 /// `32 + 32 * b` the lock word of bucket `b`.
@@ -65,18 +64,7 @@ pub fn side_head(whole: &Enclosed) -> u64
     one_side_head(whole.site.version, FRESH, whole.head)
 }
 
-// ---- words of slots
-
-/// A word of a slot, by its number; a slot that the image has not gives the root's word.
-pub fn slot_word(geometry: &Geometry, slot: u64, number: u16) -> u64
-    ensures { result ≡ slot_word geometry.now slot number }
-{
-    if slot < geometry.segments() {
-        geometry.head_at(slot) + u64::from(number)
-    } else {
-        ROOT_WORD
-    }
-}
+// ---- a slot is emptied
 
 /// What a word of the slot is emptied to: a lock word to the free value of its version, and another to 0.
 fn empty_value(locks: &[u64; BUCKETS as usize], number: u16) -> u64

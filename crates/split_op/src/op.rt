@@ -4,7 +4,7 @@ ghost use Rattle.std.specs.Prelude.{◌≡◌};
 ghost use Rattle.split_op.specs.Fits.{hands_on_at};
 ghost use Rattle.split_op.specs.Steps.{split_of, wanted, taken, end_of};
 
-use crate::batch::{HEADER_NUMBER, due, slot_word};
+use crate::batch::{HEADER_NUMBER, due};
 use crate::copied::Copied;
 use crate::copy::side_words;
 use crate::step::{SplitEnd, SplitStep};
@@ -12,6 +12,7 @@ use crate::taking::go_on;
 use enclose_op::Enclosed;
 use image_layout::{BLOCK_WORDS, BUCKETS, FREE_GUARD};
 use op_core::{Ans, Machine, Want};
+use way::slot_word;
 
 /// An enclosed segment is split, up to the copies.
 #[derive(Clone, Copy)]

@@ -1,6 +1,6 @@
 -- The way from a hash to its bucket: the words on it, and what the header of its segment has to cover.
-use Rattle.std.specs.Prelude.{ℕ, nat_le, nat_lt, Bool, ◌==◌, ◌&&◌, if◌then◌else◌}
-use Rattle.image_layout.specs.Places.{Shape, root_word, entry_at, header_word, bucket_at}
+use Rattle.std.specs.Prelude.{ℕ, ◌+◌, nat_le, nat_lt, Bool, ◌==◌, ◌&&◌, if◌then◌else◌}
+use Rattle.image_layout.specs.Places.{Shape, root_word, entry_at, head_at, header_number, link_number, bucket_at}
 use Rattle.image_layout.specs.Volatile.{segment_guard}
 use Rattle.hash_word.specs.Hash.{hash_bits, index_of, top}
 use Rattle.segment_head.specs.HeadWord.{state_in, depth_in, pattern_in, normal}
@@ -9,17 +9,29 @@ use Rattle.segment_head.specs.HeadWord.{state_in, depth_in, pattern_in, normal}
 abbrev pub entry_word : Shape → ℕ → ℕ → ℕ
 entry_word shape hash root = if nat_le root shape.depth then entry_at root (index_of root hash) else root_word
 
--- the header word of a segment; a slot that the image has not gives the root's word
+-- a word of a slot; a slot that the image has not gives the root's word
+abbrev pub of_slot : Shape → (slot word : ℕ) → ℕ
+of_slot shape slot word = if nat_lt slot shape.segments then word else root_word
+
+-- that word by its number, counted from the first, which is 0
+abbrev pub slot_word : Shape → (slot number : ℕ) → ℕ
+slot_word shape slot number = of_slot shape slot (head_at shape slot + number)
+
+-- the header word of a segment
 abbrev pub head_word : Shape → ℕ → ℕ
-head_word shape segment = if nat_lt segment shape.segments then header_word shape segment else root_word
+head_word shape segment = slot_word shape segment header_number
 
--- the guard of a segment; a slot that the image has not gives the root's word
+-- the word of its link
+abbrev pub slot_link : Shape → ℕ → ℕ
+slot_link shape segment = slot_word shape segment link_number
+
+-- its guard
 abbrev pub slot_guard : Shape → ℕ → ℕ
-slot_guard shape segment = if nat_lt segment shape.segments then segment_guard shape segment else root_word
+slot_guard shape segment = of_slot shape segment (segment_guard shape segment)
 
--- the first word of a bucket of a segment, its lock word; a slot that the image has not gives the root's word
+-- the first word of a bucket of it, its lock word
 abbrev pub bucket_word : Shape → ℕ → ℕ → ℕ
-bucket_word shape segment b = if nat_lt segment shape.segments then bucket_at shape segment b else root_word
+bucket_word shape segment b = of_slot shape segment (bucket_at shape segment b)
 
 -- a header covers a hash whose top bits, as many as its depth, are its pattern
 abbrev pub is_covering : ℕ → ℕ → Bool

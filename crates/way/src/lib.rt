@@ -1,17 +1,18 @@
 //! The words on the way from a hash to its bucket: root, directory entry, header, bucket.
 //!
 //! A machine that looks for a key loads the root depth, the entry of the key's hash, the header of the segment that the
-//! entry names, and the lock word with which a bucket of that segment begins. Site is said which words these are: a
+//! entry names, and the lock word with which a bucket of that segment begins; one that splits or repairs a segment also its
+//! link and its guard, and any word of its slot. Site is said which words these are: a
 //! depth or a slot that the image has not gives the root's word, so each function answers for any numbers.
 #![tactic(auto)]
 
 ghost use Rattle.std.specs.Prelude.{◌≡◌, ◌<◌, ◌≤◌, ◌+◌};
 ghost use Rattle.image_layout.specs.Keys.{key_hash};
 ghost use Rattle.image_layout.specs.Places.{buckets, most_words};
-ghost use Rattle.way.specs.Ways.{entry_word, head_word, bucket_word};
+ghost use Rattle.way.specs.Ways.{entry_word, slot_word, head_word, slot_link, slot_guard, bucket_word};
 
 use hash_word::{HASH_BITS, Kind, dir_index, hash};
-use image_layout::{Geometry, HEADER, IDENTITY_KIND, ROOT_WORD};
+use image_layout::{Geometry, HEADER, IDENTITY_KIND, LINK, ROOT_WORD};
 use segment_head::word::{NORMAL, depth_of, pattern_of, state_of};
 
 /// The hash of a key in an image that is laid out so.
@@ -36,13 +37,39 @@ pub fn entry_word(geometry: &Geometry, hash: u64, root: u64) -> u64
     }
 }
 
+/// A word of the segment in a slot, by its number, counted from the first, which is 0; that of the root where there is no
+/// such slot.
+pub fn slot_word(geometry: &Geometry, segment: u64, number: u16) -> u64
+    ensures { result ≡ slot_word geometry.now segment number }
+{
+    if segment < geometry.segments() {
+        geometry.head_at(segment) + u64::from(number)
+    } else {
+        ROOT_WORD
+    }
+}
+
 /// The header word of the segment in a slot, with its version, state, depth and pattern; that of the root where there is
 /// no such slot.
 pub fn head_word(geometry: &Geometry, segment: u64) -> u64
     ensures { result ≡ head_word geometry.now segment }
 {
+    slot_word(geometry, segment, HEADER as u16)
+}
+
+/// The word of its link; that of the root where there is no such slot.
+pub fn slot_link(geometry: &Geometry, segment: u64) -> u64
+    ensures { result ≡ slot_link geometry.now segment }
+{
+    slot_word(geometry, segment, LINK as u16)
+}
+
+/// The word of its guard; that of the root where there is no such slot.
+pub fn slot_guard(geometry: &Geometry, segment: u64) -> u64
+    ensures { result ≡ slot_guard geometry.now segment }
+{
     if segment < geometry.segments() {
-        geometry.head_at(segment) + HEADER
+        geometry.segment_guard(segment)
     } else {
         ROOT_WORD
     }

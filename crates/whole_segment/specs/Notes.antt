@@ -1,8 +1,8 @@
--- The records in the stash of a segment, and what keeps the record slots of a bucket, by words 1 and 3 of each bucket.
-use Rattle.std.specs.Prelude.{◌≡◌, ℕ, ◌+◌, List, [], ◌∷◌, ◌++◌, if◌then◌else◌}
+-- The records in the stash of a segment, by word 1 of each bucket and the key in each record slot.
+use Rattle.std.specs.Prelude.{ℕ, ◌+◌, List, [], ◌∷◌, ◌++◌, if◌then◌else◌}
 use Rattle.std.specs.List.{flat_map}
 use Rattle.hash_word.specs.Hash.{home_of, finger_of}
-use Rattle.bucket_meta.specs.Bucket.{record_slots, first_stash_index, second_stash_index, slots_part, slot_fingers_part}
+use Rattle.bucket_meta.specs.Bucket.{record_slots, first_stash_index, second_stash_index}
 use Rattle.bucket_meta.specs.Search.{is_taken}
 use Rattle.bucket_meta.specs.Notes.{numbers_below}
 use Rattle.image_layout.specs.Places.{homes}
@@ -20,8 +20,3 @@ module _ (first : ℕ → ℕ) (key : ℕ → ℕ → ℕ) (hash : ℕ → ℕ) 
   -- all records in the stash, by stash bucket, then slot
   abbrev pub stash_entries : List Stashed
   stash_entries = entries_below first_stash_index record_slots ++ entries_below second_stash_index record_slots
-
--- words 1 and 3 of a bucket say of its record slots what they said
-pub record KeepsRecords (w1 w3 x1 x3 : ℕ) : Type 0 where
-  pub slots : slots_part x1 ≡ slots_part w1
-  pub fingers : slot_fingers_part x3 ≡ slot_fingers_part w3

@@ -3,7 +3,8 @@
 use Rattle.std.specs.Prelude.{ℕ, ◌+◌, ◌==◌, Option, None, Some, List, [], ◌∷◌, if◌then◌else◌}
 use Rattle.hash_word.specs.Hash.{probing_of}
 use Rattle.bucket_meta.specs.Bucket.{note_slots, lower_notes, last_lower_note, last_note, home_side, probing_side}
-use Rattle.bucket_meta.specs.NoteWords.{lowest_among, first_made, third_made}
+use Rattle.bucket_meta.specs.Search.{lowest_among}
+use Rattle.bucket_meta.specs.NoteWords.{first_made, third_made}
 use Rattle.stash.specs.NoteSlots.{NoteSlot, filled_note_slot, freed_note_slot}
 use Rattle.stash.specs.Segment.{Stashed}
 use Rattle.whole_segment.specs.Notes.{stash_entries}

@@ -1,10 +1,11 @@
 -- The records of one segment, by word 1 of each of its buckets and the key in each of its record slots; and which of them another
 -- segment, or a half of this one, covers.
-use Rattle.std.specs.Prelude.{◌≡◌, ℕ, ◌+◌, ◌*◌, ◌<◌, ◌↔◌, Bool, ◌==◌, ◌&&◌, slice_index}
+use Rattle.std.specs.Prelude.{◌≡◌, ℕ, ◌+◌, ◌*◌, ◌<◌, ◌↔◌, Bool, ◌==◌, ◌&&◌, List, slice_index}
 use Rattle.hash_word.specs.Hash.{Covers, top}
-use Rattle.bucket_meta.specs.Bucket.{allocated, record_slots}
+use Rattle.bucket_meta.specs.Bucket.{allocated, record_slots, mark_place, rest_place, key_place}
 use Rattle.bucket_meta.specs.Search.{is_taken}
 use Rattle.image_layout.specs.Places.{buckets}
+use Rattle.whole_segment.specs.Words.{word_of_bucket}
 use Rattle.whole_segment.specs.Slots.{set_of}
 use Rattle.whole_segment.specs.declared.loaded.Loaded.{Loaded}
 
@@ -20,6 +21,23 @@ third_in loaded b = slice_index loaded.third b
 -- the key in slot r of bucket b
 abbrev pub key_in : Loaded → ℕ → ℕ → ℕ
 key_in loaded b r = slice_index loaded.keys (record_slots * b + r)
+
+-- the same of the words of its buckets as a list
+module _ (words : List ℕ) where
+  abbrev pub first_of : ℕ → ℕ
+  first_of b = word_of_bucket words b mark_place
+
+  abbrev pub third_of : ℕ → ℕ
+  third_of b = word_of_bucket words b rest_place
+
+  abbrev pub key_of : ℕ → ℕ → ℕ
+  key_of b r = word_of_bucket words b (key_place r)
+
+  -- what is loaded is what these words have
+  pub record HasWords (loaded : Loaded) : Type 0 where
+    pub first : (b : ℕ) → b < buckets → first_in loaded b ≡ first_of b
+    pub third : (b : ℕ) → b < buckets → third_in loaded b ≡ third_of b
+    pub keys : (b r : ℕ) → b < buckets → r < record_slots → key_in loaded b r ≡ key_of b r
 
 -- ---- its records
 module _ (first : ℕ → ℕ) (key : ℕ → ℕ → ℕ) where

@@ -6,9 +6,9 @@ ghost use Rattle.hash_word.specs.Hash.{hash_bits, Covers};
 ghost use Rattle.image_layout.specs.Places.{buckets};
 ghost use Rattle.sound_image.specs.Records.{key_hash};
 
-use bucket_meta::words::{SLOTS, is_taken};
+use bucket_meta::words::{BUCKET_WORDS, MARK_PLACE, REST_PLACE, SLOTS, is_taken, key_place};
 use hash_word::covers;
-use image_layout::{BUCKETS, Geometry, SEGMENT_SLOTS};
+use image_layout::{BUCKETS, Geometry, SEGMENT_SLOTS, WORDS_OF_BUCKETS};
 use way::key_hash;
 use word_bits::mask;
 
@@ -28,7 +28,7 @@ pub struct Loaded {
 
 impl Loaded {
     ghost use Rattle.whole_segment.specs.Slots.{IsSetOf};
-    ghost use Rattle.whole_segment.specs.Records.{first_in, third_in, key_in, IsCovered, covered_set};
+    ghost use Rattle.whole_segment.specs.Records.{first_in, third_in, key_in, key_of, HasWords, IsCovered, covered_set};
 
     /// Nothing loaded: no slot is taken.
     pub fn blank() -> Loaded
@@ -75,6 +75,34 @@ impl Loaded {
         ensures third { self.new.third ≡ self.old.third }
     {
         self.keys[usize::from(SLOTS) * usize::from(bucket) + usize::from(slot)] = key;
+    }
+
+    /// Puts the keys of a bucket, by the words of all buckets.
+    fn put_keys(&mut self, words: &[u64; WORDS_OF_BUCKETS as usize], bucket: u8)
+        requires { bucket < buckets }
+        ensures here { (r : ℕ) → r < record_slots → key_in self.new bucket r ≡ key_of words.now bucket r }
+        ensures others { (b r : ℕ) → b < bucket → r < record_slots → key_in self.new b r ≡ key_in self.old b r }
+        ensures first { self.new.first ≡ self.old.first }
+        ensures third { self.new.third ≡ self.old.third }
+    {
+        for slot in 0..SLOTS {
+            let at = BUCKET_WORDS * usize::from(bucket) + key_place(slot);
+            self.set_key(bucket, slot, words[at]);
+        }
+    }
+
+    /// What is loaded where these are the words of its buckets: word `n` of bucket `b` is number `32 * b + n`.
+    pub fn of_words(words: &[u64; WORDS_OF_BUCKETS as usize]) -> Loaded
+        ensures { HasWords words.now result }
+    {
+        let mut loaded = Loaded::blank();
+        for bucket in 0..BUCKETS {
+            let at = BUCKET_WORDS * usize::from(bucket);
+            loaded.set_first(bucket, words[at + MARK_PLACE]);
+            loaded.set_third(bucket, words[at + REST_PLACE]);
+            loaded.put_keys(words, bucket);
+        }
+        loaded
     }
 
     /// The key in a record slot.

@@ -10,7 +10,7 @@ ghost use Rattle.stash.specs.Segment.{bucket};
 ghost use Rattle.whole_segment.specs.Records.{first_in, third_in, key_in};
 ghost use Rattle.whole_segment.specs.Rebuilding.{first_with, third_with, rebuilt};
 ghost use Rattle.image_layout.specs.Standing.{stashed_of, HasExactNotes};
-ghost use Rattle.whole_segment.specs.Notes.{KeepsRecords};
+ghost use Rattle.bucket_meta.specs.Bucket.{KeepsRecords};
 
 use crate::Loaded;
 use crate::stash_records::StashRecords;

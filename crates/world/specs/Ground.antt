@@ -3,7 +3,7 @@ use Rattle.std.specs.Prelude.{◌≡◌, ◌≢◌, ℕ, ◌+◌, ◌^◌, ◌<�
 use Rattle.trace.specs.Events.{Words}
 pub use Rattle.bucket_meta.specs.Bucket.{spent_lock}
 use Rattle.image_layout.specs.Places.{Shape, IsShape, root_word, state_word, bucket_at, buckets, block}
-use Rattle.image_layout.specs.StateWord.{image_version_in}
+use Rattle.image_layout.specs.StateWord.{version_in}
 use Rattle.frame_facts.specs.Claims.{HasSoundFrame}
 use Rattle.sound_image.specs.Segments.{frame_of}
 use Rattle.frame_facts.specs.Facts.{IsLiveSlot, IsCurrentSlot}
@@ -32,7 +32,7 @@ IsLockWord shape lock = (s : ℕ) × (b : ℕ) × (s < shape.segments) × (b < b
 
 -- the version of the image
 abbrev pub version_of : Ground → ℕ
-version_of site = image_version_in (site.front state_word)
+version_of site = version_in (site.front state_word)
 
 -- THE STRUCTURE of words is sound: headers, links, root and directory are, and the first words are those of the start but for the root
 pub record IsStructured (site : Ground) (word : Words) : Type 0 where

@@ -167,8 +167,7 @@ module _ (w i : ℕ) (fits : w < 2 ^ 64) (low : i < 4) where
       indexes = λ j l n. low_index (freed_mark w i) y low_part j l ∙ other_bit w fits i (36 + j) low (omega (arith, l)) (λ e. omega (arith, e, low)) (λ e. omega (arith, e, low)) (λ e. n (omega (arith, e)));
       fingers = λ j l n. fingers_by j w3 l n;
       count = low_count (freed_mark w i) y low_part ∙ high_count y w (cleared_above w fits i low);
-      slots = low_slots (freed_mark w i) y low_part ∙ cleared_below w fits i low;
-      records = refl;
+      kept = record { slots = low_slots (freed_mark w i) y low_part ∙ cleared_below w fits i low; fingers = refl };
     };
   }
 
@@ -209,7 +208,6 @@ frees_place w1 w3 i fits low =
         indexes = m.others.indexes;
         fingers = λ j l n. freed_finger w3 i j (freed_mark w1 i) low l n ∙ m.others.fingers j l n;
         count = m.others.count;
-        slots = m.others.slots;
-        records = freed_records w3 i low;
+        kept = record { slots = m.others.slots; fingers = freed_records w3 i low };
       };
     }

@@ -220,8 +220,7 @@ module _ (w i side finger index : ℕ) (fits : w < 2 ^ 64) (low : i < 4) (side_b
         ∙ flag_other w i side index low side_bit index_bit (36 + j) (omega (arith, l)) (λ e. omega (arith, e, low)) (λ e. omega (arith, e, low)) (λ e. n (omega (arith, e)));
     fingers = λ j l n. beside j l n ∙ fingers_by j w3 l n;
     count = low_count x z low_part ∙ high_count z w leaves.upper;
-    slots = low_slots x z low_part ∙ leaves.lower;
-    records = records;
+    kept = record { slots = low_slots x z low_part ∙ leaves.lower; fingers = records };
   }
 
   fills : (w3 x3 : ℕ) → KeepsOtherPlaces w w3 x x3 i → FillsPlace w w3 x x3 i side index

@@ -250,8 +250,7 @@ module _ (site : Ground) (here : Site) (call : Call) (words : Words) (views : Li
       whole = s.live.split.whole;
       copy = s.live.split.copy;
       there = record {
-        within = s.live.split.there.within;
-        lives = said (Lives op.copied.whole.segment) refl s.live.split.there.lives;
+        live = record { within = s.live.split.there.within; lives = said (Lives op.copied.whole.segment) refl s.live.split.there.lives };
         current = said (Current op.copied.whole.segment) refl s.live.split.there.current;
       };
       areas = ap (all_but is_of_directory) s.live.split.areas;

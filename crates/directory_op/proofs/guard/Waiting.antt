@@ -36,7 +36,7 @@ module _ (v u : View) (keeps : Keeps (λ i. ⊤) v u) (dirty : u.dirty ≡ v.dir
       is = k.is;
       whole = k.whole;
       copy = k.copy;
-      there = record { within = k.there.within; lives = keeps.facts (Lives c.whole.segment) refl k.there.lives; current = keeps.facts (Current c.whole.segment) refl k.there.current };
+      there = record { live = record { within = k.there.within; lives = keeps.facts (Lives c.whole.segment) refl k.there.lives }; current = keeps.facts (Current c.whole.segment) refl k.there.current };
       areas = areas ∙ k.areas;
       locks = locks_stay site c v u keeps.held k.locks;
       head = record {

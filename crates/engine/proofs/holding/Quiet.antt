@@ -6,7 +6,7 @@ use Rattle.std.proofs.lemmas.Option.{none-some, same_Some}
 use Rattle.trace.specs.Events.{Words}
 use Rattle.segment_head.specs.HeadWord.{normal}
 use Rattle.image_layout.specs.Places.{state_word}
-use Rattle.image_layout.specs.StateWord.{image_version_in, marker_in}
+use Rattle.image_layout.specs.StateWord.{version_in, marker_in}
 use Rattle.sound_image.specs.Segments.{frame_of, state_at}
 use Rattle.world.specs.Ground.{Ground, IsStructured, IsCurrentIn}
 use Rattle.world.specs.Views.{View, At}
@@ -49,7 +49,7 @@ module _ (site : Ground) (start : Words) (core : Core) (h : CoreHolds site start
 
   -- a segment that is current in the structure has the version of the site
   current_here : (s : ℕ) → IsCurrent site.shape core.words s → IsCurrentIn site core.words s
-  current_here s current = record { live = current.live; current = current.current ∙ ap image_version_in state_stays }
+  current_here s current = record { live = current.live; current = current.current ∙ ap version_in state_stays }
 
   -- nobody splits a segment, so that each current one is normal
   module _ (rest : CurrentSegmentsRest) where

@@ -25,7 +25,7 @@ module _ (site : Ground) (guarded : Guarded) (base : List ℕ) (small : (i : ℕ
 
   left_key : (b r : ℕ) → b < buckets → r < record_slots → key_of left b r ≡ key_of base b r
   left_key b r near low =
-      let i : ℕ = block * b + 4 + 2 * r in
+      let i : ℕ = block * b + (4 + 2 * r) in
       made_is base shape guarded.head Mend i (omega (arith, near, low)) ∙ mended_else base shape guarded.head i (λ zero. omega (arith, zero, low)) (λ one. omega (arith, one, low))
 
   -- a record that is left

@@ -157,7 +157,7 @@ module _ (site : Ground) (guarded : Guarded) (old : IsOld site guarded) (base : 
 
   left_key : (b r : ℕ) → b < buckets → r < record_slots → key_of left b r ≡ key_of base b r
   left_key b r near low =
-      let i : ℕ = block * b + 4 + 2 * r in
+      let i : ℕ = block * b + (4 + 2 * r) in
       made_is base shape guarded.head Note i (omega (arith, near, low)) ∙ noted_else base shape guarded.head i (λ one. omega (arith, one, low)) (λ three. omega (arith, three, low))
 
   stood : (b r k : ℕ) → Stands (first_of left) (key_of left) b r k → Stands (first_of base) (key_of base) b r k

@@ -97,9 +97,6 @@ module _ (site : Ground) (ground : IsGround site) (guarded : Guarded) (old : IsO
       key_number : (f r : ℕ) → f + 4 + 2 * r ≡ f + (4 + 2 * r)
       key_number f r = omega arith
 
-      kept_number : (b r : ℕ) → 32 * b + (4 + 2 * r) ≡ 32 * b + 4 + 2 * r
-      kept_number b r = omega arith
-
       key_low : 4 + 2 * r < block
       key_low = let low = stands.slot in omega (arith, low)
 
@@ -109,7 +106,7 @@ module _ (site : Ground) (ground : IsGround site) (guarded : Guarded) (old : IsO
         bucket = stands.bucket;
         slot = stands.slot;
         taken = ap (allocated r) (known_at b 1 stands.bucket (omega arith)) ∙ stands.taken;
-        key = ap words (key_number (bucket_at site.shape s b) r) ∙ known_at b (4 + 2 * r) stands.bucket key_low ∙ ap (slice_index kept) (kept_number b r) ∙ stands.has_key;
+        key = ap words (key_number (bucket_at site.shape s b) r) ∙ known_at b (4 + 2 * r) stands.bucket key_low ∙ stands.has_key;
       }
 
       owned : owner_of site.shape words (key_hash site.shape k) ≡ Some s

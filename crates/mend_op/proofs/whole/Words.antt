@@ -70,13 +70,10 @@ module _ (shape : Shape) (s : ℕ) where
 
     -- ---- its records
     pub key_here : (b r : ℕ) → key_in mend_words (bucket b) r ≡ key_of words b r
-    key_here b r = ap mend_words (by (bucket b) r) ∙ bucket_here b (4 + 2 * r) ∙ ap (slice_index words) (more b r)
+    key_here b r = ap mend_words (by (bucket b) r) ∙ bucket_here b (4 + 2 * r)
       where
         by : (i r : ℕ) → i + 4 + 2 * r ≡ i + (4 + 2 * r)
         by i r = omega arith
-
-        more : (b r : ℕ) → 32 * b + (4 + 2 * r) ≡ 32 * b + 4 + 2 * r
-        more b r = omega arith
 
     pub hit_stands : (b r k : ℕ) → Hit shape mend_words s b r k → Stands (first_of words) (key_of words) b r k
     hit_stands b r k hit = record {

@@ -3,7 +3,7 @@ use Rattle.std.proofs.Common.{◌≡◌, ℕ, ◌+◌, ◌*◌, ◌%◌, ◌^◌
 use Rattle.std.specs.Prelude.{min}
 use Rattle.std.specs.Int.{bit_not, w64}
 use Rattle.std.proofs.lemmas.Nat.{and_le_r}
-use Rattle.bucket_meta.specs.Bucket.{overflow_count, record_slots}
+use Rattle.bucket_meta.specs.Bucket.{overflow_count, record_slots, KeepsRecords}
 use Rattle.bucket_meta.specs.Notes.{OverflowNote, AreExact, notes_by}
 use Rattle.bucket_meta.specs.Marks.{slot_bits, cleared_mark}
 use Rattle.hash_word.specs.Hash.{probing_of}
@@ -11,9 +11,8 @@ use Rattle.segment_head.specs.HeadWord.{depth_in, pattern_in}
 use Rattle.image_layout.specs.Places.{homes, buckets}
 use Rattle.sound_image.specs.Records.{key_hash}
 use Rattle.whole_segment.specs.Words.{words_by}
-use Rattle.whole_segment.specs.Records.{first_in, third_in, key_in, covered_set}
+use Rattle.whole_segment.specs.Records.{first_in, third_in, key_in, HasWords, covered_set}
 use Rattle.image_layout.specs.Standing.{stashed_of, HasExactNotes}
-use Rattle.whole_segment.specs.Notes.{KeepsRecords}
 use Rattle.whole_segment.specs.Rebuilding.{first_with, third_with, rebuilt}
 use Rattle.whole_segment.specs.declared.loaded.Loaded.{Loaded}
 use Rattle.whole_segment.specs.declared.notes.Notes.{Notes}
@@ -24,7 +23,7 @@ use Rattle.map_model.specs.declared.call.Call.{Call}
 use Rattle.world.specs.declared.site.Site.{Site}
 use Rattle.world.specs.Ground.{Ground, IsGround}
 use Rattle.enclose_op.specs.declared.enclosed.Enclosed.{Enclosed}
-use Rattle.enclose_op.specs.Whole.{kept_first, kept_third, kept_key, side_slots, HasKept, IsOf, IsWhole}
+use Rattle.enclose_op.specs.Whole.{kept_first, kept_third, kept_key, side_slots, IsOf, IsWhole}
 use Rattle.rest_op.specs.Steps.{begun}
 use Rattle.rest_op.specs.Reckoned.{side_depth, side_pattern, cleared_of, left_first, left_notes, notes_left, rest_of, IsReckoned}
 use Rattle.rest_op.proofs.whole.Halving.{depth_low, pattern_low}
@@ -36,7 +35,7 @@ IsRebuilt rest notes hash b =
     × (slice_index notes.third b ≡ third_with (third_in rest b) (rebuilt (first_in rest) (key_in rest) hash b))
 
 -- ---- the value
-module _ (e : Enclosed) (loaded rest : Loaded) (notes : Notes) (d p : ℕ) (kept : HasKept e loaded) (deep : d ≡ min (side_depth e) 64) (side : p ≡ side_pattern e % 2 ^ 32)
+module _ (e : Enclosed) (loaded rest : Loaded) (notes : Notes) (d p : ℕ) (kept : HasWords e.buckets loaded) (deep : d ≡ min (side_depth e) 64) (side : p ≡ side_pattern e % 2 ^ 32)
     (is : (b : ℕ) → b < buckets → first_in rest b ≡ cleared_mark (first_in loaded b) (covered_set (first_in loaded) (key_in loaded) (key_hash e.site.geometry) d p b))
     (third : rest.third ≡ loaded.third) (keys : rest.keys ≡ loaded.keys) (made : (b : ℕ) → b < homes → IsRebuilt rest notes (key_hash e.site.geometry) b) where
   abbrev hash : ℕ → ℕ

@@ -7,7 +7,7 @@ use Rattle.segment_head.specs.HeadWord.{version_in}
 use Rattle.segment_head.specs.Versions.{unversioned}
 use Rattle.trace.specs.Events.{Words}
 use Rattle.image_layout.specs.Places.{Shape, state_word}
-use Rattle.image_layout.specs.StateWord.{image_version_in, marker_in, IsMarked}
+use Rattle.image_layout.specs.StateWord.{marker_in, IsMarked}
 use Rattle.sound_image.specs.Segments.{frame_of, image_version}
 use Rattle.sound_image.specs.Image.{IsSoundImage}
 use Rattle.world.specs.areas.Areas.{header_word}
@@ -22,29 +22,29 @@ use Rattle.restart_op.proofs.images.Frames.{IsReversioned}
 -- one of three: a clean image keeps its version; of another the headers are swept where it is 255, and else it gets the next one
 pub record IsClosedWith (state : ℕ) (started : Started) : Type 0 where
   pub marked : IsMarked state
-  pub keeps : started ≡ started_with (image_version_in state)
+  pub keeps : started ≡ started_with (version_in state)
 
 pub record IsSwept (state : ℕ) (started : Started) : Type 0 where
   pub unmarked : marker_in state ≡ 0
-  pub last : image_version_in state ≡ 255
+  pub last : version_in state ≡ 255
   pub sweeps : started ≡ swept_through
 
 pub record IsRaisedTo (state : ℕ) (started : Started) : Type 0 where
   pub unmarked : marker_in state ≡ 0
-  pub less : image_version_in state < 255
-  pub raises : started ≡ started_with (image_version_in state + 1)
+  pub less : version_in state < 255
+  pub raises : started ≡ started_with (version_in state + 1)
 
 abbrev pub IsOneOf : ℕ → Started → Type 0
 IsOneOf state started = IsClosedWith state started ⊎ IsSwept state started ⊎ IsRaisedTo state started
 
-by_tests : (state : ℕ) (a b : Bool) → (marker_in state == 1) ≡ a → (image_version_in state == 255) ≡ b
-    → IsOneOf state (if a then started_with (image_version_in state) else (if b then swept_through else started_with (image_version_in state + 1)))
+by_tests : (state : ℕ) (a b : Bool) → (marker_in state == 1) ≡ a → (version_in state == 255) ≡ b
+    → IsOneOf state (if a then started_with (version_in state) else (if b then swept_through else started_with (version_in state + 1)))
 by_tests state true b p q = inl (record { marked = eqb-true (marker_in state) 1 p; keeps = refl })
-by_tests state false true p q = inr (inl (record { unmarked = clear state (eqb-false (marker_in state) 1 p); last = eqb-true (image_version_in state) 255 q; sweeps = refl }))
+by_tests state false true p q = inr (inl (record { unmarked = clear state (eqb-false (marker_in state) 1 p); last = eqb-true (version_in state) 255 q; sweeps = refl }))
   where
     clear : (x : ℕ) → (x / 2 ^ 8 % 2 ≡ 1 → ⊥) → x / 2 ^ 8 % 2 ≡ 0
     clear x ne = omega (arith, ne)
-by_tests state false false p q = inr (inr (record { unmarked = clear state (eqb-false (marker_in state) 1 p); less = below state (eqb-false (image_version_in state) 255 q); raises = refl }))
+by_tests state false false p q = inr (inr (record { unmarked = clear state (eqb-false (marker_in state) 1 p); less = below state (eqb-false (version_in state) 255 q); raises = refl }))
   where
     clear : (x : ℕ) → (x / 2 ^ 8 % 2 ≡ 1 → ⊥) → x / 2 ^ 8 % 2 ≡ 0
     clear x ne = omega (arith, ne)
@@ -112,10 +112,10 @@ module _ (shape : Shape) (words : List ℕ) (image : IsSoundImage shape words) (
 
   pub some_and_fits : (1 ≤ started.version) × (started.version < 2 ^ 8)
   some_and_fits = elim one [
-    | inl closed ↦ by (image_version_in (word state_word)) closed.keeps (frame_is shape words image).version (omega arith)
+    | inl closed ↦ by (version_in (word state_word)) closed.keeps (frame_is shape words image).version (omega arith)
     | inr o ↦ elim o [
       | inl swept ↦ subst (λ (s : Started). (1 ≤ s.version) × (s.version < 2 ^ 8)) (sym swept.sweeps) (omega arith, omega arith)
-      | inr raised ↦ by (image_version_in (word state_word) + 1) raised.raises (omega arith) (let less = raised.less in omega (arith, less))
+      | inr raised ↦ by (version_in (word state_word) + 1) raised.raises (omega arith) (let less = raised.less in omega (arith, less))
     ]
   ]
     where
@@ -141,8 +141,8 @@ module _ (shape : Shape) (words : List ℕ) (image : IsSoundImage shape words) (
       | inr raised ↦ inr (λ s slot.
           let h = kept_head (ap (λ (s : Started). s.swept) raised.raises) s slot in
           let now = version_is some_and_fits.1 ∙ ap (λ (s : Started). s.version) raised.raises in
-          above (version_in (other (header_word shape s))) (image_version_in (word state_word)) (image_version (frame_of shape other))
-          (subst (λ n. version_in n ≤ image_version_in (word state_word)) (sym h) ((frame_is shape words image).past s slot)) now)
+          above (version_in (other (header_word shape s))) (version_in (word state_word)) (image_version (frame_of shape other))
+          (subst (λ n. version_in n ≤ version_in (word state_word)) (sym h) ((frame_is shape words image).past s slot)) now)
     ]
   ]
     where

@@ -28,7 +28,7 @@ use Rattle.split_op.specs.declared.step.SplitEnd.{SplitEnd}
 use Rattle.split_op.specs.declared.step.SplitStep.{SplitStep}
 use Rattle.split_op.specs.declared.step.SplitStep.TheVariants.{Take, Search, Count, Return, Look, Put, Release, Back, Ended}
 use Rattle.split_op.specs.declared.op.SplitOp.{SplitOp}
-use Rattle.split_op.specs.Batches.{slot_word}
+use Rattle.way.specs.Ways.{slot_word}
 use Rattle.split_op.specs.Steps.{go, last_slot, finished, put_by, given_to, wanted_in, next_in}
 use Rattle.split_op.specs.Fits.{SuitsStep}
 use Rattle.split_op.specs.Remembers.{RemembersSearch, RemembersAt}

@@ -6,13 +6,13 @@ use Rattle.bucket_meta.specs.Bucket.{record_slots}
 use Rattle.bucket_meta.specs.Marks.{copied_mark}
 use Rattle.image_layout.specs.Places.{homes, buckets, block}
 use Rattle.sound_image.specs.Records.{key_hash}
-use Rattle.whole_segment.specs.Records.{first_in, third_in, key_in, covered_set}
+use Rattle.whole_segment.specs.Records.{first_in, third_in, key_in, HasWords, covered_set}
 use Rattle.whole_segment.specs.Rebuilding.{first_with, third_with, rebuilt}
 use Rattle.whole_segment.specs.declared.loaded.Loaded.{Loaded}
 use Rattle.whole_segment.specs.declared.notes.Notes.{Notes}
 use Rattle.whole_segment.proofs.Stashing.{rebuilt_same, covered_same}
 use Rattle.enclose_op.specs.declared.enclosed.Enclosed.{Enclosed}
-use Rattle.enclose_op.specs.Whole.{kept_first, kept_third, kept_key, side_depth, side_pattern, HasKept}
+use Rattle.enclose_op.specs.Whole.{kept_first, kept_third, kept_key, side_depth, side_pattern}
 use Rattle.split_op.specs.Sides.{side_word, side_first, side_notes, side_mark, side_third, marked_word, thinned_word, side_words, HasMarks, IsThinned}
 use Rattle.split_op.proofs.sides.Listing.{listed_same, by_word, thinned_is}
 use Rattle.split_op.proofs.sides.Siding.{mark_home, mark_stash, third_home, third_stash, marked_other}
@@ -23,7 +23,7 @@ IsRebuilt half notes hash b =
     (slice_index notes.first b ≡ first_with (first_in half b) (rebuilt (first_in half) (key_in half) hash b))
     × (slice_index notes.third b ≡ third_with (third_in half b) (rebuilt (first_in half) (key_in half) hash b))
 
-module _ (e : Enclosed) (loaded half : Loaded) (notes : Notes) (d p : ℕ) (kept : HasKept e loaded) (deep : d ≡ min (side_depth e) 64) (side : p ≡ side_pattern e % 2 ^ 32)
+module _ (e : Enclosed) (loaded half : Loaded) (notes : Notes) (d p : ℕ) (kept : HasWords e.buckets loaded) (deep : d ≡ min (side_depth e) 64) (side : p ≡ side_pattern e % 2 ^ 32)
     (is : (b : ℕ) → b < buckets → first_in half b ≡ copied_mark (first_in loaded b) (covered_set (first_in loaded) (key_in loaded) (key_hash e.site.geometry) d p b))
     (third : half.third ≡ loaded.third) (keys : half.keys ≡ loaded.keys) (made : (b : ℕ) → b < homes → IsRebuilt half notes (key_hash e.site.geometry) b) where
   abbrev hash : ℕ → ℕ

@@ -31,7 +31,8 @@ use Rattle.split_op.specs.declared.step.SplitStep.{SplitStep}
 use Rattle.split_op.specs.declared.step.SplitStep.TheVariants.{Take, Search, Count, Return, Look, Put, Release, Back, Ended}
 use Rattle.split_op.specs.declared.op.SplitOp.{SplitOp}
 use Rattle.split_op.specs.Copied.{side_head}
-use Rattle.split_op.specs.Batches.{slot_word, after_empty, copied_from, due, after}
+use Rattle.way.specs.Ways.{slot_word}
+use Rattle.split_op.specs.Batches.{after_empty, copied_from, due, after}
 use Rattle.split_op.specs.Steps.{last_slot, searched, finished, put_by, batch_after, stored, given_to, wanted_in, next_in}
 use Rattle.split_op.specs.Fits.{put_kind, kind_at, is_copied_end, hands_on_at, IsPutting, SuitsStep}
 use Rattle.split_op.specs.SplitPart.{is_new_batch, is_new_at, TakesFreeSlot, NewSlotStays}

@@ -6,6 +6,7 @@ use Rattle.std.proofs.lemmas.Bool.{cases_eq, eqb-false, eq-eqb, ne_eqb, not-true
 use Rattle.std.proofs.lemmas.Option.{none-some, same_Some}
 use Rattle.bucket_meta.specs.Bucket.{note_used, note_member, note_index, note_finger, overflow_count}
 use Rattle.bucket_meta.specs.Notes.{OverflowNote, AreExact, note_piece, notes_by}
+use Rattle.bucket_meta.specs.Search.{lowest_among}
 use Rattle.bucket_meta.specs.NoteWords.{is_unused, unused_place, raised_count, FillsPlace}
 use Rattle.bucket_meta.proofs.Counts.{same_pieces, changed_piece}
 use Rattle.bucket_meta.proofs.ExactNotes.{IsOneMore, one_more_by_sums, often_head}
@@ -29,6 +30,7 @@ unused_by w1 false false false true p q r s i e = subst (IsUnusedPlace w1) (same
 unused_by w1 false false false false p q r s i e = absurd (none-some i e)
 
 pub unused_is : (w1 i : ℕ) → unused_place w1 ≡ Some i → (note_used i w1 ≡ 0) × (i < 4)
+unfolding lowest_among
 unused_is w1 i e = unused_by w1 (is_unused w1 0) (is_unused w1 1) (is_unused w1 2) (is_unused w1 3) refl refl refl refl i e
 
 -- ---- a place that is filled

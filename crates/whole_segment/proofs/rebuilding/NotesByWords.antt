@@ -2,7 +2,7 @@
 use Rattle.std.proofs.Common.{◌≡◌, ℕ, ◌%◌, ◌^◌, ◌<◌, List, ◌++◌, slice_index, sym, ap, ◌∙◌, subst, arith, lit<}
 use Rattle.word_bits.specs.Bits.{bit, bits}
 use Rattle.bucket_meta.specs.declared.metadata.Meta.{Meta}
-use Rattle.bucket_meta.specs.Bucket.{note_used, note_member, note_index, note_finger, finger}
+use Rattle.bucket_meta.specs.Bucket.{note_used, note_member, note_index, note_finger, finger, KeepsRecords}
 use Rattle.bucket_meta.specs.MetaWords.{IsMetaOf}
 use Rattle.bucket_meta.specs.Notes.{OverflowNote, AreExact, note_piece, notes_by}
 use Rattle.bucket_meta.proofs.fields.FieldBits.{note_used_is, note_member_is, note_index_is}
@@ -11,7 +11,6 @@ use Rattle.stash.specs.Exact.{notes_at, IsExactFor}
 use Rattle.stash.specs.NoteSlots.{SameSlots}
 use Rattle.bucket_meta.proofs.Counts.{same_note_piece, same_pieces}
 use Rattle.image_layout.specs.Standing.{HasExactNotes}
-use Rattle.whole_segment.specs.Notes.{KeepsRecords}
 
 pub notes_are : (m : Meta) (w1 w2 w3 side : ℕ) → IsMetaOf m w1 w2 w3 → notes_at m side ≡ notes_by w1 w3 side
 notes_are m w1 w2 w3 side is =

@@ -12,6 +12,7 @@ use Rattle.bucket_meta.proofs.Counts.{same_pieces, changed_piece}
 use Rattle.stash.proofs.Pieces.{piece, piece_of_unused}
 use Rattle.stash.proofs.Buckets.{of_home_own, of_home_other}
 use Rattle.bucket_meta.proofs.ExactNotes.{IsOneMore, one_more_by_sums, more_left, more_right, exact_with_note, exact_with_count, exact_moves}
+use Rattle.bucket_meta.specs.Search.{lowest_among}
 use Rattle.whole_segment.specs.Rebuilding.{Overflow, no_overflow, unused_in, with_note, with_count, changed, noted_by, noted, all_noted}
 
 -- the notes of a bucket that are of one side
@@ -31,6 +32,7 @@ IsFound o (Some k) = (k < 4) × ((o.slots k).used ≡ 0)
 IsFound o None = Unit {0}
 
 found : (o : Overflow) → IsFound o (unused_in o)
+unfolding lowest_among
 found o = by ((o.slots 0).used == 0) ((o.slots 1).used == 0) ((o.slots 2).used == 0) ((o.slots 3).used == 0) refl refl refl refl
   where
     by : (a b c e : Bool) → ((o.slots 0).used == 0) ≡ a → ((o.slots 1).used == 0) ≡ b → ((o.slots 2).used == 0) ≡ c → ((o.slots 3).used == 0) ≡ e

@@ -13,6 +13,7 @@ use Rattle.hash_word.specs.Hash.{probing_of}
 use Rattle.stash.specs.NoteSlots.{NoteSlot, note_slot_at, filled_note_slot, IsUnused, IsLowest, HoldsNowhere, NoteSlotBecomes, CountBecomes, IsBare}
 use Rattle.stash.specs.Noted.{IsNotedIn, IsNotedInSegment, AreNotedInOrder, IsRebuilt}
 use Rattle.stash.specs.Segment.{Stashed, IsStashed, bucket}
+use Rattle.bucket_meta.specs.Search.{lowest_among}
 use Rattle.whole_segment.specs.Rebuilding.{Overflow, no_overflow, unused_in, with_note, with_count, changed, noted_by, noted, all_noted, first_with, third_with}
 
 -- a bucket says of the stash what is said here
@@ -81,6 +82,7 @@ module _ (m : Meta) (o : Overflow) (says : Says m o) where
       four_used (suc (suc (suc (suc j)))) low = absurd (omega (arith, low))
 
   finds : Finds m (unused_in o)
+  unfolding lowest_among
   finds = finds_by ((o.slots 0).used == 0) ((o.slots 1).used == 0) ((o.slots 2).used == 0) ((o.slots 3).used == 0) refl refl refl refl
 
 -- ---- one bucket changes

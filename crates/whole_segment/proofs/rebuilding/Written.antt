@@ -6,7 +6,7 @@ use Rattle.std.proofs.lemmas.Grind.{flat_map-append}
 use Rattle.std.proofs.lemmas.Nat.{shr-shr}
 use Rattle.word_bits.specs.Bits.{bit}
 use Rattle.std.proofs.lemmas.List.Elements.{All-nil, All-cons, All-append}
-use Rattle.bucket_meta.specs.Bucket.{allocated, note_used, note_member, note_index, note_finger, overflow_count, record_slots}
+use Rattle.bucket_meta.specs.Bucket.{allocated, note_used, note_member, note_index, note_finger, overflow_count, record_slots, KeepsRecords}
 use Rattle.bucket_meta.specs.Notes.{OverflowNote, numbers_below, AreExact, note_piece, notes_by}
 use Rattle.hash_word.specs.Hash.{probing_of}
 use Rattle.image_layout.specs.Places.{homes, stash_buckets}
@@ -15,7 +15,7 @@ use Rattle.bucket_meta.proofs.Counts.{same_note_piece, same_pieces}
 use Rattle.stash.proofs.Pieces.{piece}
 use Rattle.stash.proofs.Buckets.{of_home_at_most}
 use Rattle.image_layout.specs.Standing.{stashed_of, HasExactNotes}
-use Rattle.whole_segment.specs.Notes.{entry_of, entries_below, stash_entries, KeepsRecords}
+use Rattle.whole_segment.specs.Notes.{entry_of, entries_below, stash_entries}
 use Rattle.bucket_meta.specs.NoteWords.{four}
 use Rattle.whole_segment.specs.Rebuilding.{Overflow, no_overflow, first_with, third_with, rebuilt}
 use Rattle.whole_segment.proofs.StashLists.{entries_of_home}

@@ -6,6 +6,7 @@ use Rattle.std.proofs.lemmas.Option.{none-some, same_Some}
 use Rattle.bucket_meta.specs.Bucket.{note_used, note_member, note_index, note_finger, overflow_count}
 use Rattle.bucket_meta.specs.Notes.{OverflowNote, note_piece, notes_by}
 use Rattle.bucket_meta.specs.Visits.{is_note, is_named}
+use Rattle.bucket_meta.specs.Search.{lowest_among}
 use Rattle.bucket_meta.specs.NoteWords.{note_place, lowered_count, FreesPlace}
 use Rattle.bucket_meta.proofs.Counts.{same_pieces, changed_piece}
 use Rattle.bucket_meta.proofs.ExactNotes.{IsOneMore, one_more_by_sums}
@@ -54,6 +55,7 @@ finds_by w1 w3 side finger index false false false false p q r s = record {
 }
 
 pub finds_note : (w1 w3 side finger index : ℕ) → FindsNote w1 w3 side finger index (note_place w1 w3 side finger index)
+unfolding lowest_among
 finds_note w1 w3 side finger index = finds_by w1 w3 side finger index (is_note w1 w3 side finger index 0) (is_note w1 w3 side finger index 1) (is_note w1 w3 side finger index 2)
     (is_note w1 w3 side finger index 3) refl refl refl refl
 

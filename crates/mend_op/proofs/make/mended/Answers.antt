@@ -11,11 +11,11 @@ use Rattle.mend_op.proofs.make.mended.Goals as goal
 
 pub returns : goal.returns
 returns c =
-    let loaded = c.loaded_of.result in
+    let loaded = c.of_words.result in
     let rest = c.mended-mended in
     let cleared : ℕ → ℕ → ℕ → ℕ = λ d p b. cleared_mark (first_in loaded b) (spoiled_set (first_in loaded) (key_in loaded) (key_hash c.args.geometry.now) d p b) in
     let each : length rest.result.first ≡ buckets = rest.result.each_first in
-    all_mended c.args.words.now loaded c.loaded_of.ensures c.args.geometry.now c.args.head c.put.new.words c.put.array_long rest.result.first c.free_locks.new.words
+    all_mended c.args.words.now loaded c.of_words.ensures c.args.geometry.now c.args.head c.put.new.words c.put.array_long rest.result.first c.free_locks.new.words
     (λ b near. rest.ensures.is b near ∙ ap (λ d. cleared d c.pattern_of.result b) c.own_depth.ensures ∙ ap (λ p. cleared (own_depth c.args.head) p b) c.pattern_of.ensures)
     c.free_locks.ensures.here c.free_locks.ensures.others
     (λ b near. c.put.ensures.here b (omega (arith, near, each)))

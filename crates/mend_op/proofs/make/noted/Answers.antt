@@ -6,11 +6,11 @@ use Rattle.mend_op.proofs.make.noted.Goals as goal
 
 pub returns : goal.returns
 returns c head =
-    let loaded = c.loaded_of.result in
+    let loaded = c.of_words.result in
     let notes = c.rebuilt_notes-notes in
     let ones : length notes.result.first ≡ homes = search rules in
     let threes : length notes.result.third ≡ homes = search rules in
-    all_noted c.args.words.now loaded c.loaded_of.ensures c.args.geometry.now head c.put-2.new.words c.put-2.array_long notes.result.first notes.result.third c.put.new.words
+    all_noted c.args.words.now loaded c.of_words.ensures c.args.geometry.now head c.put-2.new.words c.put-2.array_long notes.result.first notes.result.third c.put.new.words
     (λ b home. (notes.ensures.is b home).0) (λ b home. (notes.ensures.is b home).1)
     (λ b home. c.put.ensures.here b (omega (arith, home, ones)))
     (λ i apart. c.put.ensures.others i (λ b low. apart b (omega (arith, low, ones))))

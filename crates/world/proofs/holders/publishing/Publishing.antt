@@ -4,7 +4,6 @@ use Rattle.trace.specs.Events.{Words, with_word}
 use Rattle.trace.proofs.Replaced.{replaced_other}
 use Rattle.segment_head.specs.HeadWord.{version_in, state_in, depth_in, pattern_in, normal}
 use Rattle.image_layout.specs.Places.{Shape, root_word, state_word}
-use Rattle.image_layout.specs.StateWord.{image_version_in}
 use Rattle.sound_image.specs.Segments.{Frame, frame_of, InOneSide}
 use Rattle.sound_image.specs.Records.{key_hash}
 use Rattle.frame_facts.specs.Stores.{GoesLive, StoreHandsOver}
@@ -85,8 +84,8 @@ module _ (site : Ground) (ground : IsGround site) (v : View) (s n x : ℕ) (word
     side : HasRecords shape word w n
     side = shown_records shape v word w n shows ready.side_buckets
 
-    version : version_in x ≡ image_version_in (w state_word)
-    version = is.version_is ∙ ready.new.version_is ∙ ap image_version_in (sym (structured.fixed state_word (omega arith) (λ e. omega (arith, e))))
+    version : version_in x ≡ version_in (w state_word)
+    version = is.version_is ∙ ready.new.version_is ∙ ap version_in (sym (structured.fixed state_word (omega arith) (λ e. omega (arith, e))))
 
     goes : GoesLive frame s n x
     goes = record {
@@ -99,7 +98,7 @@ module _ (site : Ground) (ground : IsGround site) (v : View) (s n x : ℕ) (word
       depth = one_more (depth_in x) (depth_in (w (header_word shape s))) (is.depth_is ∙ ready.new.depth_is ∙ ap (λ z. suc (depth_in z)) (sym head));
       pattern = is.pattern_is ∙ ready.new.pattern_is ∙ ap (λ z. 2 * pattern_in z + 1) (sym head);
       shallow = subst (λ g. depth_in (w (header_word shape s)) < g) (sym root) (subst (λ z. depth_in z < ready.root_depth) (sym head) ready.shallow);
-      past = no_more (version_in x) (image_version_in (w state_word)) version;
+      past = no_more (version_in x) (version_in (w state_word)) version;
     }
 
     row : IsRow site w (goes_live s) n x

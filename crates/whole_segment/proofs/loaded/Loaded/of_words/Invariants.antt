@@ -1,9 +1,8 @@
 -- The words of the buckets before this one are put.
 use Rattle.std.proofs.Common.{◌≡◌, ◌<◌, ℕ}
 use Rattle.bucket_meta.specs.Bucket.{record_slots}
-use Rattle.whole_segment.specs.Records.{first_in, third_in, key_in}
-use Rattle.mend_op.specs.Words.{first_of, third_of, key_of}
-use Rattle.mend_op.proofs.load.loaded_of.Given as goal
+use Rattle.whole_segment.specs.Records.{first_in, third_in, key_in, first_of, third_of, key_of}
+use Rattle.whole_segment.proofs.loaded.Loaded.of_words.Given as goal
 
 abbrev pub invariant-loop-bucket : goal.invariant-loop-bucket
 invariant-loop-bucket l = record {

@@ -1,6 +1,6 @@
 -- The lowest byte is the version.
 use Rattle.std.proofs.lemmas.Nat.{and_mask}
-use Rattle.segment_head.proofs.word.version_of.Goals as goal
+use Rattle.hash_word.proofs.version_of.Goals as goal
 
 pub returns : goal.returns
-returns c = and_mask c.args.h1 8
+returns c = and_mask c.args.word 8

@@ -1,6 +1,0 @@
--- The lowest byte is the version.
-use Rattle.std.proofs.lemmas.Nat.{and_mask}
-use Rattle.image_layout.proofs.state.version_of.Goals as goal
-
-pub returns : goal.returns
-returns c = and_mask c.args.state 8
