@@ -29,6 +29,7 @@ use Rattle.phase.specs.Makes.{make_wanted}
 use Rattle.phase.specs.Helds.{give_next, give_wanted_of}
 use Rattle.phase.specs.Buckets.{words_in}
 use Rattle.phase.specs.Giving.{IsLocated}
+use Rattle.phase.specs.Keeps.{IsOfCall}
 use Rattle.phase.proofs.asking.Asking.{lock_within}
 use Rattle.phase.proofs.Wanting.{number_of, take_small, give_small}
 use Rattle.phase.proofs.locks.Giving.{lock_at as lock_stands}
@@ -42,7 +43,7 @@ use Rattle.move_op.specs.declared.step.MoveStep.TheVariants.{Lock, Fill, CountSp
 use Rattle.move_op.specs.declared.step.MoveStep.TheVariants as step
 use Rattle.move_op.specs.Shifts.{source_of, target_of, shift_at, place_of, record_of}
 use Rattle.move_op.specs.Steps.{lock_of, lock_at, wanted_in}
-use Rattle.move_op.specs.Fits.{CanMove, IsShift, SuitsStep, MayMakeRoom}
+use Rattle.move_op.specs.Fits.{CanMove, IsShift, SuitsStep}
 use Rattle.move_op.proofs.shifting.Marks.{arrives}
 use Rattle.move_op.proofs.keeping.Storing.{slot_low, published_one}
 
@@ -53,28 +54,28 @@ pub record IsSmall (r : Record) : Type 0 where
   pub fingers : r.fingers < 2 ^ 64
   pub mark : r.mark < 2 ^ 64
 
-module _ (site : Ground) (here : Site) (call : Call) (kept : Kept) (may : MayMakeRoom site here call kept) where
+module _ (site : Ground) (here : Site) (call : Call) (kept : Kept) (whose : IsOfCall here call kept) where
   module _ (d : Direction) (from to : ℕ) (can : CanMove site kept d from to) where
     small_by : (leg : Leg) → IsSmall (record_of (shift_at kept d from to) leg)
     small_by Copy = record {
-      key = (may.buckets (source_of d)).small (4 + 2 * from);
-      value = (may.buckets (source_of d)).small (5 + 2 * from);
+      key = (whose.buckets (source_of d)).small (4 + 2 * from);
+      value = (whose.buckets (source_of d)).small (5 + 2 * from);
       fingers = finger_below (slice_index (words_in kept.buckets (target_of d)) (finger_place to)) to _ (subst (λ f. f < 256) (sym can.fingerprint) (omega arith));
-      mark = (arrives d (slice_index (words_in kept.buckets (target_of d)) 1) to ((may.buckets (target_of d)).small 1) can.to_low).fits;
+      mark = (arrives d (slice_index (words_in kept.buckets (target_of d)) 1) to ((whose.buckets (target_of d)).small 1) can.to_low).fits;
     }
     small_by Clear = record {
       key = omega arith;
       value = omega arith;
       fingers = omega arith;
-      mark = removed_fits (slice_index (words_in kept.buckets (source_of d)) 1) from ((may.buckets (source_of d)).small 1) can.from_low;
+      mark = removed_fits (slice_index (words_in kept.buckets (source_of d)) 1) from ((whose.buckets (source_of d)).small 1) can.from_low;
     }
     small_by Insert = record {
-      key = may.key;
-      value = may.value;
+      key = whose.key;
+      value = whose.value;
       fingers = finger_below (slice_index (words_in kept.buckets (source_of d)) (finger_place from)) from (finger_of kept.hash) (omega arith);
       mark =
           let w1 : ℕ = slice_index (words_in kept.buckets (source_of d)) 1 in
-          let small = removed_fits w1 from ((may.buckets (source_of d)).small 1) can.from_low in
+          let small = removed_fits w1 from ((whose.buckets (source_of d)).small 1) can.from_low in
           (arrives d (removed_mark w1 from) from small can.from_low).fits;
     }
 

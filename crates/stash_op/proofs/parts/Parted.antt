@@ -208,11 +208,11 @@ stash_is_part = record {
 pub begins_as_part : BeginsAsPart
 begins_as_part site here call kept v m k =
     let is : IsIn site kept = record { shape = k.holds.located.shape; hash = k.holds.hashed; leading = k.leads; insert = k.insert } in
-    let all = at_first_words kept (nothing kept) m.buckets kept.held.first in record {
-      same = m.same;
-      at = m.at;
+    let all = at_first_words kept (nothing kept) m.whose.buckets kept.held.first in record {
+      same = m.whose.same;
+      at = m.whose.at;
       is_in = is;
-      has = record { key = m.key; value = m.value; buckets = all.0; load = all.1 };
+      has = record { key = m.whose.key; value = m.whose.value; buckets = all.0; load = all.1 };
       view = begin_suits site kept v k m.thirds is;
     }
 
@@ -225,7 +225,7 @@ hands_on_all site here call op v st is =
     let e = full op.stage.step is in
     let all : SuitsStep site op.kept op.stage.seen (Ended (ends.NeedSplit e.0)) v = subst (λ z. SuitsStep site op.kept op.stage.seen z v) e.1 st.view in
     record {
-      may = record { same = st.same; at = st.at; key = st.has.key; value = st.has.value; buckets = st.has.buckets; thirds = all.0.thirds };
+      may = record { whose = record { same = st.same; at = st.at; key = st.has.key; value = st.has.value; buckets = st.has.buckets }; thirds = all.0.thirds };
       full = all.0;
       told = ap end_at e.1 ∙ ap (λ s. ends.NeedSplit s) all.1;
     }

@@ -271,11 +271,7 @@ pub hands_on_all : HandsOnAll
 hands_on_all site here call op v st is =
     let all : KeepsAll site (kept_of op) v × HasNoThird op.stage.seen.held = subst (λ s. SuitsStep site op.task op.stage.seen s v) (without op.stage.step is) st.view in
     record {
-      same = st.same;
-      at = st.at;
-      key = st.has.key;
-      value = st.has.value;
-      buckets = st.has.buckets;
+      whose = record { same = st.same; at = st.at; key = st.has.key; value = st.has.value; buckets = st.has.buckets };
       keeps = all.0;
       thirds = all.1;
     }
