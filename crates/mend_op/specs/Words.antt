@@ -2,7 +2,6 @@
 -- three stages: of a split that ends the records of the 1-side leave, then locks are free and spoiled records leave, and then notes are exact.
 use Rattle.std.specs.Prelude.{◌≡◌, ℕ, min, ◌+◌, ◌*◌, ◌/◌, ◌%◌, ◌<◌, ◌==◌, ◌&&◌, nat_lt, List, slice_index, if◌then◌else◌}
 use Rattle.bucket_meta.specs.Bucket.{record_slots, lock_place, mark_place, rest_place, first_key, without_lock, record_words}
-use Rattle.bucket_meta.specs.Marks.{cleared_mark}
 use Rattle.segment_head.specs.HeadWord.{depth_in, pattern_in, header_of, normal}
 use Rattle.hash_word.specs.Hash.{hash_bits}
 use Rattle.segment_head.specs.SplitHeads.{one_pattern_field}
@@ -11,8 +10,8 @@ use Rattle.image_layout.specs.Places.{Shape, homes, buckets, block}
 use Rattle.sound_image.specs.Records.{key_hash}
 use Rattle.whole_segment.specs.declared.loaded.Loaded.{Loaded}
 use Rattle.whole_segment.specs.Words.{word_of_bucket}
-use Rattle.whole_segment.specs.Records.{first_in, third_in, key_in, covered_set}
-use Rattle.whole_segment.specs.Mending.{spoiled_set}
+use Rattle.whole_segment.specs.Records.{first_in, third_in, key_in, uncovered_first}
+use Rattle.whole_segment.specs.Mending.{spoiled_set, without_spoiled}
 use Rattle.whole_segment.specs.Rebuilding.{Overflow, first_with, third_with, rebuilt}
 
 -- ---- headers
@@ -54,11 +53,11 @@ module _ (words : List ℕ) where
   module _ (shape : Shape) (head : ℕ) where
     -- word 1 of a bucket without the records of the 1-side
     abbrev pub halved_first : ℕ → ℕ
-    halved_first b = cleared_mark (first_of b) (covered_set first_of key_of (key_hash shape) (side_depth head) (side_pattern head) b)
+    halved_first = uncovered_first first_of key_of (key_hash shape) (side_depth head) (side_pattern head)
 
     -- without those that are spoiled
     abbrev pub mended_first : ℕ → ℕ
-    mended_first b = cleared_mark (first_of b) (spoiled_set first_of key_of (key_hash shape) (own_depth head) (pattern_in head) b)
+    mended_first = without_spoiled first_of (spoiled_set first_of key_of (key_hash shape) (own_depth head) (pattern_in head))
 
     -- the notes of each home, made anew of the records in the stash
     abbrev pub notes_of : ℕ → Overflow
