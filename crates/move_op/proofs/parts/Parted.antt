@@ -47,7 +47,7 @@ use Rattle.move_op.proofs.keeping.Storing.{storing}
 use Rattle.move_op.proofs.keeping.Areas.{no_areas}
 use Rattle.move_op.proofs.keeping.Stepping.{step_in}
 use Rattle.move_op.proofs.parts.Wording.{words_after, same_after}
-use Rattle.move_op.proofs.parts.Putting.{puts_word, asks_within}
+use Rattle.move_op.proofs.parts.Putting.{puts_in, asks_in}
 use Rattle.move_op.proofs.parts.Parting.{makes_in, stays_in, done_in, bare_in, few_in, flush_in, keeps_in, none_waits, on_in, planned_in}
 
 -- ---- EACH STEP
@@ -114,7 +114,7 @@ plans site here call op before v planned s h =
 -- it asks for words of the image
 module _ (site : Ground) (good : IsGround site) (kept : Kept) (v : View) where
   located_within : (s : MoveStep) → kept.site.geometry ≡ site.shape → SuitsStep site kept s v → IsWithin site.shape (wanted_in kept s)
-  located_within s shape suits = subst (λ (g : Shape). IsWithin g (wanted_in kept s)) shape (asks_within site kept (subst (λ (g : Shape). IsShape g) (sym shape) good.shape) v s suits)
+  located_within s shape suits = subst (λ (g : Shape). IsWithin g (wanted_in kept s)) shape (asks_in site kept (subst (λ (g : Shape). IsShape g) (sym shape) good.shape) v s suits)
 
   within_at : (s : MoveStep) → SuitsStep site kept s v → IsWithin site.shape (wanted_in kept s)
   within_at (Lock d t) suits = located_within (Lock d t) suits.0.holds.located.shape suits
@@ -147,7 +147,7 @@ move_is_part = record {
   ends = λ site here call op v st over closed on. bare_in site op.kept v op.step st.view over closed;
   time = record { falls = λ op a i. inl (move_falls op a i); most = λ op. most_at op.step };
   within = λ site here call op before v good s. within_at site good op.kept v op.step s.stands.view;
-  words = λ site here call op before v s. puts_word site here call op.kept s.stands.whose v op.step s.stands.view;
+  words = λ site here call op before v s. puts_in site here call op.kept s.stands.whose v op.step s.stands.view;
   flushes = record {
     most = λ op. few_in op.step;
     flushes = λ op a l is e. flush_in op.kept op.step a is (subst (λ (w : Want). HasFlush w) (sym e) tt);
