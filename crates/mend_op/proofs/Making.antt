@@ -1,9 +1,9 @@
 -- What is made of the loaded words of a segment is what is to be made of its words.
 use Rattle.std.proofs.Common.{◌≡◌, ◌≢◌, ℕ, zero, suc, ◌+◌, ◌*◌, ◌/◌, ◌%◌, ◌<◌, ◌≤◌, Bool, true, false, List, length, slice_index, inl, inr, refl, sym, ap, ◌∙◌, arith}
-use Rattle.std.specs.Prelude.{◌==◌, ◌&&◌, ◌||◌, not, nat_lt, if◌then◌else◌}
+use Rattle.std.specs.Prelude.{◌==◌, ◌&&◌, ◌||◌, not, if◌then◌else◌}
 use Rattle.std.proofs.lemmas.Bool.{cases_eq, cases_lt, eq-eqb, ne_eqb, lt-ltb, le-ltb}
 use Rattle.segment_head.specs.HeadWord.{pattern_in}
-use Rattle.hash_word.specs.Hash.{home_of, probing_of, top}
+use Rattle.hash_word.specs.Hash.{home_of, top}
 use Rattle.bucket_meta.specs.Bucket.{allocated, record_slots}
 use Rattle.bucket_meta.specs.Marks.{cleared_mark}
 use Rattle.image_layout.specs.Places.{Shape, homes, buckets, block, words_of_buckets}
@@ -15,6 +15,7 @@ use Rattle.whole_segment.specs.Mending.{is_spoiled, spoiled_set, without_spoiled
 use Rattle.whole_segment.specs.Rebuilding.{Overflow, first_with, third_with, rebuilt}
 use Rattle.whole_segment.proofs.Stashing.{set_same, uncovered_first_same, rebuilt_same}
 use Rattle.whole_segment.proofs.Words.{same_words}
+use Rattle.whole_segment.proofs.marking.Positions.{bucket_low}
 use Rattle.mend_op.specs.declared.stage.Stage.TheVariants.{Clear, Mend, Note}
 use Rattle.mend_op.specs.Stages.{made}
 use Rattle.mend_op.specs.Words.{side_depth, side_pattern, own_depth, mended_lock, first_of, third_of, key_of, HasWords, halved_first, mended_first, notes_of, halved, mended, noted}
@@ -22,19 +23,9 @@ use Rattle.mend_op.specs.Words.{side_depth, side_pattern, own_depth, mended_lock
 -- ---- spoiled records, by words that are the same
 module _ (first later_first : ℕ → ℕ) (key later_key : ℕ → ℕ → ℕ) (hash : ℕ → ℕ) (words : (b : ℕ) → b < buckets → later_first b ≡ first b)
     (keys : (b r : ℕ) → b < buckets → r < record_slots → later_key b r ≡ key b r) where
-  -- each position is in a bucket of the segment
-  position_by : (home p : ℕ) (near middle far : Bool) → home < homes → (if near then home else if middle then probing_of home else if far then homes else homes + 1) < buckets
-  position_by home p true middle far low = omega (arith, low)
-  position_by home p false true far low = omega arith
-  position_by home p false false true low = omega arith
-  position_by home p false false false low = omega arith
-
-  position_near : (home p : ℕ) → home < homes → bucket_at home p < buckets
-  position_near home p low = position_by home p (nat_lt p 14) (nat_lt p 28) (nat_lt p 42) low
-
   at_same : (home k p : ℕ) → home < homes → is_at later_first later_key home k p ≡ is_at first key home k p
   at_same home k p low =
-      let near : bucket_at home p < buckets = position_near home p low in
+      let near : bucket_at home p < buckets = bucket_low home low p in
       let slot : slot_at p < record_slots = omega arith in
       ap (λ (x : ℕ). (allocated (slot_at p) x == 1) && (later_key (bucket_at home p) (slot_at p) == k)) (words (bucket_at home p) near)
       ∙ ap (λ (x : ℕ). (allocated (slot_at p) (first (bucket_at home p)) == 1) && (x == k)) (keys (bucket_at home p) (slot_at p) near slot)
