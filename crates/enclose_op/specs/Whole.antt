@@ -15,6 +15,7 @@ use Rattle.whole_segment.specs.Words.{word_of_bucket}
 use Rattle.whole_segment.specs.Records.{covered_set, first_of, third_of, key_of}
 use Rattle.whole_segment.specs.Room.{has_no_room}
 use Rattle.bucket_words.specs.Hits.{Hit}
+use Rattle.bucket_words.specs.Standing.{KeysStandOnce}
 use Rattle.world.specs.DeadSlots.{IsInSlot}
 use Rattle.map_model.specs.declared.call.Call.{Call}
 use Rattle.map_model.specs.Changes.{call_of}
@@ -90,7 +91,7 @@ pub record IsWhole (site : Ground) (e : Enclosed) : Type 0 where
   pub small : (i : ℕ) → slice_index e.buckets i < 2 ^ 64
   pub shallow : depth_in e.head < site.shape.depth
   pub no_room : has_no_room (kept_first e) (home_of e.hash) ≡ true
-  pub once : (b r c t k : ℕ) → Hit site.shape (kept_words e) e.segment b r k → Hit site.shape (kept_words e) e.segment c t k → (b ≡ c) × (r ≡ t)
+  pub once : KeysStandOnce site.shape (kept_words e) e.segment
   pub own : (b r k : ℕ) → Hit site.shape (kept_words e) e.segment b r k → Covers (depth_in e.head) (pattern_in e.head) (key_hash site.shape k)
 
 -- ---- what a view holds of it

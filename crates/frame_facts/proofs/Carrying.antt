@@ -7,10 +7,10 @@ use Rattle.trace.proofs.Replaced.{replaced_same, replaced_other}
 use Rattle.segment_head.specs.HeadWord.{version_in}
 use Rattle.image_layout.specs.Places.{Shape, root_word, entry_at, head_at}
 use Rattle.bucket_words.specs.Segments.{frame_of, depth_at}
-use Rattle.bucket_words.specs.Claims.{Claims, named_for}
+use Rattle.bucket_words.specs.Claims.{Claims, named_for, ClaimsAll}
 use Rattle.bucket_words.specs.Media.{first_hash}
 use Rattle.bucket_words.specs.Stores.{GoesOn}
-use Rattle.frame_facts.specs.Facts.{Fact, Lives, Current, Rooted, Owns, Lacks, Deep, Begins, Used, Taken, IsLiveSlot, IsCurrentSlot, IsNewSide, IsUsedSlot, IsTakenSlot, ClaimsAll, HoldsFact}
+use Rattle.frame_facts.specs.Facts.{Fact, Lives, Current, Rooted, Owns, Lacks, Deep, Begins, Used, Taken, IsLiveSlot, IsCurrentSlot, IsNewSide, IsUsedSlot, IsTakenSlot, HoldsFact}
 use Rattle.frame_facts.specs.Keeping.{IsEntry, KeepsFact}
 
 -- all that facts look at but the claims that one may lose, and the slots that are taken

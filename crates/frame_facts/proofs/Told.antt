@@ -6,14 +6,14 @@ use Rattle.segment_head.specs.HeadWord.{version_in, normal, splitting, HasLiveSt
 use Rattle.trace.specs.Events.{Words}
 use Rattle.image_layout.specs.Places.{Shape, IsShape, root_word, entry_at, head_at}
 use Rattle.bucket_words.specs.Segments.{Frame, frame_of, state_at, depth_at, pattern_at, IsLive, IsLiveFor, InOneSide, IsReadySide, HasReadySide}
-use Rattle.bucket_words.specs.Claims.{named_for, IsSideEntry, IsSoundFrame, HasSoundFrame}
+use Rattle.bucket_words.specs.Claims.{named_for, IsSideEntry, IsSoundFrame, HasSoundFrame, ClaimsAll, ClaimsNone}
 use Rattle.bucket_words.specs.Media.{first_hash, IsSteady}
 use Rattle.bucket_words.specs.Stores.{HandsOver, NamesClaimer, NamesSide}
 use Rattle.bucket_words.proofs.frames.Regions.{fewer, top_below, first, top_of_first, first_fits, next_top_of_first, less_top}
 use Rattle.bucket_words.proofs.frames.SideEntries.{side_entry}
 use Rattle.bucket_words.proofs.frames.SoundFrames.{way_begins, first_covered, live_low, nested_side}
 use Rattle.bucket_words.proofs.Media.{deeper_there, ready_now, ready_there}
-use Rattle.frame_facts.specs.Facts.{Lives, Current, Rooted, Begins, IsLiveSlot, ClaimsAll, ClaimsNone, NamesDeeper, HoldsFact}
+use Rattle.frame_facts.specs.Facts.{Lives, Current, Rooted, Begins, IsLiveSlot, NamesDeeper, HoldsFact}
 
 -- HEADERS
 pub current_told : (shape : Shape) (version : ℕ) (words medium : Words) (s : ℕ) → s < shape.segments → HasLiveState (words (head_at shape s + 1))

@@ -6,7 +6,7 @@ use Rattle.segment_head.specs.HeadWord.{version_in, free, splitting, fresh, link
 use Rattle.segment_head.specs.Prefixes.{pattern_of_one_side}
 use Rattle.image_layout.specs.Places.{Shape, root_word, entry_at}
 use Rattle.bucket_words.specs.Segments.{Frame, frame_of, state_at, depth_at, pattern_at, IsLive}
-use Rattle.bucket_words.specs.Claims.{Claims, named_for}
+use Rattle.bucket_words.specs.Claims.{ClaimsAll, ClaimsNone, named_for}
 use Rattle.bucket_words.specs.Media.{first_hash}
 
 -- A FACT. A region is the hashes whose top bits, as many as its depth says, are its pattern
@@ -60,13 +60,6 @@ module _ (frame : Frame) where
   pub record IsTakenSlot (n : ℕ) : Type 0 where
     pub slot : n < frame.segments
     pub taken : state_at frame n ≢ free
-
-  -- a segment claims each hash of a region, or none
-  abbrev pub ClaimsAll : ℕ → ℕ → ℕ → Type 0
-  ClaimsAll s depth pattern = (h : ℕ) → h < 2 ^ 64 → Covers depth pattern h → Claims frame s h
-
-  abbrev pub ClaimsNone : ℕ → ℕ → ℕ → Type 0
-  ClaimsNone s depth pattern = (h : ℕ) → h < 2 ^ 64 → Covers depth pattern h → Claims frame s h → ⊥
 
   -- the entries of a region name segments that are deeper than this
   abbrev pub NamesDeeper : ℕ → ℕ → ℕ → Type 0

@@ -1,11 +1,18 @@
 -- In which bucket of a segment a record of a key may stand, and what its homes have in the stash.
-use Rattle.std.specs.Prelude.{◌≡◌, ℕ, ◌+◌, ◌≤◌, ◌==◌, ◌&&◌, ◌⊎◌, List, [], ◌∷◌, ◌++◌, if◌then◌else◌}
+use Rattle.std.specs.Prelude.{◌≡◌, ℕ, zero, suc, ◌+◌, ◌≤◌, ◌==◌, ◌&&◌, ◌⊎◌, List, [], ◌∷◌, ◌++◌, if◌then◌else◌}
 use Rattle.std.specs.List.{flat_map}
 use Rattle.hash_word.specs.Hash.{home_of, finger_of, probing_of}
 use Rattle.bucket_meta.specs.Bucket.{allocated, overflow_count, record_slots, home_side, probing_side, first_stash_index, second_stash_index}
 use Rattle.bucket_meta.specs.Notes.{OverflowNote, numbers_below, notes_by, AreExact}
-use Rattle.image_layout.specs.Places.{Shape, homes}
+use Rattle.image_layout.specs.Places.{Shape, homes, second_stash}
 use Rattle.image_layout.specs.Keys.{key_hash}
+
+-- THE BUCKETS OF A KEY of this home, in the order in which it is looked for: home, probing bucket, first and second stash bucket
+abbrev pub looked_at : (home n : ℕ) → ℕ
+looked_at home zero = home
+looked_at home (suc zero) = probing_of home
+looked_at home (suc (suc zero)) = homes
+looked_at home (suc (suc (suc n))) = second_stash
 
 -- a record of key k with this membership bit may stand in bucket b: in its home without the bit, in its probing bucket with
 -- it, or in the stash

@@ -1,20 +1,21 @@
 -- What is made of the loaded words of a segment is what is to be made of its words.
 use Rattle.std.proofs.Common.{◌≡◌, ◌≢◌, ℕ, zero, suc, ◌+◌, ◌*◌, ◌/◌, ◌%◌, ◌<◌, ◌≤◌, Bool, true, false, List, length, slice_index, inl, inr, refl, sym, ap, ◌∙◌, arith}
-use Rattle.std.specs.Prelude.{◌==◌, ◌&&◌, ◌||◌, not, nat_lt, if◌then◌else◌}
+use Rattle.std.specs.Prelude.{◌==◌, ◌&&◌, ◌||◌, not, if◌then◌else◌}
 use Rattle.std.proofs.lemmas.Bool.{cases_eq, cases_lt, eq-eqb, ne_eqb, lt-ltb, le-ltb}
 use Rattle.segment_head.specs.HeadWord.{pattern_in}
-use Rattle.hash_word.specs.Hash.{home_of, probing_of, top}
+use Rattle.hash_word.specs.Hash.{home_of, top}
 use Rattle.bucket_meta.specs.Bucket.{allocated, record_slots}
 use Rattle.bucket_meta.specs.Marks.{cleared_mark}
 use Rattle.image_layout.specs.Places.{Shape, homes, buckets, block, words_of_buckets}
 use Rattle.sound_image.specs.Records.{key_hash}
 use Rattle.whole_segment.specs.declared.loaded.Loaded.{Loaded}
-use Rattle.whole_segment.specs.Records.{first_in, third_in, key_in, covered_set, HasWords}
+use Rattle.whole_segment.specs.Records.{first_in, third_in, key_in, uncovered_first, HasWords}
 use Rattle.whole_segment.specs.Order.{bucket_at, slot_at, position_of, own_home, own_position, is_at, is_below, stands_before}
-use Rattle.whole_segment.specs.Mending.{is_spoiled, spoiled_set}
+use Rattle.whole_segment.specs.Mending.{is_spoiled, spoiled_set, without_spoiled}
 use Rattle.whole_segment.specs.Rebuilding.{Overflow, first_with, third_with, rebuilt}
-use Rattle.whole_segment.proofs.Stashing.{set_same, covered_same, rebuilt_same}
+use Rattle.whole_segment.proofs.Stashing.{set_same, uncovered_first_same, rebuilt_same}
 use Rattle.whole_segment.proofs.Words.{same_words}
+use Rattle.whole_segment.proofs.marking.Positions.{bucket_low}
 use Rattle.mend_op.specs.declared.stage.Stage.TheVariants.{Clear, Mend, Note}
 use Rattle.mend_op.specs.Stages.{made}
 use Rattle.mend_op.specs.Words.{side_depth, side_pattern, own_depth, mended_lock, first_of, third_of, key_of, halved_first, mended_first, notes_of, halved, mended, noted}
@@ -22,19 +23,9 @@ use Rattle.mend_op.specs.Words.{side_depth, side_pattern, own_depth, mended_lock
 -- ---- spoiled records, by words that are the same
 module _ (first later_first : ℕ → ℕ) (key later_key : ℕ → ℕ → ℕ) (hash : ℕ → ℕ) (words : (b : ℕ) → b < buckets → later_first b ≡ first b)
     (keys : (b r : ℕ) → b < buckets → r < record_slots → later_key b r ≡ key b r) where
-  -- each position is in a bucket of the segment
-  position_by : (home p : ℕ) (near middle far : Bool) → home < homes → (if near then home else if middle then probing_of home else if far then homes else homes + 1) < buckets
-  position_by home p true middle far low = omega (arith, low)
-  position_by home p false true far low = omega arith
-  position_by home p false false true low = omega arith
-  position_by home p false false false low = omega arith
-
-  position_near : (home p : ℕ) → home < homes → bucket_at home p < buckets
-  position_near home p low = position_by home p (nat_lt p 14) (nat_lt p 28) (nat_lt p 42) low
-
   at_same : (home k p : ℕ) → home < homes → is_at later_first later_key home k p ≡ is_at first key home k p
   at_same home k p low =
-      let near : bucket_at home p < buckets = position_near home p low in
+      let near : bucket_at home p < buckets = bucket_low home low p in
       let slot : slot_at p < record_slots = omega arith in
       ap (λ (x : ℕ). (allocated (slot_at p) x == 1) && (later_key (bucket_at home p) (slot_at p) == k)) (words (bucket_at home p) near)
       ∙ ap (λ (x : ℕ). (allocated (slot_at p) (first (bucket_at home p)) == 1) && (x == k)) (keys (bucket_at home p) (slot_at p) near slot)
@@ -67,13 +58,10 @@ module _ (words : List ℕ) (loaded : Loaded) (has : HasWords words loaded) (sha
   abbrev hash : ℕ → ℕ
   hash = key_hash shape
 
-  halved_is : (b : ℕ) → b < buckets → cleared_mark (first_in loaded b) (covered_set (first_in loaded) (key_in loaded) hash (side_depth head) (side_pattern head) b) ≡ halved_first words shape head b
-  halved_is b near =
-      ap (λ (w : ℕ). cleared_mark w (covered_set (first_in loaded) (key_in loaded) hash (side_depth head) (side_pattern head) b)) (has.first b near)
-      ∙ ap (cleared_mark (first_of words b))
-      (covered_same (first_of words) (first_in loaded) (key_of words) (key_in loaded) hash (side_depth head) (side_pattern head) b (has.first b near) (λ r low. has.keys b r near low))
+  halved_is : (b : ℕ) → b < buckets → uncovered_first (first_in loaded) (key_in loaded) hash (side_depth head) (side_pattern head) b ≡ halved_first words shape head b
+  halved_is b near = uncovered_first_same (first_of words) (first_in loaded) (key_of words) (key_in loaded) hash (side_depth head) (side_pattern head) b (has.first b near) (λ r low. has.keys b r near low)
 
-  mended_is : (b : ℕ) → b < buckets → cleared_mark (first_in loaded b) (spoiled_set (first_in loaded) (key_in loaded) hash (own_depth head) (pattern_in head) b) ≡ mended_first words shape head b
+  mended_is : (b : ℕ) → b < buckets → without_spoiled (first_in loaded) (spoiled_set (first_in loaded) (key_in loaded) hash (own_depth head) (pattern_in head)) b ≡ mended_first words shape head b
   mended_is b near =
       ap (λ (w : ℕ). cleared_mark w (spoiled_set (first_in loaded) (key_in loaded) hash (own_depth head) (pattern_in head) b)) (has.first b near)
       ∙ ap (cleared_mark (first_of words b)) (spoiled_same (first_of words) (first_in loaded) (key_of words) (key_in loaded) hash has.first has.keys (own_depth head) (pattern_in head) b near)
@@ -94,7 +82,7 @@ module _ (words : List ℕ) (loaded : Loaded) (has : HasWords words loaded) (sha
     at_number i n is = ap (slice_index next) (number_is i n is)
 
     -- without the records of the 1-side
-    module _ (first : List ℕ) (is : (b : ℕ) → b < buckets → slice_index first b ≡ cleared_mark (first_in loaded b) (covered_set (first_in loaded) (key_in loaded) hash (side_depth head) (side_pattern head) b))
+    module _ (first : List ℕ) (is : (b : ℕ) → b < buckets → slice_index first b ≡ uncovered_first (first_in loaded) (key_in loaded) hash (side_depth head) (side_pattern head) b)
         (here : (b : ℕ) → b < buckets → slice_index next (block * b + 1) ≡ slice_index first b)
         (others : (i : ℕ) → ((b : ℕ) → b < buckets → i ≢ block * b + 1) → slice_index next i ≡ slice_index words i) where
       halved_word : (i : ℕ) → i < words_of_buckets → slice_index next i ≡ halved words shape head i
@@ -110,7 +98,7 @@ module _ (words : List ℕ) (loaded : Loaded) (has : HasWords words loaded) (sha
       all_halved = same_words words_of_buckets (halved words shape head) next long halved_word
 
     -- with free locks, and without spoiled records
-    module _ (first mid : List ℕ) (is : (b : ℕ) → b < buckets → slice_index first b ≡ cleared_mark (first_in loaded b) (spoiled_set (first_in loaded) (key_in loaded) hash (own_depth head) (pattern_in head) b))
+    module _ (first mid : List ℕ) (is : (b : ℕ) → b < buckets → slice_index first b ≡ without_spoiled (first_in loaded) (spoiled_set (first_in loaded) (key_in loaded) hash (own_depth head) (pattern_in head)) b)
         (locks : (b : ℕ) → b < buckets → slice_index mid (block * b) ≡ mended_lock (slice_index words (block * b)))
         (no_locks : (i : ℕ) → ((b : ℕ) → b < buckets → i ≢ block * b) → slice_index mid i ≡ slice_index words i)
         (here : (b : ℕ) → b < buckets → slice_index next (block * b + 1) ≡ slice_index first b)

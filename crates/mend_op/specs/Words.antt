@@ -2,16 +2,15 @@
 -- three stages: of a split that ends the records of the 1-side leave, then locks are free and spoiled records leave, and then notes are exact.
 use Rattle.std.specs.Prelude.{ℕ, min, ◌/◌, ◌%◌, ◌==◌, ◌&&◌, nat_lt, List, slice_index, if◌then◌else◌}
 use Rattle.bucket_meta.specs.Bucket.{lock_place, mark_place, rest_place, without_lock}
-use Rattle.bucket_meta.specs.Marks.{cleared_mark}
 use Rattle.segment_head.specs.HeadWord.{depth_in, pattern_in, header_of, normal}
 use Rattle.hash_word.specs.Hash.{hash_bits}
 use Rattle.segment_head.specs.SplitHeads.{one_pattern_field}
 pub use Rattle.segment_head.specs.SplitHeads.{side_depth}
 use Rattle.image_layout.specs.Places.{Shape, homes, block}
 use Rattle.sound_image.specs.Records.{key_hash}
-use Rattle.whole_segment.specs.Records.{covered_set}
+use Rattle.whole_segment.specs.Records.{uncovered_first}
 pub use Rattle.whole_segment.specs.Records.{first_of, third_of, key_of}
-use Rattle.whole_segment.specs.Mending.{spoiled_set}
+use Rattle.whole_segment.specs.Mending.{spoiled_set, without_spoiled}
 use Rattle.whole_segment.specs.Rebuilding.{Overflow, first_with, third_with, rebuilt}
 
 -- ---- headers
@@ -37,11 +36,11 @@ module _ (words : List ℕ) where
   module _ (shape : Shape) (head : ℕ) where
     -- word 1 of a bucket without the records of the 1-side
     abbrev pub halved_first : ℕ → ℕ
-    halved_first b = cleared_mark (first_of words b) (covered_set (first_of words) (key_of words) (key_hash shape) (side_depth head) (side_pattern head) b)
+    halved_first = uncovered_first (first_of words) (key_of words) (key_hash shape) (side_depth head) (side_pattern head)
 
     -- without those that are spoiled
     abbrev pub mended_first : ℕ → ℕ
-    mended_first b = cleared_mark (first_of words b) (spoiled_set (first_of words) (key_of words) (key_hash shape) (own_depth head) (pattern_in head) b)
+    mended_first = without_spoiled (first_of words) (spoiled_set (first_of words) (key_of words) (key_hash shape) (own_depth head) (pattern_in head))
 
     -- the notes of each home, made anew of the records in the stash
     abbrev pub notes_of : ℕ → Overflow

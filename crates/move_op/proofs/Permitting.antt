@@ -40,6 +40,7 @@ use Rattle.phase.proofs.locks.Giving.{known_lock, held_has, give_stands}
 use Rattle.phase.proofs.locks.Making.{make_knows}
 use Rattle.phase.proofs.locks.Finding.{holders_find}
 use Rattle.phase.specs.Makes.{brought}
+use Rattle.phase.specs.Keeps.{IsOfCall}
 use Rattle.move_op.specs.declared.step.Direction.{Direction}
 use Rattle.move_op.specs.declared.step.Direction.TheVariants.{Forward, Backward}
 use Rattle.move_op.specs.declared.step.Shift.{Shift}
@@ -50,7 +51,7 @@ use Rattle.move_op.specs.declared.step.MoveStep.TheVariants.{Lock, Fill, CountSp
 use Rattle.move_op.specs.declared.step.MoveStep.TheVariants as step
 use Rattle.move_op.specs.Shifts.{source_of, target_of, home_place, shift_at, place_of, record_of}
 use Rattle.move_op.specs.Steps.{lock_of, lock_at, wanted_in}
-use Rattle.move_op.specs.Fits.{with_copy_ready, with_copy, with_insert_ready, with_insert, words_first, words_ready, moved, leg_kind, kind_at, CanMove, HoldsAll, IsPrepared, IsShifting, IsDrawing, SuitsStep, MayMakeRoom}
+use Rattle.move_op.specs.Fits.{with_copy_ready, with_copy, with_insert_ready, with_insert, words_first, words_ready, moved, leg_kind, kind_at, CanMove, HoldsAll, IsPrepared, IsShifting, IsDrawing, SuitsStep}
 use Rattle.move_op.proofs.shifting.Beside.{at_is, apart}
 use Rattle.move_op.proofs.shifting.Stored.{leaves, copy_fits, copy_ready, copy_value, copy_takes, source_ready, source_stands, copy_stood, clear_frees, insert_fits, insert_ready, insert_value, insert_takes, insert_stood}
 use Rattle.move_op.proofs.shifting.Nowhere.{insert_nowhere}
@@ -231,12 +232,12 @@ spent_may : (site : Ground) (kept : Kept) (v : View) → FoundSpent v → May si
 spent_may site kept v spent = (refl, inl (λ a. change_by kept.change.key kept.change.effect), (λ m words newest map. tt), (λ is. spent), (λ full. absurd (let e : reply.Spent ≡ reply.Full = full in cc)))
 
 -- EACH STEP MAY BE TAKEN
-module _ (site : Ground) (here : Site) (call : Call) (kept : Kept) (may : MayMakeRoom site here call kept) (v : View) where
+module _ (site : Ground) (here : Site) (call : Call) (kept : Kept) (whose : IsOfCall here call kept) (v : View) where
   pub may_in : (s : MoveStep) → SuitsStep site kept s v → wanted_in kept s ≢ want.Done → May site (kind_at kept s) v
   may_in (Lock d t) suits asks = take_fits.may site (lock_of kept (target_of d)) t v (known_lock site kept.site kept.hash kept.segment (target_of d) v suits.0.holds.located.shape suits.0.holds.there) suits.2
   may_in (Fill d load) suits asks = fill_guard site kept v d load suits
   may_in CountSpent suits asks = spent_may site kept v suits.1
-  may_in (step.Make shift leg m) suits asks = make_may site kept v may.buckets shift leg m suits
-  may_in (Draw shift) suits asks = draw_may site kept v may.buckets shift suits
+  may_in (step.Make shift leg m) suits asks = make_may site kept v whose.buckets shift leg m suits
+  may_in (Draw shift) suits asks = draw_may site kept v whose.buckets shift suits
   may_in (Give held end) suits asks = give_stands.may site kept.site kept.hash kept.segment held v suits.locks suits.quiet
   may_in (Ended end) suits asks = absurd (asks refl)

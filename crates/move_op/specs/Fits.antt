@@ -1,5 +1,5 @@
 -- How a displacement fits the world: the kind of each of its events, and the view that its caller has in each step.
-use Rattle.std.specs.Prelude.{◌≡◌, ◌≢◌, ℕ, ◌+◌, ◌%◌, ◌^◌, ◌<◌, ⊤, true, Option, None, Some, List, [], ◌∷◌, slice_index}
+use Rattle.std.specs.Prelude.{◌≡◌, ◌≢◌, ℕ, ◌+◌, ◌%◌, ◌<◌, ⊤, true, Option, None, Some, List, [], ◌∷◌, slice_index}
 use Rattle.bucket_meta.specs.Bucket.{allocated, finger, record_slots, mark_place, fingers_place, rest_place, key_place}
 use Rattle.hash_word.specs.Hash.{home_of, finger_of}
 use Rattle.trace.specs.Events.{Words}
@@ -31,9 +31,8 @@ use Rattle.phase.specs.Giving.{IsLocated, IsHeld, IsQuiet, IsOfHeld, HoldsLocks,
 use Rattle.phase.specs.Knows.{Knows, HasNoneLoose, IsWhole}
 use Rattle.phase.specs.Making.{make_kind, with_record, with_mark, IsNew, IsMaking}
 use Rattle.phase.specs.Finding.{StandsNowhere}
-use Rattle.phase.specs.Keeps.{kept_words, IsFull, KeepsAll, HoldsThirds, HasNoThird}
+use Rattle.phase.specs.Keeps.{IsOfCall, kept_words, IsFull, KeepsAll, HoldsThirds, HasNoThird}
 use Rattle.phase.specs.AreWords.{AreWords}
-use Rattle.phase.specs.Makes.{brought}
 use Rattle.phase.specs.Endings.{outcome_then}
 use Rattle.move_op.specs.declared.step.MoveEnd.{MoveEnd}
 use Rattle.move_op.specs.declared.step.MoveEnd.TheVariants as ends
@@ -234,23 +233,15 @@ module _ (site : Ground) (kept : Kept) where
   SuitsStep (Give held end) v = IsGiving held v
   SuitsStep (Ended end) v = SuitsEnd end v
 
--- ---- where it may run
--- what an insert keeps of this call, whose key and value are words, and so are those of its buckets
-pub record MayMakeRoom (site : Ground) (here : Site) (call : Call) (kept : Kept) : Type 0 where
-  pub same : call_of kept.change ≡ call
-  pub at : kept.site ≡ here
-  pub key : kept.change.key < 2 ^ 64
-  pub value : brought kept.change.effect < 2 ^ 64
-  pub buckets : (place : Role) → AreWords (words_in kept.buckets place)
-
--- and what is loaded
+-- ---- how it stands
+-- what is loaded are words
 abbrev pub HasWordsAt : MoveStep → Type 0
 HasWordsAt (Fill direction load) = AreWords load.words
 HasWordsAt more = ⊤
 
--- it makes the call's insert
+-- what it keeps is the call's
 pub record MoveStands (site : Ground) (here : Site) (call : Call) (op : MoveOp) (v : View) : Type 0 where
-  pub may : MayMakeRoom site here call op.kept
+  pub whose : IsOfCall here call op.kept
   pub load : HasWordsAt op.step
   pub view : SuitsStep site op.kept op.step v
 

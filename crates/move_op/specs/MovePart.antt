@@ -13,7 +13,7 @@ use Rattle.phase.specs.declared.role.Role.TheVariants.{Next}
 use Rattle.phase.specs.declared.kept.Kept.{Kept}
 use Rattle.phase.specs.Stands.{IsLoading}
 use Rattle.phase.specs.Taking.{RemembersTake}
-use Rattle.phase.specs.Keeps.{KeepsAll, HoldsThirds, HasNoThird, WasLoaded, ChangedLocks, RemembersRoom}
+use Rattle.phase.specs.Keeps.{IsOfCall, KeepsAll, HoldsThirds, HasNoThird, WasLoaded, ChangedLocks, RemembersRoom}
 use Rattle.phase.specs.Third.{NothingToMove}
 use Rattle.phase.specs.Making.{most_waiting}
 use Rattle.move_op.specs.declared.step.MoveEnd.TheVariants.{NoMove}
@@ -29,7 +29,7 @@ use Rattle.move_op.specs.Shifts.{target_of}
 use Rattle.move_op.specs.Order.{IsInOrder}
 use Rattle.move_op.specs.Steps.{begun, wanted, taken, lock_of, is_without_move}
 use Rattle.move_op.specs.Left.{most_events, left_at, waiting_at, HasMadeAt}
-use Rattle.move_op.specs.Fits.{kind_at, MayMakeRoom, MoveStands, outcome_at}
+use Rattle.move_op.specs.Fits.{kind_at, MoveStands, outcome_at}
 
 -- ---- what it remembers of what its attempt did
 module _ (site : Ground) (kept : Kept) (did : Doings) where
@@ -74,7 +74,7 @@ move_part = record {
 -- ---- where it begins
 -- with what an insert kept that found no slot: its locks are held, but for those of the third buckets, and what they say is known
 abbrev pub MoveBeginsAsPart : Type 0
-MoveBeginsAsPart = (site : Ground) (here : Site) (call : Call) (kept : Kept) (v : View) → MayMakeRoom site here call kept → KeepsAll site kept v → HasNoThird kept.held
+MoveBeginsAsPart = (site : Ground) (here : Site) (call : Call) (kept : Kept) (v : View) → IsOfCall here call kept → KeepsAll site kept v → HasNoThird kept.held
     → MoveStands site here call (begun kept) v
 
 -- with what such an attempt remembers
@@ -89,7 +89,7 @@ MoveBeginsUndecided = (kept : Kept) → outcome_at (begun kept).step ≡ None
 -- attempt loaded the words of both third buckets, by which no record can move
 pub record MoveHandsOnAll : Type 0 where
   pub keeps : (site : Ground) (here : Site) (call : Call) (op : MoveOp) (v : View) → MoveStands site here call op v → is_without_move op.step ≡ true
-      → MayMakeRoom site here call op.kept × KeepsAll site op.kept v × HoldsThirds op.kept.held
+      → IsOfCall here call op.kept × KeepsAll site op.kept v × HoldsThirds op.kept.held
   pub remembers : (site : Ground) (op : MoveOp) (did : Doings) → Remembers site op did → is_without_move op.step ≡ true
       → RemembersRoom site op.kept did.loads × ChangedLocks op.kept did.changed × NothingToMove op.kept did.loads
 

@@ -1,6 +1,6 @@
 -- What machines cite that go on from one another with their locks: which replies are entered, what locks that are given back leave of
 -- them, that nothing is loose where nothing is unsettled, that no segment is told stale then, and that a change speaks of its key.
-use Rattle.std.proofs.Common.{◌≡◌, ℕ, suc, ◌≤◌, cond, false, Option, None, Some, List, [], ◌∷◌, ◌++◌, length, inl, inr, refl, sym, ap, ◌∙◌, subst, arith}
+use Rattle.std.proofs.Common.{◌≡◌, ℕ, suc, ◌≤◌, cond, true, false, Option, None, Some, List, [], ◌∷◌, ◌++◌, length, inl, inr, refl, sym, ap, ◌∙◌, subst, arith}
 use Rattle.std.specs.Prelude.{◌==◌, ◌&&◌, if◌then◌else◌}
 use Rattle.std.proofs.lemmas.Bool.{eq-eqb}
 use Rattle.op_core.specs.declared.want.Ans.TheVariants.{Passed}
@@ -13,12 +13,13 @@ use Rattle.map_model.specs.declared.entry.Reply.{Reply}
 use Rattle.map_model.specs.declared.entry.Reply.TheVariants as reply
 use Rattle.map_model.specs.Map.{key_of, is_done}
 use Rattle.map_model.specs.Changes.{doing, call_of}
+use Rattle.bucket_words.specs.Core.{core_of}
 use Rattle.world.specs.Facts.{Fact}
 use Rattle.world.specs.declared.site.Site.{Site}
 use Rattle.world.specs.Ground.{Ground}
-use Rattle.world.specs.Views.{Owed, View, Has}
+use Rattle.world.specs.Views.{Move, Owed, View, Has}
 use Rattle.world.specs.Wants.{answer_to}
-use Rattle.world.specs.Kinds.{next_entry, with_reply, of_other_keys, of_other_homes, view_after}
+use Rattle.world.specs.Kinds.{next_entry, with_reply, with_draw, with_store, of_other_keys, of_other_homes, view_after}
 use Rattle.world.specs.Attempts.{HasNoMore, HasOneMore, EntersReply}
 use Rattle.part.specs.Outcomes.{replied, need_split, finished, IsDone}
 use Rattle.part.specs.Part.{LeavesKnown}
@@ -78,6 +79,13 @@ module _ (call : Call) (before v : View) where
     seen = ap (λ d. cond d (suc place) place) (sym plain);
   }
 
+  -- the reply of a draw
+  pub one_drawn : (place : ℕ) → HasNoMore before v → HasOneMore call reply.Done place before (with_draw call place v)
+  one_drawn place same = record {
+    own = ap (λ o. o ++ record { serial = suc (length o); call = call; reply = reply.Done; place = place; drew = true } ∷ []) same.own;
+    seen = refl;
+  }
+
   -- what was entered before, while locks are given back
   pub same_more : (o : Option (Reply × ℕ)) (u : View) → EntersReply call o before v → u.own ≡ v.own → u.seen ≡ v.seen → EntersReply call o before u
   same_more None u e own seen = record { own = own ∙ e.own; seen = seen ∙ e.seen }
@@ -126,6 +134,14 @@ pub own_repaid : (o : Owed) → of_other_homes o (o ∷ []) ≡ []
 own_repaid o =
     ap (λ t. if t && (o.home == o.home) then [] else o ∷ []) (eq-eqb o.segment o.segment refl)
     ∙ ap (λ t. if t then [] else o ∷ []) (eq-eqb o.home o.home refl)
+
+-- ---- a store that keeps the core of its word leaves nothing loose
+pub core_settled : (shape : Shape) (i m x : ℕ) (planned : List Call) (moving : List Move) (owed : List Owed) (v : View) → core_of shape i m ≡ core_of shape i x
+    → HasNoneLoose v → HasNoneLoose (with_store shape i m x planned moving owed v)
+core_settled shape i m x planned moving owed v core settled p loose = elim loose [
+  | inl d ↦ settled p (inl (subst (λ (l : List (ℕ × ℕ)). Has p l) (ap (λ t. if t then v.dirty else (i, m) ∷ v.dirty) (eq-eqb (core_of shape i m) (core_of shape i x) core)) d))
+  | inr f ↦ settled p (inr f)
+]
 
 -- ---- nothing is loose where nothing is unsettled
 pub none_loose : (v : View) → IsQuiet v → HasNoneLoose v

@@ -2,6 +2,7 @@
 pub mod Holding
 pub mod Taking
 pub mod Giving
+pub mod Replying
 pub mod Knowing
 pub mod Storing
 pub mod Making

@@ -1,12 +1,14 @@
 -- What an insert hands on that found no room: what its view holds and knows, and what its attempt remembers.
-use Rattle.std.specs.Prelude.{◌≡◌, ℕ, ◌+◌, ◌<◌, ◌≤◌, true, false, None, List, slice_index}
+use Rattle.std.specs.Prelude.{◌≡◌, ℕ, ◌+◌, ◌<◌, ◌≤◌, ◌^◌, true, false, None, List, slice_index}
 use Rattle.bucket_meta.specs.Bucket.{mark_place}
 use Rattle.bucket_meta.specs.Search.{lowest_free}
 use Rattle.trace.specs.Events.{Words}
 use Rattle.image_layout.specs.Places.{block}
 use Rattle.way.specs.Ways.{is_leading}
+use Rattle.map_model.specs.declared.call.Call.{Call}
 use Rattle.map_model.specs.Changes.{call_of}
 use Rattle.map_model.specs.Legal.{IsInsert}
+use Rattle.world.specs.declared.site.Site.{Site}
 use Rattle.world.specs.Ground.{Ground}
 use Rattle.world.specs.Views.{View, Has}
 use Rattle.phase.specs.declared.walk.Path.{Path}
@@ -16,9 +18,19 @@ use Rattle.phase.specs.declared.held.Held.{Held}
 use Rattle.phase.specs.declared.kept.Kept.{Kept}
 use Rattle.phase.specs.Places.{is_third, lock_word}
 use Rattle.phase.specs.Buckets.{words_in}
+use Rattle.phase.specs.AreWords.{AreWords}
+use Rattle.phase.specs.Makes.{brought}
 use Rattle.phase.specs.Causes.{WasFound}
 use Rattle.phase.specs.Giving.{IsHeld, IsQuiet}
 use Rattle.phase.specs.Finding.{words_of, HoldsBuckets, StandsNowhere}
+
+-- WHOSE IT IS: this call's, of a key and a value that are words, as are those of its buckets
+pub record IsOfCall (here : Site) (call : Call) (kept : Kept) : Type 0 where
+  pub same : call_of kept.change ≡ call
+  pub at : kept.site ≡ here
+  pub key : kept.change.key < 2 ^ 64
+  pub value : brought kept.change.effect < 2 ^ 64
+  pub buckets : (place : Role) → AreWords (words_in kept.buckets place)
 
 -- the words of the buckets that are locked
 abbrev pub kept_words : Kept → Words

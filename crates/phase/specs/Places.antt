@@ -1,21 +1,19 @@
 -- The buckets of a key, and their lock words.
 use Rattle.std.specs.Prelude.{ℕ, Bool, true, false}
-use Rattle.hash_word.specs.Hash.{home_of, probing_of, next_of, previous_of}
+use Rattle.hash_word.specs.Hash.{home_of, next_of, previous_of}
 use Rattle.bucket_meta.specs.Bucket.{first_stash_index, second_stash_index}
-use Rattle.image_layout.specs.Places.{homes, second_stash}
+use Rattle.image_layout.specs.Standing.{looked_at}
 use Rattle.way.specs.Ways.{bucket_word}
 use Rattle.world.specs.declared.site.Site.{Site}
 use Rattle.phase.specs.declared.role.Role.{Role}
-use Rattle.phase.specs.declared.role.Role.TheVariants.{Home, Probing, First, Second, Next, Previous}
+use Rattle.phase.specs.declared.role.Role.TheVariants.{Second, Next, Previous}
+use Rattle.phase.specs.Asked.{index}
 
--- the number of the bucket, for a hash
+-- the number of the bucket, for a hash: where its key may stand, by the order in which it is looked for
 abbrev pub bucket_of : ℕ → Role → ℕ
-bucket_of hash Home = home_of hash
-bucket_of hash Probing = probing_of (home_of hash)
-bucket_of hash First = homes
-bucket_of hash Second = second_stash
 bucket_of hash Next = next_of (home_of hash)
 bucket_of hash Previous = previous_of (home_of hash)
+bucket_of hash place = looked_at (home_of hash) (index place)
 
 -- the number of a stash bucket among the two, as a note names it; that of the first for a bucket that is none
 abbrev pub stash_index : Role → ℕ

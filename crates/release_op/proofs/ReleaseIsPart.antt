@@ -1,5 +1,5 @@
 -- The release of the locks of an insert that found no slot, nothing to move, and both stash buckets full, is a part of a call.
-use Rattle.std.proofs.Common.{◌≡◌, ◌≢◌, ℕ, ◌^◌, ◌<◌, ◌≤◌, true, false, Option, None, Some, List, [], inl, refl, sym, ap, subst, arith}
+use Rattle.std.proofs.Common.{◌≡◌, ◌≢◌, ℕ, ◌<◌, ◌≤◌, true, false, Option, None, Some, List, [], inl, refl, sym, ap, subst, arith}
 use Rattle.op_core.specs.declared.want.Want.{Want}
 use Rattle.op_core.specs.declared.want.Want.TheVariants as want
 use Rattle.op_core.specs.declared.want.Ans.{Ans}
@@ -20,7 +20,7 @@ use Rattle.world.proofs.basics.Grounds.{lock_within}
 use Rattle.world.proofs.calls.deeds.Calls.{calls_may}
 use Rattle.part.specs.Outcomes.{reply_of}
 use Rattle.part.specs.Part.{LeavesKnown, IsPart}
-use Rattle.part.specs.Asks.{IsWithin, PutsWord}
+use Rattle.part.specs.Asks.{IsWithin}
 use Rattle.phase.specs.declared.role.Role.{Role}
 use Rattle.phase.specs.declared.held.Held.{Held}
 use Rattle.phase.specs.declared.kept.Kept.{Kept}
@@ -31,7 +31,8 @@ use Rattle.phase.specs.Giving.{IsLocated, give_left, give_kind_of}
 use Rattle.phase.proofs.locks.Giving.{is_lock, held_none, give_stands, give_falls}
 use Rattle.phase.proofs.locks.Choosing.{by_held, by_step}
 use Rattle.phase.proofs.Handing.{none_more, give_answer, give_own, give_seen, give_few}
-use Rattle.phase.proofs.Wanting.{give_answered, number_of, give_small, HasFlush, give_no_flush, plain_give, cuts_call, give_on}
+use Rattle.phase.proofs.asking.Events.{puts_word}
+use Rattle.phase.proofs.Wanting.{give_answered, give_small, HasFlush, give_no_flush, plain_give, cuts_call, give_on}
 use Rattle.release_op.specs.declared.op.ReleaseStep.{ReleaseStep}
 use Rattle.release_op.specs.declared.op.ReleaseStep.TheVariants.{Begin, Give, Ended}
 use Rattle.release_op.specs.Steps.{giving, held_in, wanted_in, next_in, wanted}
@@ -143,12 +144,6 @@ module _ (site : Ground) (good : IsGround site) (here : Site) (hash segment : �
   }
   give_within None = record { word = (let some = good.shape.some in omega (arith, some)); line = λ n e. absurd (cc) }
 
-puts_at : (w : Want) → number_of w < 2 ^ 64 → PutsWord w
-puts_at w small = record {
-  stores = λ i x e. subst (λ (z : Want). number_of z < 2 ^ 64) e small;
-  exchanges = λ i a b e. subst (λ (z : Want). number_of z < 2 ^ 64) e small;
-}
-
 -- A RELEASE IS A PART of a call
 -- it never ends since a segment is stale
 known_at : (site : Ground) (kept : Kept) (s : ReleaseStep) (facts : List Fact) → LeavesKnown site (outcome_at kept s) facts
@@ -171,7 +166,7 @@ release_is_part = record {
   ends = λ site here call op v s done closed on. bare_at site here call op.kept op.step v s done;
   time = record { falls = λ op a i. inl (falls_at op.kept op.step a i); most = λ op. give_few (held_in op.kept op.step) };
   within = λ site here call op before v good s. give_within site good op.kept.site op.kept.hash op.kept.segment s.stands.located (give_next (held_in op.kept op.step));
-  words = λ site here call op before v s. puts_at (wanted op) (give_small op.kept.site op.kept.hash op.kept.segment (give_next (held_in op.kept op.step)));
+  words = λ site here call op before v s. puts_word (wanted op) (give_small op.kept.site op.kept.hash op.kept.segment (give_next (held_in op.kept op.step)));
   flushes = record {
     most = λ op. omega arith;
     flushes = λ op a l i f. absurd (give_no_flush op.kept.site op.kept.hash op.kept.segment (give_next (held_in op.kept op.step)) (subst (λ (w : Want). HasFlush w) (sym f) tt));

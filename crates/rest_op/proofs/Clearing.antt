@@ -1,18 +1,13 @@
 -- Word 1 of a bucket without the records that went to the side: what its store frees.
-use Rattle.std.proofs.Common.{◌≡◌, ◌≢◌, ℕ, ◌+◌, ◌*◌, ◌^◌, ◌<◌, ◌≤◌, ◌⊎◌, Bool, false, inl, inr, sym, ap, ◌∙◌, subst, arith}
+use Rattle.std.proofs.Common.{◌≡◌, ◌≢◌, ℕ, ◌+◌, ◌*◌, ◌^◌, ◌<◌, ◌≤◌, Bool, false, inl, inr, sym, ap, ◌∙◌, subst, arith}
 use Rattle.std.specs.Prelude.{◌==◌, if◌then◌else◌, slice_index}
 use Rattle.std.proofs.lemmas.Bool.{cases_eq, cases_lt, eqb-true, eq-eqb, ne_eqb, lt-ltb, le-ltb, not-false}
 use Rattle.trace.specs.Events.{Words}
-use Rattle.word_bits.specs.Bits.{bit}
 use Rattle.bucket_meta.specs.Bucket.{allocated, member, record_slots}
-use Rattle.bucket_meta.specs.Marks.{copied_mark}
 use Rattle.hash_word.specs.Hash.{Covers}
-use Rattle.image_layout.specs.Places.{Shape, bucket_at, buckets}
+use Rattle.image_layout.specs.Places.{Shape, bucket_at, buckets, block}
 use Rattle.sound_image.specs.Records.{key_hash}
-use Rattle.whole_segment.specs.Slots.{IsSetOf, AreHalves}
-use Rattle.whole_segment.specs.Records.{IsCovered, covered_set}
-use Rattle.whole_segment.proofs.marking.MarkHalves.{are_halves}
-use Rattle.whole_segment.proofs.Telling.{covered_is}
+use Rattle.whole_segment.proofs.marking.Uncovering.{slot_says}
 use Rattle.bucket_words.specs.Buckets.{key_in}
 use Rattle.world.specs.Ground.{Ground}
 use Rattle.world.specs.areas.Splitting.{ClearsRegion}
@@ -21,33 +16,10 @@ use Rattle.enclose_op.specs.declared.enclosed.Enclosed.{Enclosed}
 use Rattle.enclose_op.specs.Whole.{kept_first, kept_third, kept_key}
 use Rattle.rest_op.specs.declared.op.RestOp.{RestOp}
 use Rattle.rest_op.specs.Steps.{is_cleared, clear_from}
-use Rattle.rest_op.specs.Reckoned.{side_depth, side_pattern, cleared_of, IsReckoned}
+use Rattle.rest_op.specs.Reckoned.{side_depth, side_pattern, IsReckoned}
 use Rattle.rest_op.specs.Stands.{cleared_before}
 use Rattle.rounds.proofs.Seeking.{seek_behind, seek_fails}
 use Rattle.rest_op.proofs.whole.Words.{rest_words, other_value, bucket_here}
-
--- ---- the slots that it frees
-module _ (e : Enclosed) (small : (i : ℕ) → slice_index e.buckets i < 2 ^ 64) (b : ℕ) where
-  abbrev covered : ℕ
-  covered = covered_set (kept_first e) (kept_key e) (key_hash e.site.geometry) (side_depth e) (side_pattern e) b
-
-  set : IsSetOf (IsCovered (kept_first e) (kept_key e) (key_hash e.site.geometry) (side_depth e) (side_pattern e) b) covered
-  set = covered_is (kept_first e) (kept_key e) (key_hash e.site.geometry) (side_depth e) (side_pattern e) b
-
-  pub halves : AreHalves (kept_first e b) covered (copied_mark (kept_first e b) covered) (cleared_of e b)
-  halves = are_halves (kept_first e b) covered (small (32 * b + 1)) set.within
-
-  -- each slot says what it said, or is free, and then a record there was of the side
-  pub slot_says : (r : ℕ) → r < record_slots → ((allocated r (cleared_of e b) ≡ allocated r (kept_first e b)) × (member r (cleared_of e b) ≡ member r (kept_first e b)))
-      ⊎ ((allocated r (cleared_of e b) ≡ 0) × Covers (side_depth e) (side_pattern e) (key_hash e.site.geometry (kept_key e b r)))
-  slot_says r low = elim (cases_eq (bit r covered) 1) [
-    | inl one ↦ inr ((halves.moved r low one).1.taken, ((set.each r low).0 one).covers)
-    | inr other ↦ (let zero : bit r covered ≡ 0 = omega (arith, other) in let same = (halves.stayed r low zero).1 in inl (same.taken, same.membership))
-  ]
-
-  -- a record of the side is freed
-  pub side_freed : (r : ℕ) → r < record_slots → allocated r (kept_first e b) ≡ 1 → Covers (side_depth e) (side_pattern e) (key_hash e.site.geometry (kept_key e b r)) → allocated r (cleared_of e b) ≡ 0
-  side_freed r low taken covers = (halves.moved r low ((set.each r low).1 (record { taken = taken; covers = covers }))).1.taken
 
 -- ---- as the store of a word
 module _ (site : Ground) (op : RestOp) (l : IsLocated site op.whole.site op.whole.segment) (small : (i : ℕ) → slice_index op.whole.buckets i < 2 ^ 64) (reckoned : IsReckoned op)
@@ -81,7 +53,7 @@ module _ (site : Ground) (op : RestOp) (l : IsLocated site op.whole.site op.whol
   -- THE STORE frees no slots but such whose records the side covers
   pub clears : ClearsRegion site word at (side_depth e) (side_pattern e) (word (at + 1)) (slice_index op.cleared b)
   clears = record {
-    slots = λ r low. elim (slot_says e small b r low) [
+    slots = λ r low. elim (slot_says (kept_first e) (kept_key e) (key_hash e.site.geometry) (side_depth e) (side_pattern e) b (small (block * b + 1)) r low) [
       | inl same ↦ inl (ap (allocated r) (reckoned.cleared b near) ∙ same.0 ∙ sym (ap (allocated r) mark_here), ap (member r) (reckoned.cleared b near) ∙ same.1 ∙ sym (ap (member r) mark_here))
       | inr free ↦ inr (
         ap (allocated r) (reckoned.cleared b near) ∙ free.0,

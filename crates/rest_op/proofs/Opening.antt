@@ -9,7 +9,7 @@ use Rattle.hash_word.specs.Hash.{Covers, probing_of}
 use Rattle.bucket_meta.specs.Bucket.{allocated, overflow_count, record_slots}
 use Rattle.bucket_meta.specs.Notes.{OverflowNote, AreExact, notes_by}
 use Rattle.segment_head.specs.HeadWord.{depth_in, pattern_in}
-use Rattle.image_layout.specs.Places.{Shape, bucket_at, homes, buckets}
+use Rattle.image_layout.specs.Places.{Shape, bucket_at, homes, buckets, block}
 use Rattle.sound_image.specs.Records.{key_hash, word_in, slot_key}
 use Rattle.sound_image.specs.Records as image
 use Rattle.image_layout.specs.Standing.{stashed_of}
@@ -23,8 +23,8 @@ use Rattle.rest_op.specs.declared.op.RestOp.{RestOp}
 use Rattle.rest_op.specs.Reckoned.{side_depth, side_pattern, cleared_of, IsReckoned}
 use Rattle.enclose_op.proofs.Places.{kept_there}
 use Rattle.rest_op.proofs.whole.Words.{rest_words, other_value, bucket_here}
-use Rattle.rest_op.proofs.Clearing.{slot_says, side_freed}
 use Rattle.whole_segment.proofs.Stashing.{stashed_same}
+use Rattle.whole_segment.proofs.marking.Uncovering.{slot_says, covered_freed}
 use Rattle.rest_op.proofs.whole.Halving.{zero_side}
 
 module _ (site : Ground) (op : RestOp) (l : IsLocated site op.whole.site op.whole.segment) (whole : IsWhole site op.whole) (reckoned : IsReckoned op)
@@ -77,7 +77,7 @@ module _ (site : Ground) (op : RestOp) (l : IsLocated site op.whole.site op.whol
     left = taken_left b r hit.bucket hit.slot hit.taken
 
     same_taken : allocated r (kept_first e b) ≡ 1
-    same_taken = elim (slot_says e whole.small b r hit.slot) [
+    same_taken = elim (slot_says (kept_first e) (kept_key e) (key_hash e.site.geometry) (side_depth e) (side_pattern e) b (whole.small (block * b + 1)) r hit.slot) [
       | inl same ↦ sym same.0 ∙ left
       | inr free ↦ (let zero = sym left ∙ free.0 in absurd (omega (arith, zero)))
     ]
@@ -102,7 +102,7 @@ module _ (site : Ground) (op : RestOp) (l : IsLocated site op.whole.site op.whol
     not_side : Covered (side_depth e) (side_pattern e) → ⊥
     not_side covers =
         let named : key_hash e.site.geometry (kept_key e b r) ≡ key_hash site.shape k = ap (λ (g : Shape). key_hash g (kept_key e b r)) l.shape ∙ ap (key_hash site.shape) (sym (key_here b r hit.slot) ∙ hit.key) in
-        let zero = sym left ∙ side_freed e whole.small b r hit.slot same_taken (subst (λ h. Covers (side_depth e) (side_pattern e) h) (sym named) covers) in
+        let zero = sym left ∙ covered_freed (kept_first e) (kept_key e) (key_hash e.site.geometry) (side_depth e) (side_pattern e) b (whole.small (block * b + 1)) r hit.slot same_taken (subst (λ h. Covers (side_depth e) (side_pattern e) h) (sym named) covers) in
         absurd (omega (arith, zero))
 
     pub own : depth_in e.head < 64 → Covered (suc (depth_in e.head)) (2 * pattern_in e.head)

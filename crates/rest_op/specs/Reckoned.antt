@@ -6,7 +6,7 @@ use Rattle.bucket_meta.specs.Bucket.{KeepsRecords}
 use Rattle.image_layout.specs.Places.{homes, buckets}
 use Rattle.sound_image.specs.Records.{key_hash}
 use Rattle.whole_segment.specs.Words.{words_by}
-use Rattle.whole_segment.specs.Records.{covered_set}
+use Rattle.whole_segment.specs.Records.{uncovered_first}
 use Rattle.image_layout.specs.Standing.{stashed_of, HasExactNotes}
 use Rattle.whole_segment.specs.Rebuilding.{Overflow, first_with, third_with, rebuilt}
 use Rattle.whole_segment.specs.declared.notes.Notes.{Notes}
@@ -19,7 +19,7 @@ use Rattle.rest_op.specs.Steps.{begun}
 -- ---- what is right
 -- word 1 of a bucket without the records that the side covers
 abbrev pub cleared_of : Enclosed → ℕ → ℕ
-cleared_of e b = cleared_mark (kept_first e b) (covered_set (kept_first e) (kept_key e) (key_hash e.site.geometry) (side_depth e) (side_pattern e) b)
+cleared_of e = uncovered_first (kept_first e) (kept_key e) (key_hash e.site.geometry) (side_depth e) (side_pattern e)
 
 -- IT IS RECKONED RIGHT: what is cleared, and exact notes of what is left, with words that say of the record slots what they said
 pub record IsReckoned (op : RestOp) : Type 0 where

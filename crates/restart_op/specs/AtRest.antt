@@ -1,24 +1,24 @@
 -- A segment at rest, and the structure behind a restart and in front of a close. Of stale segments, which live and have not the version of the
 -- image, nothing is said but what the structure says.
-use Rattle.std.specs.Prelude.{◌≡◌, ℕ, ◌<◌, Some}
-use Rattle.bucket_meta.specs.Bucket.{lock_bit}
+use Rattle.std.specs.Prelude.{◌≡◌, ℕ, Some}
 use Rattle.segment_head.specs.HeadWord.{normal}
 use Rattle.trace.specs.Events.{Words}
-use Rattle.image_layout.specs.Places.{Shape, state_word, bucket_at, homes, buckets}
+use Rattle.image_layout.specs.Places.{Shape, state_word}
 use Rattle.image_layout.specs.StateWord.{marker_in}
 use Rattle.sound_image.specs.Segments.{frame_of, image_version, state_at}
-use Rattle.sound_image.specs.Records.{key_hash, HasExactNotes}
+use Rattle.sound_image.specs.Records.{key_hash}
 use Rattle.segment_table.specs.Claims.{HasSoundFrame}
 use Rattle.bucket_words.specs.Owners.{owner_of}
 use Rattle.bucket_words.specs.Hits.{Hit}
+use Rattle.bucket_words.specs.Standing.{LocksAreFree, KeysStandOnce, NotesAreExact}
 use Rattle.world.specs.Facts.{IsCurrentSlot}
 
 module _ (shape : Shape) (word : Words) where
   -- in slot s no lock is taken, each key stands once, and the notes of each home are exact
   pub record IsAtRest (s : ℕ) : Type 0 where
-    pub free : (b : ℕ) → b < buckets → lock_bit (word (bucket_at shape s b)) ≡ 0
-    pub once : (b r c t k : ℕ) → Hit shape word s b r k → Hit shape word s c t k → (b ≡ c) × (r ≡ t)
-    pub exact : (b : ℕ) → b < homes → HasExactNotes shape word s b
+    pub free : LocksAreFree shape word s
+    pub once : KeysStandOnce shape word s
+    pub exact : NotesAreExact shape word s
 
   -- the segment in slot s is current: it is live, with the version of the image
   abbrev pub IsCurrent : ℕ → Type 0

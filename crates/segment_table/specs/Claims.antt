@@ -1,8 +1,8 @@
 -- Who claims a hash, and the rules about headers, links and the directory in a form that says so: each hash has one
 -- claimer, and its directory entry leads there.
 use Rattle.std.specs.Prelude.{◌≡◌, ℕ, ◌+◌, ◌-◌, ◌*◌, ◌^◌, ◌<◌, ◌≤◌}
-use Rattle.hash_word.specs.Hash.{index_of}
-use Rattle.segment_head.specs.Prefixes.{pattern_of_zero_side, one_side_down_to}
+use Rattle.hash_word.specs.Hash.{Covers, index_of}
+use Rattle.segment_head.specs.Prefixes.{pattern_of_zero_side, pattern_of_one_side, one_side_down_to}
 use Rattle.sound_image.specs.Places.{Shape}
 use Rattle.sound_image.specs.Segments.{ImageWords, Frame, frame_of, depth_at, pattern_at, IsLive, IsLiveFor, InOneSide, IsReadySide, HasReadySide}
 use Rattle.sound_image.specs.Directory.{RootInRange, VersionInRange, HeadInRange, LinkInRange, VersionIsPast}
@@ -18,12 +18,19 @@ pub data LeadsToClaimer (frame : Frame) (h : ℕ) : ℕ → Type 0 where
   arrived : {s : ℕ} → Claims frame s h → LeadsToClaimer frame h s
   on : {s n : ℕ} → IsLiveFor frame h s → IsReadySide frame s n → InOneSide frame s h → LeadsToClaimer frame h n → LeadsToClaimer frame h s
 
--- segment s claims no hash of its 1-side, or each
+-- segment s claims each hash of a region, or none
+abbrev pub ClaimsAll : Frame → (s depth pattern : ℕ) → Type 0
+ClaimsAll frame s depth pattern = (h : ℕ) → h < 2 ^ 64 → Covers depth pattern h → Claims frame s h
+
+abbrev pub ClaimsNone : Frame → (s depth pattern : ℕ) → Type 0
+ClaimsNone frame s depth pattern = (h : ℕ) → h < 2 ^ 64 → Covers depth pattern h → Claims frame s h → ⊥
+
+-- it claims no hash of its 1-side, or each
 abbrev pub ClaimsNoOneSide : Frame → ℕ → Type 0
-ClaimsNoOneSide frame s = (h : ℕ) → h < 2 ^ 64 → InOneSide frame s h → Claims frame s h → ⊥
+ClaimsNoOneSide frame s = ClaimsNone frame s (depth_at frame s + 1) (pattern_of_one_side (pattern_at frame s))
 
 abbrev pub ClaimsOneSide : Frame → ℕ → Type 0
-ClaimsOneSide frame s = (h : ℕ) → h < 2 ^ 64 → InOneSide frame s h → Claims frame s h
+ClaimsOneSide frame s = ClaimsAll frame s (depth_at frame s + 1) (pattern_of_one_side (pattern_at frame s))
 
 -- the slot that a hash's directory entry names
 abbrev pub named_for : Frame → ℕ → ℕ

@@ -1,5 +1,5 @@
 -- The words that the restart of a medium leaves may be opened, and the image is on then.
-use Rattle.std.proofs.Common.{◌≡◌, ℕ, ◌%◌, ◌^◌, ◌<◌, List, [], length, refl, sym, ap, ◌∙◌, subst, arith}
+use Rattle.std.proofs.Common.{◌≡◌, ℕ, ◌%◌, ◌^◌, ◌<◌, List, [], length, sym, ap, ◌∙◌, subst, arith}
 use Rattle.std.specs.Prelude.{slice_index}
 use Rattle.std.specs.FinMap.{get}
 use Rattle.trace.specs.Events.{Words}
@@ -22,6 +22,7 @@ use Rattle.vlock.specs.declared.table.Opening.{Opening}
 use Rattle.vlock.specs.Ruling.{word, ground_of, first_of}
 use Rattle.vlock.specs.Plays.{IsSeatOf, IsWhole}
 use Rattle.vlock.specs.Ends.{IsOpened}
+use Rattle.vlock.proofs.Opened.{first_is_idle}
 use Rattle.shared_image.specs.declared.image.SharedImage.{SharedImage}
 use Rattle.shared_image.specs.declared.image.Keeper.{Keeper}
 use Rattle.shared_image.specs.Powered.{KeepsStill, IsKeeperOf, IsOn, ground_in}
@@ -69,9 +70,7 @@ module _ (key : Opening) (base : List ℕ) (o : IsOfRestart key base) where
   first_keeps : KeepsStill (first_of key)
   first_keeps = record {
     stands = o.some;
-    nothing = record { held = refl; dirty = refl; flushed = refl; planned = refl; moving = refl; owed = refl; areas = refl };
-    own = refl;
-    past = refl;
+    idle = first_is_idle key;
   }
 
   module _ (image : SharedImage) (same : image.table.shared.key ≡ key) where

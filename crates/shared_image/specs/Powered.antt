@@ -1,5 +1,5 @@
 -- An image that was powered on, and the passes of its threads.
-use Rattle.std.specs.Prelude.{◌≡◌, ℕ, ◌<◌, [], length}
+use Rattle.std.specs.Prelude.{◌≡◌, ℕ, ◌<◌, length}
 use Rattle.atomic_table.specs.declared.shared.Seat.{Seat}
 use Rattle.image_layout.specs.Places.{state_word}
 use Rattle.image_layout.specs.StateWord.{marker_in}
@@ -7,8 +7,7 @@ use Rattle.sound_image.specs.Image.{SaysShape}
 use Rattle.world.specs.Ground.{Ground, version_of}
 use Rattle.vlock.specs.declared.knows.Watch.{Watch}
 use Rattle.vlock.specs.declared.table.Opening.{Opening}
-use Rattle.world.specs.Attempts.{OwesNothing}
-use Rattle.vlock.specs.Ruling.{ground_of}
+use Rattle.vlock.specs.Ruling.{ground_of, IsIdle}
 use Rattle.vlock.specs.Plays.{IsSeatOf, IsWhole}
 use Rattle.shared_image.specs.declared.image.SharedImage.{SharedImage}
 use Rattle.shared_image.specs.declared.image.Keeper.{Keeper}
@@ -34,12 +33,10 @@ pub record IsOn (image : SharedImage) : Type 0 where
   pub says : SaysShape (ground_in image).shape (ground_in image).front
   pub unmarked : marker_in ((ground_in image).front state_word) ≡ 0
 
--- what a keeper knows, which takes no event of its own: it stands for a caller, owes nothing, has replied nothing, and took in nobody yet
+-- what a keeper knows, which takes no event of its own: it stands for a caller, and is idle, so that it took in nobody yet
 pub record KeepsStill (p : Watch) : Type 0 where
   pub stands : 0 < p.view.callers
-  pub nothing : OwesNothing p.view
-  pub own : p.view.own ≡ []
-  pub past : p.past ≡ []
+  pub idle : IsIdle p
 
 -- A KEEPER of this image
 pub record IsKeeperOf (image : SharedImage) (keeper : Keeper) : Type 0 where

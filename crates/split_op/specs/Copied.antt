@@ -4,9 +4,8 @@ use Rattle.std.specs.Prelude.{◌≡◌, ◌≢◌, ℕ, ◌-◌, ◌<◌, ◌==
 use Rattle.trace.specs.Events.{Words}
 use Rattle.segment_head.specs.HeadWord.{splitting, fresh, link_to}
 use Rattle.segment_head.specs.SplitHeads.{with_state, one_side_head}
-use Rattle.image_layout.specs.Places.{bucket_at, homes, words_of_buckets}
-use Rattle.sound_image.specs.Records.{HasExactNotes}
-use Rattle.bucket_words.specs.Hits.{Hit}
+use Rattle.image_layout.specs.Places.{bucket_at, words_of_buckets}
+use Rattle.bucket_words.specs.Standing.{KeysStandOnce, NotesAreExact}
 use Rattle.frame_facts.specs.Copies.{IsSlotCopy}
 use Rattle.frame_facts.specs.DeadSlots.{IsInSlot}
 use Rattle.map_model.specs.declared.call.Call.{Call}
@@ -54,8 +53,8 @@ pub record IsCopy (site : Ground) (c : Copied) : Type 0 where
   pub apart : c.side ≢ c.whole.segment
   pub each_word : length c.words ≡ words_of_buckets
   pub copied : IsSlotCopy site.shape (copied_words c) c.whole.segment c.side
-  pub exact : (b : ℕ) → b < homes → HasExactNotes site.shape (copied_words c) c.side b
-  pub once : (b r e t k : ℕ) → Hit site.shape (copied_words c) c.whole.segment b r k → Hit site.shape (copied_words c) c.whole.segment e t k → (b ≡ e) × (r ≡ t)
+  pub exact : NotesAreExact site.shape (copied_words c) c.side
+  pub once : KeysStandOnce site.shape (copied_words c) c.whole.segment
 
 -- ---- what a view holds of them
 -- words of both slots alone are known

@@ -1,25 +1,20 @@
 -- A record that comes to the stash, as a part of a call: where both stash buckets are full its locks are kept, and another part goes on.
-use Rattle.std.specs.Prelude.{◌≡◌, ◌^◌, ◌<◌, ⊤, true, false, None}
+use Rattle.std.specs.Prelude.{◌≡◌, ⊤, true, false, None}
 use Rattle.map_model.specs.declared.call.Call.{Call}
-use Rattle.map_model.specs.Changes.{call_of}
 use Rattle.world.specs.declared.site.Site.{Site}
 use Rattle.world.specs.Ground.{Ground, spent_lock}
 use Rattle.world.specs.Views.{View, Has}
 use Rattle.world.specs.StepKinds.{of_call}
 use Rattle.part.specs.Doings.{Doings}
 use Rattle.part.specs.Part.{Part}
-use Rattle.phase.specs.declared.role.Role.{Role}
 use Rattle.phase.specs.declared.role.Role.TheVariants as place
 use Rattle.phase.specs.declared.held.Held.{Held}
 use Rattle.phase.specs.declared.kept.Kept.{Kept}
 use Rattle.phase.specs.Helds.{without_held}
-use Rattle.phase.specs.Buckets.{words_in}
 use Rattle.phase.specs.Stands.{IsLoading}
 use Rattle.phase.specs.Taking.{RemembersTake}
-use Rattle.phase.specs.Keeps.{KeepsAll, HoldsThirds, KeepsFull, ChangedLocks, LoadedFull, RemembersRoom}
-use Rattle.phase.specs.AreWords.{AreWords}
+use Rattle.phase.specs.Keeps.{IsOfCall, KeepsAll, HoldsThirds, KeepsFull, ChangedLocks, LoadedFull, RemembersRoom}
 use Rattle.phase.specs.Third.{NothingToMove}
-use Rattle.phase.specs.Makes.{brought}
 use Rattle.phase.specs.Making.{most_waiting}
 use Rattle.stash_op.specs.declared.step.StashBucket.{StashBucket}
 use Rattle.stash_op.specs.declared.step.StashBucket.TheVariants.{First, Second}
@@ -78,19 +73,14 @@ stash_part = record {
 }
 
 -- ---- where it begins
--- what it may go on from: an insert of the call, of a key and a value that are words, whose buckets' words are words, with the locks of
--- both third buckets
-pub record MayBeStashed (site : Ground) (here : Site) (call : Call) (kept : Kept) : Type 0 where
-  pub same : call_of kept.change ≡ call
-  pub at : kept.site ≡ here
-  pub key : kept.change.key < 2 ^ 64
-  pub value : brought kept.change.effect < 2 ^ 64
-  pub buckets : (place : Role) → AreWords (words_in kept.buckets place)
+-- what it may go on from: what an insert of the call keeps, with the locks of both third buckets
+pub record MayBeStashed (here : Site) (call : Call) (kept : Kept) : Type 0 where
+  pub whose : IsOfCall here call kept
   pub thirds : HoldsThirds kept.held
 
 -- by a caller who keeps all locks
 abbrev pub BeginsAsPart : Type 0
-BeginsAsPart = (site : Ground) (here : Site) (call : Call) (kept : Kept) (v : View) → MayBeStashed site here call kept → KeepsAll site kept v → StashStands site here call (begun kept) v
+BeginsAsPart = (site : Ground) (here : Site) (call : Call) (kept : Kept) (v : View) → MayBeStashed here call kept → KeepsAll site kept v → StashStands site here call (begun kept) v
 
 -- it remembers what was handed on
 abbrev pub BeginsRemembering : Type 0
@@ -103,7 +93,7 @@ BeginsUndecided = (kept : Kept) → outcome_at (begun kept).stage.step ≡ None
 
 -- WHERE IT HANDS ON, both stash buckets are held and full too, and what was so where it began is so still; and it tells the segment that was kept
 pub record HandsOnFull (site : Ground) (here : Site) (call : Call) (op : StashOp) (v : View) : Type 0 where
-  pub may : MayBeStashed site here call (kept_of op)
+  pub may : MayBeStashed here call (kept_of op)
   pub full : KeepsFull site (kept_of op) v
   pub told : end_at op.stage.step ≡ NeedSplit op.kept.segment
 

@@ -38,16 +38,20 @@ holds key o =
       repaired = o.repaired;
     })
 
+-- the first seat is idle
+pub first_is_idle : (key : Opening) → IsIdle (first_of key)
+first_is_idle key = record {
+  nothing = record { held = refl; dirty = refl; flushed = refl; planned = refl; moving = refl; owed = refl; areas = refl };
+  own = refl;
+  past = refl;
+}
+
 pub begins : (key : Opening) (ws : List ℕ) → key.words.value.items ≡ ws → IsOpened key → Kept (ground_of key) (opening ws [] (first_of key))
 begins key ws same o = subst (λ (xs : List ℕ). Kept (ground_of key) (opening xs [] (first_of key))) same (record {
   words = o.words;
   holds = holds key o;
   past = λ i p u a q. absurd (subst (λ (z : Watch). Has u z.past) (sym (one_at (first_of key) p i a)) q);
-  idle = λ i p a none. subst IsIdle (one_at (first_of key) p i a) (record {
-    nothing = record { held = refl; dirty = refl; flushed = refl; planned = refl; moving = refl; owed = refl; areas = refl };
-    own = refl;
-    past = refl;
-  });
+  idle = λ i p a none. subst IsIdle (one_at (first_of key) p i a) (first_is_idle key);
   off = λ i p a on. absurd (false≢true (ap (λ (z : Watch). z.view.stored_power) (one_at (first_of key) p i a) ∙ on));
   full = λ i p u e a among has no_slot. elim (subst (λ (z : Watch). Has u (z.view ∷ z.past)) (sym (one_at (first_of key) p i a)) among) [
     | inl is ↦ absurd (subst (λ (z : View). Has e z.own) is has)

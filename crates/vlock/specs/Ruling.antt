@@ -38,7 +38,7 @@ abbrev pub all_views : List Watch → List View
 all_views [] = []
 all_views (p ∷ ps) = p.view ∷ (p.past ++ all_views ps)
 
--- what a seat knows that stands for no caller: it owes nothing, replied nothing, and took in nothing
+-- A SEAT IS IDLE, by what it knows: it owes nothing, replied nothing, and took in nothing
 pub record IsIdle (p : Watch) : Type 0 where
   pub nothing : OwesNothing p.view
   pub own : p.view.own ≡ []

@@ -6,11 +6,12 @@ use Rattle.std.specs.List.{flat_map}
 use Rattle.std.proofs.lemmas.Grind.{flat_map-append}
 use Rattle.hash_word.specs.Hash.{home_of, finger_of, top}
 use Rattle.bucket_meta.specs.Bucket.{allocated, record_slots}
+use Rattle.bucket_meta.specs.Marks.{copied_mark, cleared_mark}
 use Rattle.bucket_meta.specs.Notes.{numbers_below}
 use Rattle.image_layout.specs.Places.{homes, buckets, stash_buckets}
 use Rattle.stash.specs.Segment.{Stashed}
 use Rattle.whole_segment.specs.Slots.{set_below}
-use Rattle.whole_segment.specs.Records.{is_covered, covered_set}
+use Rattle.whole_segment.specs.Records.{is_covered, covered_set, covered_first, uncovered_first}
 use Rattle.whole_segment.specs.Rebuilding.{no_overflow, all_noted, rebuilt}
 use Rattle.image_layout.specs.Standing.{stash_piece, stashed_in, stashed_of}
 use Rattle.whole_segment.specs.Notes.{entry_of, entries_below, stash_entries}
@@ -71,3 +72,14 @@ pub covered_same : (first later_first : ℕ → ℕ) (key later_key : ℕ → �
 covered_same first later_first key later_key hash d p b word keys = set_same (is_covered later_first later_key hash d p b) (is_covered first key hash d p b) record_slots
     (λ r low. ap (λ (x : ℕ). (allocated r x == 1) && (top d (hash (later_key b r)) == p)) word
     ∙ ap (λ (k : ℕ). (allocated r (first b) == 1) && (top d (hash k) == p)) (keys r low))
+
+-- so is word 1 with these alone, and without them
+pub covered_first_same : (first later_first : ℕ → ℕ) (key later_key : ℕ → ℕ → ℕ) (hash : ℕ → ℕ) (d p b : ℕ) → later_first b ≡ first b
+    → ((r : ℕ) → r < record_slots → later_key b r ≡ key b r) → covered_first later_first later_key hash d p b ≡ covered_first first key hash d p b
+covered_first_same first later_first key later_key hash d p b word keys =
+    ap (λ (x : ℕ). copied_mark x (covered_set later_first later_key hash d p b)) word ∙ ap (copied_mark (first b)) (covered_same first later_first key later_key hash d p b word keys)
+
+pub uncovered_first_same : (first later_first : ℕ → ℕ) (key later_key : ℕ → ℕ → ℕ) (hash : ℕ → ℕ) (d p b : ℕ) → later_first b ≡ first b
+    → ((r : ℕ) → r < record_slots → later_key b r ≡ key b r) → uncovered_first later_first later_key hash d p b ≡ uncovered_first first key hash d p b
+uncovered_first_same first later_first key later_key hash d p b word keys =
+    ap (λ (x : ℕ). cleared_mark x (covered_set later_first later_key hash d p b)) word ∙ ap (cleared_mark (first b)) (covered_same first later_first key later_key hash d p b word keys)

@@ -3,6 +3,7 @@ pub mod Fields
 pub mod Sets
 pub mod Marking
 pub mod MarkHalves
+pub mod Uncovering
 pub mod Sides
 pub mod Positions
 pub mod Mended

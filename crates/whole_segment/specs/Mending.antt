@@ -38,6 +38,6 @@ pub record IsMended (first mended : ℕ → ℕ) (key : ℕ → ℕ → ℕ) (ha
   pub keys_stay : (b r k : ℕ) → Stands first key b r k → Covers depth pattern (hash k) → (c : ℕ) × (t : ℕ) × Stands mended key c t k
   pub once : IsLookedFor first key hash depth pattern → (b r c t k : ℕ) → Stands mended key b r k → Stands mended key c t k → (c ≡ b) × (t ≡ r)
 
--- the segment with its spoiled slots cleared
+-- word 1 of a bucket with its spoiled slots cleared
 abbrev pub without_spoiled : (first spoiled : ℕ → ℕ) → ℕ → ℕ
 without_spoiled first spoiled b = cleared_mark (first b) (spoiled b)

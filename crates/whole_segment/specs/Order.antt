@@ -1,14 +1,15 @@
 -- The order in which a key is looked for in a segment: its home, its probing bucket, and the two stash buckets, slots ascending. So
 -- there are as many positions as slots in which a key may stand.
-use Rattle.std.specs.Prelude.{◌≡◌, ℕ, zero, suc, ◌+◌, ◌*◌, ◌%◌, ◌<◌, nat_lt, Bool, false, ◌==◌, ◌&&◌, ◌||◌, if◌then◌else◌}
-use Rattle.hash_word.specs.Hash.{probing_of, home_of}
+use Rattle.std.specs.Prelude.{◌≡◌, ℕ, zero, suc, ◌+◌, ◌*◌, ◌/◌, ◌%◌, ◌<◌, Bool, false, ◌==◌, ◌&&◌, ◌||◌, if◌then◌else◌}
+use Rattle.hash_word.specs.Hash.{home_of}
 use Rattle.bucket_meta.specs.Bucket.{allocated, record_slots}
 use Rattle.bucket_meta.specs.Search.{is_taken}
-use Rattle.image_layout.specs.Places.{homes, second_stash, slots_of_key}
+use Rattle.image_layout.specs.Places.{slots_of_key}
+use Rattle.image_layout.specs.Standing.{looked_at}
 
 -- the bucket of a position, for a key of this home
 abbrev pub bucket_at : ℕ → ℕ → ℕ
-bucket_at home p = if nat_lt p record_slots then home else if nat_lt p (2 * record_slots) then probing_of home else if nat_lt p (3 * record_slots) then homes else second_stash
+bucket_at home p = looked_at home (p / record_slots)
 
 -- its slot
 abbrev pub slot_at : ℕ → ℕ
@@ -17,7 +18,7 @@ slot_at p = p % record_slots
 -- the position of slot r of bucket b, which is behind all others where no key of this home is looked for
 abbrev pub position_of : ℕ → ℕ → ℕ → ℕ
 position_of home b r =
-    if b == home then r else if b == probing_of home then record_slots + r else if b == homes then 2 * record_slots + r else if b == second_stash then 3 * record_slots + r else slots_of_key
+    if b == looked_at home 0 then r else if b == looked_at home 1 then record_slots + r else if b == looked_at home 2 then 2 * record_slots + r else if b == looked_at home 3 then 3 * record_slots + r else slots_of_key
 
 module _ (key : ℕ → ℕ → ℕ) (hash : ℕ → ℕ) where
   -- where the key in slot r of bucket b is at home

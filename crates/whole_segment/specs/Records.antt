@@ -4,6 +4,7 @@ use Rattle.std.specs.Prelude.{◌≡◌, ℕ, ◌+◌, ◌*◌, ◌<◌, ◌↔�
 use Rattle.hash_word.specs.Hash.{Covers, top}
 use Rattle.bucket_meta.specs.Bucket.{allocated, record_slots, mark_place, rest_place, key_place}
 use Rattle.bucket_meta.specs.Search.{is_taken}
+use Rattle.bucket_meta.specs.Marks.{copied_mark, cleared_mark}
 use Rattle.image_layout.specs.Places.{buckets}
 use Rattle.whole_segment.specs.Words.{word_of_bucket}
 use Rattle.whole_segment.specs.Slots.{set_of}
@@ -59,6 +60,13 @@ module _ (first : ℕ → ℕ) (key : ℕ → ℕ → ℕ) where
 
   abbrev pub covered_set : (hash : ℕ → ℕ) → ℕ → ℕ → ℕ → ℕ
   covered_set hash depth pattern b = set_of (is_covered hash depth pattern b)
+
+  -- word 1 of bucket b with these records alone, and without them
+  abbrev pub covered_first : (hash : ℕ → ℕ) → ℕ → ℕ → ℕ → ℕ
+  covered_first hash depth pattern b = copied_mark (first b) (covered_set hash depth pattern b)
+
+  abbrev pub uncovered_first : (hash : ℕ → ℕ) → ℕ → ℕ → ℕ → ℕ
+  uncovered_first hash depth pattern b = cleared_mark (first b) (covered_set hash depth pattern b)
 
 -- HALVES OF A SEGMENT, by word 1 of each bucket of the whole, of the copy and of the rest: the copy has the records that a segment of
 -- this depth and pattern covers, in the same buckets and slots, and the rest has the others

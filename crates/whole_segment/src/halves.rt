@@ -11,15 +11,14 @@ use image_layout::{BUCKETS, Geometry};
 use word_bits::each_fits;
 
 impl Loaded {
-    ghost use Rattle.bucket_meta.specs.Marks.{copied_mark, cleared_mark};
-    ghost use Rattle.whole_segment.specs.Records.{first_in, key_in, Stands, covered_set};
+    ghost use Rattle.whole_segment.specs.Records.{first_in, key_in, Stands, covered_first, uncovered_first};
 
     /// The segment with those records alone that a segment of this depth and pattern covers, and without overflow notes: the copy that a
     /// split makes.
     pub fn half(&self, geometry: &Geometry, depth: u8, pattern: u32) -> Loaded
         requires { depth ≤ hash_bits }
         ensures is { (b : ℕ) → b < buckets → first_in result b
-            ≡ copied_mark (first_in self.now b) (covered_set (first_in self.now) (key_in self.now) (key_hash geometry.now) depth pattern b) }
+            ≡ covered_first (first_in self.now) (key_in self.now) (key_hash geometry.now) depth pattern b }
         ensures records { (b r k : ℕ) → Stands (first_in result) (key_in result) b r k
             ↔ (Stands (first_in self.now) (key_in self.now) b r k × Covers depth pattern (key_hash geometry.now k)) }
         ensures third { result.third ≡ self.now.third }
@@ -40,7 +39,7 @@ impl Loaded {
     pub fn without_half(&self, geometry: &Geometry, depth: u8, pattern: u32) -> Loaded
         requires { depth ≤ hash_bits }
         ensures is { (b : ℕ) → b < buckets → first_in result b
-            ≡ cleared_mark (first_in self.now b) (covered_set (first_in self.now) (key_in self.now) (key_hash geometry.now) depth pattern b) }
+            ≡ uncovered_first (first_in self.now) (key_in self.now) (key_hash geometry.now) depth pattern b }
         ensures records { (b r k : ℕ) → Stands (first_in result) (key_in result) b r k
             ↔ (Stands (first_in self.now) (key_in self.now) b r k × (Covers depth pattern (key_hash geometry.now k) → ⊥)) }
         ensures third { result.third ≡ self.now.third }

@@ -53,11 +53,10 @@ fn position_of(home: u8, bucket: u8, slot: u8) -> u8
 }
 
 impl Loaded {
-    ghost use Rattle.bucket_meta.specs.Marks.{cleared_mark};
     ghost use Rattle.whole_segment.specs.Slots.{IsSetOf};
     ghost use Rattle.whole_segment.specs.Records.{first_in, key_in};
     ghost use Rattle.whole_segment.specs.Order.{IsAt, StandsBefore};
-    ghost use Rattle.whole_segment.specs.Mending.{IsSpoiled, spoiled_set, IsMended};
+    ghost use Rattle.whole_segment.specs.Mending.{IsSpoiled, spoiled_set, without_spoiled, IsMended};
 
     /// Whether a record of this key stands at a position of this home.
     fn is_at(&self, home: u8, key: u64, position: u8) -> bool
@@ -119,7 +118,7 @@ impl Loaded {
     pub fn mended(&self, geometry: &Geometry, depth: u8, pattern: u32) -> Loaded
         requires { depth ≤ hash_bits }
         ensures is { (b : ℕ) → b < buckets → first_in result b
-            ≡ cleared_mark (first_in self.now b) (spoiled_set (first_in self.now) (key_in self.now) (key_hash geometry.now) depth pattern b) }
+            ≡ without_spoiled (first_in self.now) (spoiled_set (first_in self.now) (key_in self.now) (key_hash geometry.now) depth pattern) b }
         ensures mended { IsMended (first_in self.now) (first_in result) (key_in self.now) (key_hash geometry.now) depth pattern }
         ensures third { result.third ≡ self.now.third }
         ensures keys { result.keys ≡ self.now.keys }

@@ -14,11 +14,9 @@ use Rattle.part.specs.Part.{Part}
 use Rattle.phase.specs.declared.role.Role.{Role}
 use Rattle.phase.specs.declared.role.Role.TheVariants.{Home, Probing, First, Second, Next, Previous}
 use Rattle.phase.specs.declared.kept.Kept.{Kept}
-use Rattle.phase.specs.Buckets.{words_in}
-use Rattle.phase.specs.AreWords.{AreWords}
 use Rattle.phase.specs.Places.{stash_index}
 use Rattle.phase.specs.Asked.{index, loaded_by}
-use Rattle.phase.specs.Keeps.{WasLoaded, ChangedLocks, LoadedFull, KeepsAll, RemembersRoom, HasNoThird}
+use Rattle.phase.specs.Keeps.{IsOfCall, WasLoaded, ChangedLocks, LoadedFull, KeepsAll, RemembersRoom, HasNoThird}
 use Rattle.phase.specs.Giving.{IsHeld}
 use Rattle.phase.specs.Stands.{IsLoading}
 use Rattle.phase.specs.Causes.{WasFound, RemembersWalk}
@@ -132,11 +130,7 @@ BeginsUndecided = (here : Site) (change : Change) → outcome_at (begun change h
 -- WHERE IT HANDS ON, what it keeps is the call's insert, of a key and a value that are words, as is what was loaded; its locks are held,
 -- and no third one; its header is pinned; the words of their buckets are known, its key stands nowhere, and home and probing bucket are full
 pub record HandsOn (site : Ground) (here : Site) (call : Call) (kept : Kept) (v : View) : Type 0 where
-  pub same : call_of kept.change ≡ call
-  pub at : kept.site ≡ here
-  pub key : kept.change.key < 2 ^ 64
-  pub value : brought kept.change.effect < 2 ^ 64
-  pub buckets : (place : Role) → AreWords (words_in kept.buckets place)
+  pub whose : IsOfCall here call kept
   pub keeps : KeepsAll site kept v
   pub thirds : HasNoThird kept.held
 

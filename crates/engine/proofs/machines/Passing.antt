@@ -67,7 +67,7 @@ module _ (laws : ChangeLaws) where
   stash_passes = record {
     stands = λ site here call op v ground s h.
         let k = laws.stash_hands site here call op v s h in
-        laws.release_begins site here call (stash_kept op) v (record { same = k.may.same; at = k.may.at; key = k.may.key }) k.full;
+        laws.release_begins site here call (stash_kept op) v (record { same = k.may.whose.same; at = k.may.whose.at; key = k.may.whose.key }) k.full;
     undecided = λ op h. laws.release_undecided (stash_kept op);
     remembers = λ site op did h r. let k = laws.stash_tells site op did h r in laws.release_remembers site (stash_kept op) did k.room k.nothing;
   }
@@ -100,7 +100,7 @@ module _ (laws : ChangeLaws) where
         let may = k.0 in
         entered_stands site here call (stash_of op) v ground
         (laws.stash_begins site here call op.kept v
-        (record { same = may.same; at = may.at; key = may.key; value = may.value; buckets = may.buckets; thirds = k.2 }) k.1) (stash_part.hands_on (stash_of op)) refl;
+        (record { whose = may; thirds = k.2 }) k.1) (stash_part.hands_on (stash_of op)) refl;
     undecided = λ op h. entered_undecided (stash_of op) (laws.stash_undecided op.kept) (stash_part.hands_on (stash_of op));
     remembers = λ site op did h r.
         let k = laws.move_hands.remembers site op did r h in
@@ -118,7 +118,7 @@ module _ (laws : ChangeLaws) where
     stands = λ site here call op v ground s h.
         let k = laws.change_hands site here call op v s h in
         record {
-          stands = laws.move_begins site here call (kept_of op) v (record { same = k.same; at = k.at; key = k.key; value = k.value; buckets = k.buckets }) k.keeps k.thirds;
+          stands = laws.move_begins site here call (kept_of op) v k.whose k.keeps k.thirds;
           closed = refl;
         };
     undecided = λ op h. laws.move_undecided (kept_of op);

@@ -2,16 +2,11 @@
 use Rattle.std.proofs.Common.{◌≡◌, ℕ, ◌+◌, ◌*◌, ◌^◌, ◌<◌, ◌≤◌, ◌⊎◌, List, slice_index, inl, inr, sym, ap, ◌∙◌, subst, arith}
 use Rattle.std.proofs.lemmas.Bool.{cases_eq}
 use Rattle.trace.specs.Events.{Words}
-use Rattle.word_bits.specs.Bits.{bit}
 use Rattle.hash_word.specs.Hash.{Covers}
 use Rattle.bucket_meta.specs.Bucket.{allocated, member, record_slots}
-use Rattle.bucket_meta.specs.Marks.{copied_mark}
 use Rattle.image_layout.specs.Places.{Shape, bucket_at, buckets, block, words_of_buckets}
 use Rattle.sound_image.specs.Records.{key_hash}
-use Rattle.whole_segment.specs.Slots.{IsSetOf, AreHalves}
-use Rattle.whole_segment.specs.Records.{IsCovered, covered_set}
-use Rattle.whole_segment.proofs.marking.MarkHalves.{are_halves}
-use Rattle.whole_segment.proofs.Telling.{covered_is}
+use Rattle.whole_segment.proofs.marking.Uncovering.{slot_says as uncovered_says}
 use Rattle.world.specs.Ground.{Ground, IsGround}
 use Rattle.world.specs.Views.{View, IsLoose}
 use Rattle.world.specs.Holders.{KnowsWord}
@@ -36,15 +31,6 @@ use Rattle.mend_op.proofs.whole.Newest.{IsInRange}
 
 -- ---- the slots that are freed of word 1 of a bucket
 module _ (shape : Shape) (head : ℕ) (base : List ℕ) (small : (i : ℕ) → slice_index base i < 2 ^ 64) (range : IsInRange head) (b : ℕ) where
-  abbrev covered : ℕ
-  covered = covered_set (first_of base) (key_of base) (key_hash shape) (side_depth head) (side_pattern head) b
-
-  set : IsSetOf (IsCovered (first_of base) (key_of base) (key_hash shape) (side_depth head) (side_pattern head) b) covered
-  set = covered_is (first_of base) (key_of base) (key_hash shape) (side_depth head) (side_pattern head) b
-
-  halves : AreHalves (first_of base b) covered (copied_mark (first_of base b) covered) (halved_first base shape head b)
-  halves = are_halves (first_of base b) covered (small (block * b + 1)) set.within
-
   depth_is : side_depth head ≡ side_depth_in head
   depth_is = let deep = range.deep in omega (arith, deep)
 
@@ -58,9 +44,9 @@ module _ (shape : Shape) (head : ℕ) (base : List ℕ) (small : (i : ℕ) → s
   pub slot_says : (r : ℕ) → r < record_slots
       → ((allocated r (halved_first base shape head b) ≡ allocated r (first_of base b)) × (member r (halved_first base shape head b) ≡ member r (first_of base b)))
       ⊎ ((allocated r (halved_first base shape head b) ≡ 0) × Covers (side_depth_in head) (side_pattern_in head) (key_hash shape (key_of base b r)))
-  slot_says r low = elim (cases_eq (bit r covered) 1) [
-    | inl one ↦ inr ((halves.moved r low one).1.taken, in_side (key_hash shape (key_of base b r)) ((set.each r low).0 one).covers)
-    | inr other ↦ inl (let zero : bit r covered ≡ 0 = omega (arith, other) in let same = (halves.stayed r low zero).1 in (same.taken, same.membership))
+  slot_says r low = elim (uncovered_says (first_of base) (key_of base) (key_hash shape) (side_depth head) (side_pattern head) b (small (block * b + 1)) r low) [
+    | inl same ↦ inl same
+    | inr free ↦ inr (free.0, in_side (key_hash shape (key_of base b r)) free.1)
   ]
 
 -- ---- as the store of a word

@@ -41,7 +41,7 @@ use Rattle.phase.specs.Makes.{make_taken}
 use Rattle.phase.specs.Helds.{free_of, given}
 use Rattle.phase.specs.Buckets.{with_words}
 use Rattle.phase.specs.Taking.{HasTakeCause}
-use Rattle.phase.specs.Keeps.{KeepsAll, RemembersRoom}
+use Rattle.phase.specs.Keeps.{IsOfCall, KeepsAll, RemembersRoom}
 use Rattle.phase.proofs.asking.Needing.{next_needed, previous_needed}
 use Rattle.phase.proofs.asking.Causing.{found_named}
 use Rattle.phase.proofs.Handing.{key_called}
@@ -62,7 +62,7 @@ use Rattle.move_op.specs.declared.step.MoveStep.TheVariants.{Lock, Fill, CountSp
 use Rattle.move_op.specs.declared.step.MoveStep.TheVariants as step
 use Rattle.move_op.specs.Shifts.{target_of, shift_in, record_of}
 use Rattle.move_op.specs.Steps.{giving, locked_to, chosen, filled_to, made_to, lock_of, wanted_in, next_in, wanted, taken, is_over, is_without_move}
-use Rattle.move_op.specs.Fits.{SuitsStep, MayMakeRoom, outcome_of, outcome_at}
+use Rattle.move_op.specs.Fits.{SuitsStep, outcome_of, outcome_at}
 use Rattle.move_op.specs.MovePart.{HasTried, RemembersAt, move_part, MoveBeginsRemembering, MoveHandsOnAll}
 use Rattle.move_op.proofs.Over.{over_done}
 use Rattle.move_op.proofs.keeping.Going.{none_at}
@@ -71,7 +71,7 @@ use Rattle.move_op.proofs.causing.Recalling.{recalls_next}
 use Rattle.move_op.proofs.parts.Parted.{never_finished, end_keeps}
 
 -- ---- by the step
-module _ (site : Ground) (here : Site) (call : Call) (kept : Kept) (may : MayMakeRoom site here call kept) (words : Words) (did : Doings) (v : View) where
+module _ (site : Ground) (here : Site) (call : Call) (kept : Kept) (whose : IsOfCall here call kept) (words : Words) (did : Doings) (v : View) where
   abbrev Finds : MoveStep → ℕ
   Finds s = words (word_of site.shape (wanted_in kept s))
 
@@ -99,7 +99,7 @@ module _ (site : Ground) (here : Site) (call : Call) (kept : Kept) (may : MayMak
   -- ---- the locks are those of the call
   module _ (k : KeepsAll site kept v) (r : RemembersRoom site kept did.loads) where
     hash_is : kept.hash ≡ hash_for site.shape words did call
-    hash_is = k.holds.hashed ∙ ap (key_hash site.shape) (sym (key_called kept.change) ∙ ap key_of may.same)
+    hash_is = k.holds.hashed ∙ ap (key_hash site.shape) (sym (key_called kept.change) ∙ ap key_of whose.same)
 
     named : IsNamed site.shape (hash_for site.shape words did call) did.loads kept.segment
     named =
@@ -112,8 +112,8 @@ module _ (site : Ground) (here : Site) (call : Call) (kept : Kept) (may : MayMak
     within = subst (λ (g : Shape). kept.segment < g.segments) (sym k.holds.located.shape) k.holds.located.within
 
     needed : (d : Direction) → HasTried site kept did d → NeedsBucket kept.site.geometry kept.hash did.loads kept.segment call (bucket_of kept.hash (target_of d))
-    needed Forward tried = next_needed kept did.loads within r.home r.probing call (subst IsInsert may.same k.insert)
-    needed Backward tried = previous_needed kept did.loads within r.home r.probing call (subst IsInsert may.same k.insert) tried.0 tried.1
+    needed Forward tried = next_needed kept did.loads within r.home r.probing call (subst IsInsert whose.same k.insert)
+    needed Backward tried = previous_needed kept did.loads within r.home r.probing call (subst IsInsert whose.same k.insert) tried.0 tried.1
 
     own_lock : (d : Direction) → HasTried site kept did d → IsOwnLock site.shape words did call (lock_of kept (target_of d))
     own_lock d tried = (
@@ -213,7 +213,7 @@ move_ends_by_cause = record {
       let st = s.stands in
       let kept : Kept = op.kept in
       let n : ℕ = words (word_of site.shape (wanted op)) in
-      let caused = λ (none : outcome_at op.step ≡ None). step_caused site here call kept st.may words did v op.step st.view r none asks in
+      let caused = λ (none : outcome_at op.step ≡ None). step_caused site here call kept st.whose words did v op.step st.view r none asks in
       record {
         remembers = recalls_next site kept op.step n did r asks (out site kept v op.step st.view);
         caused = λ outcome none some. (caused none outcome some).0;
@@ -235,6 +235,6 @@ end_remembers site kept did s r is = absurd (let f : false ≡ true = is in cc)
 
 pub hands_on_all : MoveHandsOnAll
 hands_on_all = record {
-  keeps = λ site here call op v st is. let all = end_keeps site op.kept v op.step st.view is in (st.may, all.0, all.1);
+  keeps = λ site here call op v st is. let all = end_keeps site op.kept v op.step st.view is in (st.whose, all.0, all.1);
   remembers = λ site op did r is. end_remembers site op.kept did op.step r is;
 }

@@ -1,21 +1,20 @@
 -- EACH STEP of a displacement leaves a view that suits, with the reply entered that is decided.
-use Rattle.std.proofs.Common.{◌≡◌, ◌≢◌, ℕ, suc, ◌+◌, ◌%◌, ◌^◌, ◌<◌, true, false, Option, List, [], ◌∷◌, ◌++◌, length, inl, inr, refl, sym, ap, ◌∙◌, subst}
+use Rattle.std.proofs.Common.{◌≡◌, ◌≢◌, ℕ, ◌+◌, ◌%◌, ◌^◌, ◌<◌, false, Option, List, inl, inr, refl, sym, ap, ◌∙◌, subst}
 use Rattle.op_core.specs.declared.want.Want.TheVariants as want
 use Rattle.op_core.specs.declared.want.Ans.{Ans}
 use Rattle.trace.specs.Events.{Words}
 use Rattle.map_model.specs.declared.call.Call.{Call}
 use Rattle.map_model.specs.declared.entry.Reply.{Reply}
 use Rattle.map_model.specs.declared.entry.Reply.TheVariants as reply
-use Rattle.map_model.specs.Map.{key_of}
 use Rattle.map_model.specs.Changes.{call_of}
 use Rattle.world.specs.Ground.{Ground}
 use Rattle.world.specs.Views.{View, Has, At, IsGuarded}
 use Rattle.world.specs.Wants.{answer_to, word_of}
-use Rattle.world.specs.Kinds.{of_other_keys, with_draw, next_entry, with_reply, view_after}
+use Rattle.world.specs.Kinds.{with_draw, next_entry, with_reply, view_after}
 use Rattle.world.specs.Invariant.{Holds}
 use Rattle.world.specs.Conditions.{IsNewest}
 use Rattle.world.proofs.calls.deeds.Calls.{newest_without}
-use Rattle.world.specs.Attempts.{HasNoMore, HasOneMore, EntersReply}
+use Rattle.world.specs.Attempts.{HasNoMore, EntersReply}
 use Rattle.part.specs.Outcomes.{reply_of}
 use Rattle.phase.specs.declared.take.Take.{Take}
 use Rattle.phase.specs.declared.take.Taken.{Taken}
@@ -26,12 +25,13 @@ use Rattle.phase.specs.Takes.{take_wanted, take_taken}
 use Rattle.phase.specs.Loads.{load_taken}
 use Rattle.phase.specs.Helds.{give_next, given}
 use Rattle.phase.specs.Taking.{take_kind}
-use Rattle.phase.proofs.Handing.{none_more, one_more, same_more, give_answer, give_own, give_seen, own_drawn}
+use Rattle.phase.proofs.Handing.{none_more, one_more, same_more, give_answer, give_own, give_seen, one_drawn}
 use Rattle.phase.proofs.Wanting.{make_answer, take_own, take_seen}
 use Rattle.phase.proofs.locks.Taking.{take_stands}
 use Rattle.phase.proofs.Loading.{load_stands}
 use Rattle.phase.proofs.locks.Holding.{learn_may}
-use Rattle.phase.proofs.locks.Giving.{nothing_left, held_has, held_same, give_stands}
+use Rattle.phase.proofs.locks.Replying.{reply_gives, draw_gives}
+use Rattle.phase.proofs.locks.Giving.{held_has, give_stands}
 use Rattle.phase.specs.declared.ending.Ending.{Ending}
 use Rattle.phase.specs.declared.ending.Ending.TheVariants as ending
 use Rattle.move_op.specs.declared.step.Direction.{Direction}
@@ -52,11 +52,7 @@ module _ (site : Ground) (kept : Kept) (before v : View) where
   spent_goes : HasNoMore before v → IsGiving site kept kept.held v → (n : ℕ) → Goes site before (give kept (ending.Replied reply.Spent n)) (view_after site.shape (kind_at kept CountSpent) n v)
   spent_goes same g n =
       let u : View = with_reply v (next_entry v (call_of kept.change) reply.Spent n false) in (
-        give_suits site kept (ending.Replied reply.Spent n) u (record {
-          located = g.located;
-          locks = held_same kept.site kept.hash kept.segment kept.held v u refl refl refl g.locks;
-          quiet = record { dirty = g.quiet.dirty; flushed = g.quiet.flushed; planned = g.quiet.planned; moving = g.quiet.moving; owed = g.quiet.owed };
-        }),
+        give_suits site kept (ending.Replied reply.Spent n) u (reply_gives site kept.site kept.hash kept.segment kept.held v (next_entry v (call_of kept.change) reply.Spent n false) g),
         subst (λ (o : Option (Reply × ℕ)). EntersReply (call_of kept.change) o before u) (sym (ap reply_of (giving_outcome kept.held (ending.Replied reply.Spent n))))
             (one_more (call_of kept.change) before v reply.Spent n refl same),
       )
@@ -64,23 +60,10 @@ module _ (site : Ground) (kept : Kept) (before v : View) where
   draw_goes : HasNoMore before v → (shift : Shift) → IsDrawing site kept shift v → (n : ℕ) → Goes site before (give kept (ending.Replied reply.Done n)) (view_after site.shape (kind_at kept (Draw shift)) n v)
   draw_goes same shift d n =
       let call : Call = call_of kept.change in
-      let u : View = with_draw call n v in
-      let entered : HasOneMore call reply.Done n before u = record {
-        own = ap (λ o. o ++ record { serial = suc (length o); call = call; reply = reply.Done; place = n; drew = true } ∷ []) same.own;
-        seen = refl;
-      } in (
-        give_suits site kept (ending.Replied reply.Done n) u (record {
-          located = d.all.located;
-          locks = held_same kept.site kept.hash kept.segment kept.held v u refl refl refl d.all.locks;
-          quiet = record {
-            dirty = nothing_left v.dirty (λ p h. d.settled p (inl h));
-            flushed = nothing_left v.flushed (λ p h. d.settled p (inr h));
-            planned = ap (of_other_keys (key_of call)) d.planned ∙ own_drawn call;
-            moving = d.moving;
-            owed = d.all.owes;
-          };
-        }),
-        subst (λ (o : Option (Reply × ℕ)). EntersReply call o before u) (sym (ap reply_of (giving_outcome kept.held (ending.Replied reply.Done n)))) entered,
+      let u : View = with_draw call n v in (
+        give_suits site kept (ending.Replied reply.Done n) u
+            (draw_gives site kept.site kept.hash kept.segment kept.held v call n d.all.located d.all.locks d.settled d.planned d.moving d.all.owes),
+        subst (λ (o : Option (Reply × ℕ)). EntersReply call o before u) (sym (ap reply_of (giving_outcome kept.held (ending.Replied reply.Done n)))) (one_drawn call before v n same),
       )
 
   give_goes : (held : Held) (end : Ending) (n : ℕ) → IsGiving site kept held v → EntersReply (call_of kept.change) (reply_at (Give held end)) before v

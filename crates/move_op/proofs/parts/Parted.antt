@@ -24,7 +24,7 @@ use Rattle.part.specs.Part.{KeepsSuits, PlansItsCall, LeavesKnown, IsPart, Never
 use Rattle.phase.specs.declared.role.Role.{Role}
 use Rattle.phase.specs.declared.kept.Kept.{Kept}
 use Rattle.phase.specs.AreWords.{AreWords}
-use Rattle.phase.specs.Keeps.{KeepsAll, HoldsThirds}
+use Rattle.phase.specs.Keeps.{IsOfCall, KeepsAll, HoldsThirds}
 use Rattle.phase.specs.Buckets.{words_in}
 use Rattle.phase.proofs.Wanting.{HasFlush, is_fence, cuts_call}
 use Rattle.phase.proofs.locks.Taking.{take_fits}
@@ -39,7 +39,7 @@ use Rattle.move_op.specs.declared.step.MoveStep.TheVariants.{Lock, Fill, CountSp
 use Rattle.move_op.specs.declared.step.MoveStep.TheVariants as step
 use Rattle.move_op.specs.Shifts.{target_of, record_of}
 use Rattle.move_op.specs.Steps.{lock_of, lock_at, wanted, taken, wanted_in, next_in, is_without_move}
-use Rattle.move_op.specs.Fits.{leg_kind, kind_at, SuitsStep, MayMakeRoom, MoveStands, outcome_of, outcome_at}
+use Rattle.move_op.specs.Fits.{leg_kind, kind_at, SuitsStep, MoveStands, outcome_of, outcome_at}
 use Rattle.move_op.specs.MovePart.{move_part, MoveBeginsAsPart, MoveBeginsUndecided}
 use Rattle.move_op.proofs.Falling.{move_falls, most_at}
 use Rattle.move_op.proofs.Permitting.{may_in}
@@ -47,7 +47,7 @@ use Rattle.move_op.proofs.keeping.Storing.{storing}
 use Rattle.move_op.proofs.keeping.Areas.{no_areas}
 use Rattle.move_op.proofs.keeping.Stepping.{step_in}
 use Rattle.move_op.proofs.parts.Wording.{words_after, same_after}
-use Rattle.move_op.proofs.parts.Putting.{puts_word, asks_within}
+use Rattle.move_op.proofs.parts.Putting.{puts_in, asks_in}
 use Rattle.move_op.proofs.parts.Parting.{makes_in, stays_in, done_in, bare_in, few_in, flush_in, keeps_in, none_waits, on_in, planned_in}
 
 -- ---- EACH STEP
@@ -72,13 +72,13 @@ shape_of site kept v (Give held end) suits asks = suits.located.shape
 shape_of site kept v (Ended end) suits asks = absurd (asks refl)
 
 -- what may run goes on so
-goes_on : (site : Ground) (here : Site) (call : Call) (kept next : Kept) → MayMakeRoom site here call kept → next.change ≡ kept.change → next.site ≡ kept.site → ((p : Role) → AreWords (words_in next.buckets p))
-    → MayMakeRoom site here call next
-goes_on site here call kept next may change at all = record {
-  same = ap call_of change ∙ may.same;
-  at = at ∙ may.at;
-  key = subst (λ (c : Change). c.key < 2 ^ 64) (sym change) may.key;
-  value = subst (λ (c : Change). brought c.effect < 2 ^ 64) (sym change) may.value;
+goes_on : (site : Ground) (here : Site) (call : Call) (kept next : Kept) → IsOfCall here call kept → next.change ≡ kept.change → next.site ≡ kept.site → ((p : Role) → AreWords (words_in next.buckets p))
+    → IsOfCall here call next
+goes_on site here call kept next whose change at all = record {
+  same = ap call_of change ∙ whose.same;
+  at = at ∙ whose.at;
+  key = subst (λ (c : Change). c.key < 2 ^ 64) (sym change) whose.key;
+  value = subst (λ (c : Change). brought c.effect < 2 ^ 64) (sym change) whose.value;
   buckets = all;
 }
 
@@ -89,32 +89,32 @@ steps site here call words views j op before v h at s asks =
     let n : ℕ = words (word_of site.shape (wanted op)) in
     let a : Ans = answer_to (wanted op) n in
     let u : View = view_after site.shape (kind_at kept op.step) n v in
-    let enters = subst (λ c. EntersReply c (reply_of (outcome_at op.step)) before v) (sym st.may.same) s.enters in
+    let enters = subst (λ c. EntersReply c (reply_of (outcome_at op.step)) before v) (sym st.whose.same) s.enters in
     let same = same_after kept op.step a in
     let goes = λ (small : n < 2 ^ 64). step_in site kept words views j before v h at op.step n small refl st.view enters asks in
     record {
       wants = wants_in site kept (shape_of site kept v op.step st.view asks) v op.step st.view asks;
-      may = calls_may site (kind_at kept op.step) v (no_areas site kept v op.step st.view) (may_in site here call kept st.may v op.step st.view asks);
-      stands = λ small. let all = words_after kept st.may.buckets op.step a (is_word (wanted op) n small) st.load in record {
-        may = goes_on site here call kept (taken op a).kept st.may same.0 same.1 all.0;
+      may = calls_may site (kind_at kept op.step) v (no_areas site kept v op.step st.view) (may_in site here call kept st.whose v op.step st.view asks);
+      stands = λ small. let all = words_after kept st.whose.buckets op.step a (is_word (wanted op) n small) st.load in record {
+        whose = goes_on site here call kept (taken op a).kept st.whose same.0 same.1 all.0;
         load = all.1;
         view = (goes small).0;
       };
-      enters = λ small. subst (λ c. EntersReply c (reply_of (outcome_at (next_in kept op.step a).step)) before u) (ap call_of same.0 ∙ st.may.same) (goes small).1;
+      enters = λ small. subst (λ c. EntersReply c (reply_of (outcome_at (next_in kept op.step a).step)) before u) (ap call_of same.0 ∙ st.whose.same) (goes small).1;
       makes = makes_in kept op.step n;
     }
 
 plans : PlansItsCall move_part
 plans site here call op before v planned s h =
     let st : MoveStands site here call op v = s.stands in
-    let enters = subst (λ c. EntersReply c (reply_of (outcome_at op.step)) before v) (sym st.may.same) s.enters in
+    let enters = subst (λ c. EntersReply c (reply_of (outcome_at op.step)) before v) (sym st.whose.same) s.enters in
     let got = planned_in site op.kept before v planned op.step st.view enters h in
-    (got.0 ∙ st.may.same, got.1)
+    (got.0 ∙ st.whose.same, got.1)
 
 -- it asks for words of the image
 module _ (site : Ground) (good : IsGround site) (kept : Kept) (v : View) where
   located_within : (s : MoveStep) → kept.site.geometry ≡ site.shape → SuitsStep site kept s v → IsWithin site.shape (wanted_in kept s)
-  located_within s shape suits = subst (λ (g : Shape). IsWithin g (wanted_in kept s)) shape (asks_within site kept (subst (λ (g : Shape). IsShape g) (sym shape) good.shape) v s suits)
+  located_within s shape suits = subst (λ (g : Shape). IsWithin g (wanted_in kept s)) shape (asks_in site kept (subst (λ (g : Shape). IsShape g) (sym shape) good.shape) v s suits)
 
   within_at : (s : MoveStep) → SuitsStep site kept s v → IsWithin site.shape (wanted_in kept s)
   within_at (Lock d t) suits = located_within (Lock d t) suits.0.holds.located.shape suits
@@ -147,7 +147,7 @@ move_is_part = record {
   ends = λ site here call op v st over closed on. bare_in site op.kept v op.step st.view over closed;
   time = record { falls = λ op a i. inl (move_falls op a i); most = λ op. most_at op.step };
   within = λ site here call op before v good s. within_at site good op.kept v op.step s.stands.view;
-  words = λ site here call op before v s. puts_word site here call op.kept s.stands.may v op.step s.stands.view;
+  words = λ site here call op before v s. puts_in site here call op.kept s.stands.whose v op.step s.stands.view;
   flushes = record {
     most = λ op. few_in op.step;
     flushes = λ op a l is e. flush_in op.kept op.step a is (subst (λ (w : Want). HasFlush w) (sym e) tt);
@@ -166,7 +166,7 @@ move_is_part = record {
 
 -- ---- where it begins, and how it never ends
 pub begins_as_part : MoveBeginsAsPart
-begins_as_part site here call kept v may keeps none = record { may = may; load = tt; view = (keeps, none, tt) }
+begins_as_part site here call kept v whose keeps none = record { whose = whose; load = tt; view = (keeps, none, tt) }
 
 pub begins_undecided : MoveBeginsUndecided
 begins_undecided kept = refl

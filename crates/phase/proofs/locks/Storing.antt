@@ -1,7 +1,7 @@
 -- The words of a record that was prepared in a free slot: it stands ready there, and all other slots and notes are as they were.
-use Rattle.std.proofs.Common.{◌≡◌, ◌≢◌, ℕ, ◌+◌, ◌*◌, ◌/◌, ◌%◌, ◌^◌, ◌<◌, ◌≤◌, cond, ◌++◌, inl, inr, refl, sym, ap, ◌∙◌, subst, arith}
+use Rattle.std.proofs.Common.{◌≡◌, ◌≢◌, ℕ, List, ◌+◌, ◌*◌, ◌/◌, ◌%◌, ◌^◌, ◌<◌, ◌≤◌, cond, ◌++◌, inl, inr, refl, sym, ap, ◌∙◌, subst, arith}
 use Rattle.std.proofs.lemmas.Bool.{cases_eq, cases_lt, lt-ltb, le-ltb}
-use Rattle.bucket_meta.specs.Bucket.{allocated, finger, overflow_count}
+use Rattle.bucket_meta.specs.Bucket.{record_slots, allocated, finger, overflow_count}
 use Rattle.bucket_meta.specs.Marks.{finger_place, with_finger}
 use Rattle.bucket_meta.specs.Notes.{how_often, notes_by}
 use Rattle.bucket_meta.proofs.Fingers.{sets_low, sets_high, upper_kept}
@@ -15,6 +15,7 @@ use Rattle.bucket_words.specs.Hits.{Hit}
 use Rattle.bucket_words.specs.HomeNotes.{IsUnnoted}
 use Rattle.bucket_words.specs.TableChanges.{IsReadyAt}
 use Rattle.bucket_words.proofs.segments.Places.{other_word}
+use Rattle.world.specs.Views.{IsGuarded}
 use Rattle.world.proofs.holding.Preparing.{notes_kept_3}
 use Rattle.phase.specs.declared.make.Record.{Record}
 use Rattle.phase.specs.Makes.{key_at, value_at, fingers_at}
@@ -32,6 +33,17 @@ place_near slot = elim (cases_lt slot 8) [
   | inl low ↦ subst (λ n. (2 ≤ n) × (n < 4)) (sym (place_low slot low)) (omega arith, omega arith)
   | inr high ↦ subst (λ n. (2 ≤ n) × (n < 4)) (sym (place_high slot high)) (omega arith, omega arith)
 ]
+
+-- the words of a record lie under the lock of its bucket
+module _ (held : List (ℕ × ℕ)) (lock : ℕ) (written : Record) (guard : (j : ℕ) → 1 ≤ j → j < block → IsGuarded held (lock + j)) (low : written.slot < record_slots) where
+  pub key_guard : IsGuarded held (key_at lock written)
+  key_guard = subst (IsGuarded held) (omega arith) (guard (4 + 2 * written.slot) (omega arith) (omega (arith, low)))
+
+  pub value_guard : IsGuarded held (value_at lock written)
+  value_guard = subst (IsGuarded held) (omega arith) (guard (5 + 2 * written.slot) (omega arith) (omega (arith, low)))
+
+  pub fingers_guard : IsGuarded held (fingers_at lock written)
+  fingers_guard = let near = place_near written.slot in guard (finger_place written.slot) (let a = near.0 in omega (arith, a)) (let b = near.1 in omega (arith, b))
 
 pub one_or_none : (n : ℕ) → n ≡ 1 → n ≡ 0 → ⊥
 one_or_none n e f = omega (arith, e, f)

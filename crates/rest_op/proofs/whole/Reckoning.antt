@@ -5,18 +5,18 @@ use Rattle.std.specs.Int.{bit_not, w64}
 use Rattle.std.proofs.lemmas.Nat.{and_le_r}
 use Rattle.bucket_meta.specs.Bucket.{overflow_count, record_slots, KeepsRecords}
 use Rattle.bucket_meta.specs.Notes.{OverflowNote, AreExact, notes_by}
-use Rattle.bucket_meta.specs.Marks.{slot_bits, cleared_mark}
+use Rattle.bucket_meta.specs.Marks.{slot_bits}
 use Rattle.hash_word.specs.Hash.{probing_of}
 use Rattle.segment_head.specs.HeadWord.{depth_in, pattern_in}
 use Rattle.image_layout.specs.Places.{homes, buckets}
 use Rattle.sound_image.specs.Records.{key_hash}
 use Rattle.whole_segment.specs.Words.{words_by}
-use Rattle.whole_segment.specs.Records.{first_in, third_in, key_in, HasWords, covered_set}
+use Rattle.whole_segment.specs.Records.{first_in, third_in, key_in, uncovered_first, HasWords}
 use Rattle.image_layout.specs.Standing.{stashed_of, HasExactNotes}
 use Rattle.whole_segment.specs.Rebuilding.{first_with, third_with, rebuilt}
 use Rattle.whole_segment.specs.declared.loaded.Loaded.{Loaded}
 use Rattle.whole_segment.specs.declared.notes.Notes.{Notes}
-use Rattle.whole_segment.proofs.Stashing.{stashed_same, rebuilt_same, covered_same}
+use Rattle.whole_segment.proofs.Stashing.{stashed_same, rebuilt_same, uncovered_first_same}
 use Rattle.whole_segment.proofs.Words.{word_is, words_small, same_words}
 use Rattle.whole_segment.proofs.rebuilding.Written.{first_made_small, third_made_small, made_keeps, made_notes}
 use Rattle.map_model.specs.declared.call.Call.{Call}
@@ -36,7 +36,7 @@ IsRebuilt rest notes hash b =
 
 -- ---- the value
 module _ (e : Enclosed) (loaded rest : Loaded) (notes : Notes) (d p : ℕ) (kept : HasWords e.buckets loaded) (deep : d ≡ min (side_depth e) 64) (side : p ≡ side_pattern e % 2 ^ 32)
-    (is : (b : ℕ) → b < buckets → first_in rest b ≡ cleared_mark (first_in loaded b) (covered_set (first_in loaded) (key_in loaded) (key_hash e.site.geometry) d p b))
+    (is : (b : ℕ) → b < buckets → first_in rest b ≡ uncovered_first (first_in loaded) (key_in loaded) (key_hash e.site.geometry) d p b)
     (third : rest.third ≡ loaded.third) (keys : rest.keys ≡ loaded.keys) (made : (b : ℕ) → b < homes → IsRebuilt rest notes (key_hash e.site.geometry) b) where
   abbrev hash : ℕ → ℕ
   hash = key_hash e.site.geometry
@@ -49,9 +49,8 @@ module _ (e : Enclosed) (loaded rest : Loaded) (notes : Notes) (d p : ℕ) (kept
 
   rest_first : (b : ℕ) → b < buckets → first_in rest b ≡ left_first e b
   rest_first b near =
-      is b near ∙ ap (λ (x : ℕ). cleared_mark x (covered_set (first_in loaded) (key_in loaded) hash d p b)) (kept.first b near)
-      ∙ ap (cleared_mark (kept_first e b)) (covered_same (kept_first e) (first_in loaded) (kept_key e) (key_in loaded) hash d p b (kept.first b near) (λ r low. kept.keys b r near low)
-      ∙ ap (λ (x : ℕ). covered_set (kept_first e) (kept_key e) hash x p b) deep ∙ ap (λ (x : ℕ). covered_set (kept_first e) (kept_key e) hash (min (side_depth e) 64) x b) side)
+      is b near ∙ uncovered_first_same (kept_first e) (first_in loaded) (kept_key e) (key_in loaded) hash d p b (kept.first b near) (λ r low. kept.keys b r near low)
+      ∙ ap (λ (x : ℕ). uncovered_first (kept_first e) (kept_key e) hash x p b) deep ∙ ap (λ (x : ℕ). uncovered_first (kept_first e) (kept_key e) hash (min (side_depth e) 64) x b) side
 
   rest_notes : (b : ℕ) → rebuilt (first_in rest) (key_in rest) hash b ≡ left_notes e b
   rest_notes = rebuilt_same (left_first e) (first_in rest) (kept_key e) (key_in rest) hash (λ b stash near. rest_first b near) rest_key
@@ -85,8 +84,8 @@ module _ (e : Enclosed) (low : depth_in e.head < 64) (small : pattern_in e.head 
   pattern_is = omega (arith, small)
 
   left_is : (b : ℕ) → left_first e b ≡ cleared_of e b
-  left_is b = ap (λ (x : ℕ). cleared_mark (kept_first e b) (covered_set (kept_first e) (kept_key e) own_hash x (side_pattern e % 2 ^ 32) b)) depth_is
-      ∙ ap (λ (x : ℕ). cleared_mark (kept_first e b) (covered_set (kept_first e) (kept_key e) own_hash (side_depth e) x b)) pattern_is
+  left_is b = ap (λ (x : ℕ). uncovered_first (kept_first e) (kept_key e) own_hash x (side_pattern e % 2 ^ 32) b) depth_is
+      ∙ ap (λ (x : ℕ). uncovered_first (kept_first e) (kept_key e) own_hash (side_depth e) x b) pattern_is
 
   left_small : (b : ℕ) → left_first e b < 2 ^ 64
   left_small b = let most = and_le_r (kept_first e b) (bit_not w64 (slot_bits (side_slots e b))) in omega (arith, most)

@@ -3,14 +3,13 @@ use Rattle.std.proofs.Common.{◌≡◌, ℕ, ◌+◌, ◌*◌, ◌%◌, ◌^◌
 use Rattle.std.specs.Prelude.{min}
 use Rattle.std.proofs.lemmas.Bool.{cases_lt}
 use Rattle.bucket_meta.specs.Bucket.{record_slots}
-use Rattle.bucket_meta.specs.Marks.{copied_mark}
 use Rattle.image_layout.specs.Places.{homes, buckets, block}
 use Rattle.sound_image.specs.Records.{key_hash}
-use Rattle.whole_segment.specs.Records.{first_in, third_in, key_in, HasWords, covered_set}
+use Rattle.whole_segment.specs.Records.{first_in, third_in, key_in, covered_first, HasWords}
 use Rattle.whole_segment.specs.Rebuilding.{first_with, third_with, rebuilt}
 use Rattle.whole_segment.specs.declared.loaded.Loaded.{Loaded}
 use Rattle.whole_segment.specs.declared.notes.Notes.{Notes}
-use Rattle.whole_segment.proofs.Stashing.{rebuilt_same, covered_same}
+use Rattle.whole_segment.proofs.Stashing.{rebuilt_same, covered_first_same}
 use Rattle.enclose_op.specs.declared.enclosed.Enclosed.{Enclosed}
 use Rattle.enclose_op.specs.Whole.{kept_first, kept_third, kept_key, side_depth, side_pattern}
 use Rattle.split_op.specs.Sides.{side_word, side_first, side_notes, side_mark, side_third, marked_word, thinned_word, side_words, HasMarks, IsThinned}
@@ -24,7 +23,7 @@ IsRebuilt half notes hash b =
     × (slice_index notes.third b ≡ third_with (third_in half b) (rebuilt (first_in half) (key_in half) hash b))
 
 module _ (e : Enclosed) (loaded half : Loaded) (notes : Notes) (d p : ℕ) (kept : HasWords e.buckets loaded) (deep : d ≡ min (side_depth e) 64) (side : p ≡ side_pattern e % 2 ^ 32)
-    (is : (b : ℕ) → b < buckets → first_in half b ≡ copied_mark (first_in loaded b) (covered_set (first_in loaded) (key_in loaded) (key_hash e.site.geometry) d p b))
+    (is : (b : ℕ) → b < buckets → first_in half b ≡ covered_first (first_in loaded) (key_in loaded) (key_hash e.site.geometry) d p b)
     (third : half.third ≡ loaded.third) (keys : half.keys ≡ loaded.keys) (made : (b : ℕ) → b < homes → IsRebuilt half notes (key_hash e.site.geometry) b) where
   abbrev hash : ℕ → ℕ
   hash = key_hash e.site.geometry
@@ -38,9 +37,8 @@ module _ (e : Enclosed) (loaded half : Loaded) (notes : Notes) (d p : ℕ) (kept
 
   half_first : (b : ℕ) → b < buckets → first_in half b ≡ side_first e b
   half_first b near =
-      is b near ∙ ap (λ (x : ℕ). copied_mark x (covered_set (first_in loaded) (key_in loaded) hash d p b)) (kept.first b near)
-      ∙ ap (copied_mark (kept_first e b)) (covered_same (kept_first e) (first_in loaded) (kept_key e) (key_in loaded) hash d p b (kept.first b near) (λ r low. kept.keys b r near low)
-      ∙ ap (λ (x : ℕ). covered_set (kept_first e) (kept_key e) hash x p b) deep ∙ ap (λ (x : ℕ). covered_set (kept_first e) (kept_key e) hash (min (side_depth e) 64) x b) side)
+      is b near ∙ covered_first_same (kept_first e) (first_in loaded) (kept_key e) (key_in loaded) hash d p b (kept.first b near) (λ r low. kept.keys b r near low)
+      ∙ ap (λ (x : ℕ). covered_first (kept_first e) (kept_key e) hash x p b) deep ∙ ap (λ (x : ℕ). covered_first (kept_first e) (kept_key e) hash (min (side_depth e) 64) x b) side
 
   half_notes : (b : ℕ) → rebuilt (first_in half) (key_in half) hash b ≡ side_notes e b
   half_notes = rebuilt_same (side_first e) (first_in half) (kept_key e) (key_in half) hash (λ b stash near. half_first b near) half_key

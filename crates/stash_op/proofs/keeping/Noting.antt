@@ -1,7 +1,6 @@
 -- The stores of the note leave a view that suits, and with the last of them nothing is owed.
-use Rattle.std.proofs.Common.{◌≡◌, ℕ, ◌+◌, ◌<◌, ◌≤◌, Bool, true, false, List, [], ◌∷◌, inl, inr, refl, sym, ap, ◌∙◌, subst, arith}
+use Rattle.std.proofs.Common.{◌≡◌, ℕ, ◌+◌, ◌<◌, ◌≤◌, Bool, true, false, List, [], inl, refl, sym, ap, ◌∙◌, subst, arith}
 use Rattle.std.specs.Prelude.{if◌then◌else◌}
-use Rattle.std.proofs.lemmas.Bool.{eq-eqb}
 use Rattle.bucket_meta.specs.Bucket.{allocated}
 use Rattle.bucket_meta.proofs.Marks.{takes_slot}
 use Rattle.trace.specs.Events.{Words, with_word}
@@ -22,7 +21,7 @@ use Rattle.phase.specs.Buckets.{words_in}
 use Rattle.phase.specs.Giving.{IsHeld}
 use Rattle.phase.specs.Knows.{Knows, HasNoneLoose}
 use Rattle.phase.specs.AreWords.{AreWords}
-use Rattle.phase.proofs.Handing.{none_more, own_repaid}
+use Rattle.phase.proofs.Handing.{none_more, own_repaid, core_settled}
 use Rattle.phase.proofs.locks.Giving.{held_guard, held_store}
 use Rattle.phase.proofs.locks.Knowing.{known_store}
 use Rattle.phase.proofs.locks.Finding.{publish_tells}
@@ -95,14 +94,8 @@ module _ (site : Ground) (kept : Kept) (is : IsIn site kept) (seen : Seen) (befo
       same_core : core_of site.shape (lock + k) m ≡ core_of site.shape (lock + k) x
       same_core = ap (core_of site.shape (lock + k)) (found ∙ known_now) ∙ core
 
-      same_dirty : after.dirty ≡ v.dirty
-      same_dirty = ap (λ t. if t then v.dirty else (lock + k, m) ∷ v.dirty) (eq-eqb (core_of site.shape (lock + k) m) (core_of site.shape (lock + k) x) same_core)
-
       after_settled : HasNoneLoose after
-      after_settled p loose = elim loose [
-        | inl d ↦ u.settled p (inl (subst (λ (l : List (ℕ × ℕ)). Has p l) same_dirty d))
-        | inr f ↦ u.settled p (inr f)
-      ]
+      after_settled = core_settled site.shape (lock + k) m x v.planned v.moving os v same_core u.settled
 
       after_all : HasAll site kept seen after
       after_all = record {

@@ -1,17 +1,16 @@
 -- At the locks, while stash buckets are loaded, at the draw, and while locks are given back: each event leaves a view that suits.
-use Rattle.std.proofs.Common.{ℕ, suc, ◌+◌, ◌%◌, ◌^◌, ◌<◌, true, false, Option, [], ◌∷◌, ◌++◌, length, inl, inr, refl, sym, ap, ◌∙◌, subst}
+use Rattle.std.proofs.Common.{ℕ, ◌+◌, ◌%◌, ◌^◌, ◌<◌, false, Option, refl, sym, ap, ◌∙◌, subst}
 use Rattle.trace.specs.Events.{Words}
 use Rattle.map_model.specs.declared.call.Call.{Call}
 use Rattle.map_model.specs.declared.entry.Reply.{Reply}
 use Rattle.map_model.specs.declared.entry.Reply.TheVariants as reply
-use Rattle.map_model.specs.Map.{key_of}
 use Rattle.map_model.specs.Changes.{call_of}
 use Rattle.world.specs.Ground.{Ground}
 use Rattle.world.specs.Views.{View, IsGuarded}
 use Rattle.world.specs.Wants.{answer_to}
-use Rattle.world.specs.Kinds.{of_other_keys, next_entry, with_reply, with_draw, view_after}
+use Rattle.world.specs.Kinds.{next_entry, with_reply, with_draw, view_after}
 use Rattle.world.specs.Conditions.{IsNewest}
-use Rattle.world.specs.Attempts.{HasNoMore, HasOneMore, EntersReply}
+use Rattle.world.specs.Attempts.{HasNoMore, EntersReply}
 use Rattle.part.specs.Outcomes.{reply_of}
 use Rattle.phase.specs.declared.take.Take.{Take}
 use Rattle.phase.specs.declared.load.Load.{Load}
@@ -22,11 +21,12 @@ use Rattle.phase.specs.Takes.{take_wanted, take_taken}
 use Rattle.phase.specs.Loads.{load_taken}
 use Rattle.phase.specs.Taking.{take_kind}
 use Rattle.phase.specs.Giving.{IsHeld}
-use Rattle.phase.proofs.Handing.{none_more, one_more, same_more, give_own, give_seen, own_drawn}
+use Rattle.phase.proofs.Handing.{none_more, one_more, same_more, give_own, give_seen, one_drawn}
 use Rattle.phase.proofs.Loading.{load_stands}
 use Rattle.phase.proofs.locks.Holding.{learn_may}
 use Rattle.phase.proofs.locks.Taking.{take_stands}
-use Rattle.phase.proofs.locks.Giving.{nothing_left, held_this, held_has, held_same, give_stands}
+use Rattle.phase.proofs.locks.Replying.{reply_gives, draw_gives}
+use Rattle.phase.proofs.locks.Giving.{held_this, held_has, give_stands}
 use Rattle.phase.proofs.Wanting.{take_own, take_seen}
 use Rattle.stash_op.specs.declared.step.StashBucket.{StashBucket}
 use Rattle.stash_op.specs.declared.step.Seen.{Seen}
@@ -72,11 +72,7 @@ module _ (site : Ground) (kept : Kept) (is : IsIn site kept) (seen : Seen) (befo
       → Goes site kept before (answered seen n reply.Spent) (with_reply v (next_entry v (call_of kept.change) reply.Spent n false))
   spent_goes g n same =
       let u : View = with_reply v (next_entry v (call_of kept.change) reply.Spent n false) in (
-        give_suits site kept is seen (ending.Replied reply.Spent n) u (record {
-          located = g.located;
-          locks = held_same kept.site kept.hash kept.segment seen.held v u refl refl refl g.locks;
-          quiet = record { dirty = g.quiet.dirty; flushed = g.quiet.flushed; planned = g.quiet.planned; moving = g.quiet.moving; owed = g.quiet.owed };
-        }),
+        give_suits site kept is seen (ending.Replied reply.Spent n) u (reply_gives site kept.site kept.hash kept.segment seen.held v (next_entry v (call_of kept.change) reply.Spent n false) g),
         subst (λ (o : Option (Reply × ℕ)). EntersReply (call_of kept.change) o before u) (sym (ap reply_of (giving_outcome seen.held (ending.Replied reply.Spent n))))
             (one_more (call_of kept.change) before v reply.Spent n refl same),
       )
@@ -89,26 +85,11 @@ module _ (site : Ground) (kept : Kept) (is : IsIn site kept) (seen : Seen) (befo
     abbrev after : View
     after = with_draw call n v
 
-    entered : HasOneMore call reply.Done n before after
-    entered = record {
-      own = ap (λ o. o ++ record { serial = suc (length o); call = call; reply = reply.Done; place = n; drew = true } ∷ []) same.own;
-      seen = refl;
-    }
-
     pub draw_goes : Goes site kept before (answered seen n reply.Done) after
     draw_goes = (
-      give_suits site kept is seen (ending.Replied reply.Done n) after (record {
-        located = located site kept is d.all.there.within;
-        locks = held_same kept.site kept.hash kept.segment seen.held v after refl refl refl d.all.locks;
-        quiet = record {
-          dirty = nothing_left v.dirty (λ p has. d.settled p (inl has));
-          flushed = nothing_left v.flushed (λ p has. d.settled p (inr has));
-          planned = ap (of_other_keys (key_of call)) d.planned ∙ own_drawn call;
-          moving = d.all.still;
-          owed = d.owes;
-        };
-      }),
-      subst (λ (o : Option (Reply × ℕ)). EntersReply call o before after) (sym (ap reply_of (giving_outcome seen.held (ending.Replied reply.Done n)))) entered,
+      give_suits site kept is seen (ending.Replied reply.Done n) after
+          (draw_gives site kept.site kept.hash kept.segment seen.held v call n (located site kept is d.all.there.within) d.all.locks d.settled d.planned d.all.still d.owes),
+      subst (λ (o : Option (Reply × ℕ)). EntersReply call o before after) (sym (ap reply_of (giving_outcome seen.held (ending.Replied reply.Done n)))) (one_drawn call before v n same),
     )
 
   -- ---- locks back

@@ -1,8 +1,7 @@
 -- The stores of the record keep the view suited, up to those of its note.
-use Rattle.std.proofs.Common.{◌≡◌, ℕ, ◌+◌, ◌*◌, ◌<◌, ◌≤◌, Bool, true, false, List, ◌∷◌, refl, sym, ap, ◌∙◌, subst, arith}
+use Rattle.std.proofs.Common.{◌≡◌, ℕ, ◌+◌, ◌<◌, ◌≤◌, Bool, true, false, List, ◌∷◌, refl, sym, ap, ◌∙◌, subst, arith}
 use Rattle.std.specs.Prelude.{nat_lt, if◌then◌else◌}
 use Rattle.bucket_meta.specs.Bucket.{record_slots}
-use Rattle.bucket_meta.specs.Marks.{finger_place}
 use Rattle.map_model.specs.Changes.{call_of}
 use Rattle.frame_facts.specs.Facts.{Fact}
 use Rattle.world.specs.Ground.{Ground}
@@ -20,7 +19,7 @@ use Rattle.phase.specs.Making.{IsStoring, make_kind, IsMaking, HasMade, IsButSto
 use Rattle.phase.proofs.Handing.{none_more}
 use Rattle.phase.proofs.locks.Giving.{held_guard, held_store, held_same, is_lock}
 use Rattle.phase.proofs.locks.Making.{make_fits, make_knows}
-use Rattle.phase.proofs.locks.Storing.{place_near}
+use Rattle.phase.proofs.locks.Storing.{key_guard, value_guard, fingers_guard}
 use Rattle.stash_op.specs.declared.step.Seen.{Seen}
 use Rattle.phase.specs.declared.note.NoteWord.TheVariants.{Mark}
 use Rattle.stash_op.specs.declared.step.StashStep.TheVariants.{Note}
@@ -45,15 +44,6 @@ module _ (site : Ground) (kept : Kept) (is : IsIn site kept) (seen : Seen) (befo
 
   slot_small : seen.written.slot < record_slots
   slot_small = slot_low site kept seen c.chosen
-
-  key_guard : IsGuarded v.held (key_at lock seen.written)
-  key_guard = let low = slot_small in subst (IsGuarded v.held) (omega arith) (guard (4 + 2 * seen.written.slot) (omega arith) (omega (arith, low)))
-
-  value_guard : IsGuarded v.held (value_at lock seen.written)
-  value_guard = let low = slot_small in subst (IsGuarded v.held) (omega arith) (guard (5 + 2 * seen.written.slot) (omega arith) (omega (arith, low)))
-
-  fingers_guard : IsGuarded v.held (fingers_at lock seen.written)
-  fingers_guard = let near = place_near seen.written.slot in guard (finger_place seen.written.slot) (let a = near.0 in omega (arith, a)) (let b = near.1 in omega (arith, b))
 
   published_guard : IsGuarded v.held (published_at lock seen.written)
   published_guard = subst (λ z. IsGuarded v.held (lock + z)) (sym (published_is site kept seen c.chosen)) (guard 1 (omega arith) (omega arith))
@@ -111,13 +101,13 @@ module _ (site : Ground) (kept : Kept) (is : IsIn site kept) (seen : Seen) (befo
 
   pub make_goes : (m : Make) → IsChanging site kept seen m v → Goes site kept before (made_to seen (make_taken seen.written.slot m)) (after m)
   make_goes Key c = next_goes site kept is seen before v same Key c (after Key) Value
-      (held_store kept.site kept.hash kept.segment site.shape seen.held v (key_at place_lock seen.written) n seen.written.key v.planned v.moving v.owed c.all.locks (key_guard site kept is seen before v same Key c))
+      (held_store kept.site kept.hash kept.segment site.shape seen.held v (key_at place_lock seen.written) n seen.written.key v.planned v.moving v.owed c.all.locks (key_guard v.held place_lock seen.written (guard site kept is seen before v same Key c) (slot_small site kept is seen before v same Key c)))
       refl (has_made Key c) (others Key) c.planned c.owes
   make_goes Value c = next_goes site kept is seen before v same Value c (after Value) Fingers
-      (held_store kept.site kept.hash kept.segment site.shape seen.held v (value_at place_lock seen.written) n seen.written.value v.planned v.moving v.owed c.all.locks (value_guard site kept is seen before v same Value c))
+      (held_store kept.site kept.hash kept.segment site.shape seen.held v (value_at place_lock seen.written) n seen.written.value v.planned v.moving v.owed c.all.locks (value_guard v.held place_lock seen.written (guard site kept is seen before v same Value c) (slot_small site kept is seen before v same Value c)))
       refl (has_made Value c) (others Value) c.planned c.owes
   make_goes Fingers c = next_goes site kept is seen before v same Fingers c (after Fingers) FlushFingers
-      (held_store kept.site kept.hash kept.segment site.shape seen.held v (fingers_at place_lock seen.written) n seen.written.fingers v.planned v.moving v.owed c.all.locks (fingers_guard site kept is seen before v same Fingers c))
+      (held_store kept.site kept.hash kept.segment site.shape seen.held v (fingers_at place_lock seen.written) n seen.written.fingers v.planned v.moving v.owed c.all.locks (fingers_guard v.held place_lock seen.written (guard site kept is seen before v same Fingers c) (slot_small site kept is seen before v same Fingers c)))
       refl (has_made Fingers c) (others Fingers) c.planned c.owes
   make_goes FlushFingers c = line_by c (nat_lt seen.written.slot 2) (has_made FlushFingers c)
   make_goes FlushRecord c = next_goes site kept is seen before v same FlushRecord c (after FlushRecord) FenceRecord (still_locks FlushRecord (after FlushRecord) refl refl refl c) refl (has_made FlushRecord c) (others FlushRecord) c.planned c.owes

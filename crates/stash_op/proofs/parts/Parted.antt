@@ -50,7 +50,7 @@ use Rattle.stash_op.proofs.keeping.Going.{at_first_quiet, begin_suits}
 use Rattle.stash_op.proofs.keeping.Storing.{publishing}
 use Rattle.stash_op.proofs.keeping.Walking.{step_in, may_in}
 use Rattle.stash_op.proofs.parts.Wording.{at_first_words, words_after}
-use Rattle.stash_op.proofs.parts.Putting.{puts_word, asks_within}
+use Rattle.stash_op.proofs.parts.Putting.{puts_in, asks_in}
 use Rattle.stash_op.proofs.parts.Parting.{makes_in, stays_in, done_in, bare_in, few_in, flush_in, keeps_in, none_waits}
 
 -- ---- each event is that of its kind
@@ -166,7 +166,7 @@ module _ (kept : Kept) (seen : Seen) where
 -- ---- IT IS A PART
 within : (site : Ground) (here : Site) (call : Call) (op : StashOp) (v : View) → IsGround site → StashStands site here call op v → IsWithin site.shape (wanted op)
 within site here call op v good st =
-    subst (λ (g : Shape). IsWithin g (wanted op)) st.is_in.shape (asks_within site op.kept st.is_in op.stage.seen (subst (λ (g : Shape). IsShape g) (sym st.is_in.shape) good.shape) v op.stage.step st.view)
+    subst (λ (g : Shape). IsWithin g (wanted op)) st.is_in.shape (asks_in site op.kept st.is_in op.stage.seen (subst (λ (g : Shape). IsShape g) (sym st.is_in.shape) good.shape) v op.stage.step st.view)
 
 -- it never ends since a segment is stale
 known_end : (site : Ground) (end : StashEnd) (facts : List Fact) → LeavesKnown site (outcome_of end) facts
@@ -187,7 +187,7 @@ stash_is_part = record {
   time = record { falls = λ op a i. inl (stash_falls op a i); most = λ op. most_at op.stage.step };
   within = λ site here call op before v good s. within site here call op v good s.stands;
   words = λ site here call op before v s.
-      puts_word site op.kept s.stands.is_in op.stage.seen v s.stands.has.buckets s.stands.has.key s.stands.has.value op.stage.step s.stands.view;
+      puts_in site op.kept s.stands.is_in op.stage.seen v s.stands.has.buckets s.stands.has.key s.stands.has.value op.stage.step s.stands.view;
   flushes = record {
     most = λ op. few_in op.stage.step;
     flushes = λ op a l is e. flush_in op.kept op.stage.seen op.stage.step a is (subst (λ (w : Want). HasFlush w) (sym e) tt);
@@ -208,11 +208,11 @@ stash_is_part = record {
 pub begins_as_part : BeginsAsPart
 begins_as_part site here call kept v m k =
     let is : IsIn site kept = record { shape = k.holds.located.shape; hash = k.holds.hashed; leading = k.leads; insert = k.insert } in
-    let all = at_first_words kept (nothing kept) m.buckets kept.held.first in record {
-      same = m.same;
-      at = m.at;
+    let all = at_first_words kept (nothing kept) m.whose.buckets kept.held.first in record {
+      same = m.whose.same;
+      at = m.whose.at;
       is_in = is;
-      has = record { key = m.key; value = m.value; buckets = all.0; load = all.1 };
+      has = record { key = m.whose.key; value = m.whose.value; buckets = all.0; load = all.1 };
       view = begin_suits site kept v k m.thirds is;
     }
 
@@ -225,7 +225,7 @@ hands_on_all site here call op v st is =
     let e = full op.stage.step is in
     let all : SuitsStep site op.kept op.stage.seen (Ended (ends.NeedSplit e.0)) v = subst (λ z. SuitsStep site op.kept op.stage.seen z v) e.1 st.view in
     record {
-      may = record { same = st.same; at = st.at; key = st.has.key; value = st.has.value; buckets = st.has.buckets; thirds = all.0.thirds };
+      may = record { whose = record { same = st.same; at = st.at; key = st.has.key; value = st.has.value; buckets = st.has.buckets }; thirds = all.0.thirds };
       full = all.0;
       told = ap end_at e.1 ∙ ap (λ s. ends.NeedSplit s) all.1;
     }

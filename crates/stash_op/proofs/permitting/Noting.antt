@@ -1,22 +1,22 @@
 -- The stores of the note that is owed are of kinds that the view may take, and keep the cores of their words.
-use Rattle.std.proofs.Common.{◌≡◌, ◌≢◌, ◌⊎◌, ℕ, ◌+◌, ◌*◌, ◌%◌, ◌^◌, ◌<◌, Bool, true, false, List, ◌∷◌, ◌++◌, inl, inr, refl, sym, ap, ◌∙◌, subst, arith, slice_index}
+use Rattle.std.proofs.Common.{◌≡◌, ◌⊎◌, ℕ, ◌+◌, ◌*◌, ◌%◌, ◌^◌, ◌<◌, Bool, true, false, List, ◌∷◌, inl, inr, refl, sym, ap, ◌∙◌, subst, arith, slice_index}
 use Rattle.std.specs.Prelude.{◌==◌, if◌then◌else◌}
 use Rattle.std.proofs.lemmas.Bool.{eqb-true}
 use Rattle.hash_word.specs.Hash.{home_of, probing_of, finger_of}
 use Rattle.bucket_meta.specs.Bucket.{allocated, overflow_count}
-use Rattle.bucket_meta.specs.Notes.{OverflowNote, AreExact, notes_by}
+use Rattle.bucket_meta.specs.Notes.{OverflowNote, AreExact}
 use Rattle.trace.specs.Events.{Words, with_word}
 use Rattle.image_layout.specs.Places.{Shape, bucket_at, buckets}
-use Rattle.sound_image.specs.Records.{notes_in, notes_of, word_in}
+use Rattle.sound_image.specs.Records.{notes_of, word_in}
 use Rattle.bucket_words.specs.Core.{core_of, core_in_bucket}
 use Rattle.bucket_words.specs.Hits.{Hit}
 use Rattle.bucket_words.proofs.segments.Cores.{core_in}
-use Rattle.bucket_words.proofs.segments.Places.{other_word, this_word}
+use Rattle.bucket_words.proofs.segments.Places.{other_word}
 use Rattle.world.specs.Ground.{Ground}
 use Rattle.world.specs.Views.{Owed, View, Has}
 use Rattle.world.specs.Kinds.{repays}
 use Rattle.world.specs.Conditions.{May, IsOwed}
-use Rattle.world.specs.Holders.{KnowsBucket, KeepsNeighbours, TouchesNote}
+use Rattle.world.specs.Holders.{KnowsBucket, TouchesNote}
 use Rattle.world.proofs.holding.Repaying.{may_repay}
 use Rattle.phase.specs.declared.role.Role.{Role}
 use Rattle.phase.specs.declared.role.Role.TheVariants as place
@@ -35,7 +35,7 @@ use Rattle.stash_op.specs.declared.step.NoteWords.{NoteWords}
 use Rattle.stash_op.specs.declared.step.Seen.{Seen}
 use Rattle.phase.specs.declared.note.NoteWord.{NoteWord}
 use Rattle.phase.specs.declared.note.NoteWord.TheVariants.{Mark, Fingers}
-use Rattle.phase.proofs.Noting.{Four, notes_four, KeepsBeside}
+use Rattle.phase.proofs.Noting.{Four, notes_four, KeepsBeside, HasFour, next_near, four_notes, store_h1, store_h3, store_p1, store_p3, neighbours as beside_kept}
 use Rattle.stash_op.specs.Search.{place_of, index_of, note_place, noted, has_finger}
 use Rattle.stash_op.specs.Steps.{lock_of}
 use Rattle.stash_op.specs.Fits.{loaded, prepared, changed, marked, owed, mark_kind, note_kind, words_of_note, IsHere, IsNoting, IsIn}
@@ -50,99 +50,31 @@ abbrev pub bucket_by : ℕ → NoteBucket → ℕ
 bucket_by b Home = b
 bucket_by b Probing = probing_of b
 
--- ---- words 1 and 3 of two buckets, among all words
+-- ---- words 1 and 3 of the two buckets, among all words, by the bucket of a note
 module _ (shape : Shape) (s b : ℕ) (near : b < 64) where
-  abbrev at_home : ℕ
-  at_home = bucket_at shape s b
+  store_one : (p : NoteBucket) (w : Words) (f : Four) (x : ℕ) → HasFour shape s b near w f → HasFour shape s b near (with_word w (bucket_at shape s (bucket_by b p) + 1) x) (with_one p x f)
+  store_one Home = store_h1 shape s b near
+  store_one Probing = store_p1 shape s b near
 
-  abbrev at_probing : ℕ
-  at_probing = bucket_at shape s (probing_of b)
+  store_three : (p : NoteBucket) (w : Words) (f : Four) (x : ℕ) → HasFour shape s b near w f → HasFour shape s b near (with_word w (bucket_at shape s (bucket_by b p) + 3) x) (with_three p x f)
+  store_three Home = store_h3 shape s b near
+  store_three Probing = store_p3 shape s b near
 
-  pub record HasFour (w : Words) (f : Four) : Type 0 where
-    pub h1 : w (at_home + 1) ≡ f.h1
-    pub h3 : w (at_home + 3) ≡ f.h3
-    pub p1 : w (at_probing + 1) ≡ f.p1
-    pub p3 : w (at_probing + 3) ≡ f.p3
-
-  next_near : probing_of b < 64
-  next_near = omega arith
-
-  next_other : b ≢ probing_of b
-  next_other e = omega (arith, e, near)
-
-  four_notes : (w : Words) (f : Four) → HasFour w f → notes_of shape w s b ≡ notes_four f
-  four_notes w f h =
-      ap (λ z. notes_by z (w (at_home + 3)) 0 ++ notes_by (w (at_probing + 1)) (w (at_probing + 3)) 1) h.h1
-      ∙ ap (λ z. notes_by f.h1 z 0 ++ notes_by (w (at_probing + 1)) (w (at_probing + 3)) 1) h.h3
-      ∙ ap (λ z. notes_by f.h1 f.h3 0 ++ notes_by z (w (at_probing + 3)) 1) h.p1
-      ∙ ap (λ z. notes_by f.h1 f.h3 0 ++ notes_by f.p1 z 1) h.p3
-
-  home_notes : (w : Words) (f : Four) (side : ℕ) → HasFour w f → notes_in shape w s b side ≡ notes_by f.h1 f.h3 side
-  home_notes w f side h = ap (λ z. notes_by z (w (at_home + 3)) side) h.h1 ∙ ap (λ z. notes_by f.h1 z side) h.h3
-
-  probing_notes : (w : Words) (f : Four) (side : ℕ) → HasFour w f → notes_in shape w s (probing_of b) side ≡ notes_by f.p1 f.p3 side
-  probing_notes w f side h = ap (λ z. notes_by z (w (at_probing + 3)) side) h.p1 ∙ ap (λ z. notes_by f.p1 z side) h.p3
-
-  -- a store to one of them
-  store_one : (p : NoteBucket) (w : Words) (f : Four) (x : ℕ) → HasFour w f → HasFour (with_word w (bucket_at shape s (bucket_by b p) + 1) x) (with_one p x f)
-  store_one Home w f x h =
-      let other = other_word shape w s b 1 x (at_home + 1) (omega (arith, near)) (omega arith) refl in
-      record {
-        h1 = this_word shape w s b 1 x (at_home + 1) (omega (arith, near)) (omega arith) refl (at_home + 1) refl;
-        h3 = other s b 3 (at_home + 3) (omega (arith, near)) (omega arith) refl (λ p q r. omega (arith, r)) ∙ h.h3;
-        p1 = other s (probing_of b) 1 (at_probing + 1) (omega arith) (omega arith) refl (λ p q r. next_other (sym q)) ∙ h.p1;
-        p3 = other s (probing_of b) 3 (at_probing + 3) (omega arith) (omega arith) refl (λ p q r. next_other (sym q)) ∙ h.p3;
-      }
-  store_one Probing w f x h =
-      let other = other_word shape w s (probing_of b) 1 x (at_probing + 1) (omega arith) (omega arith) refl in
-      record {
-        h1 = other s b 1 (at_home + 1) (omega (arith, near)) (omega arith) refl (λ p q r. next_other q) ∙ h.h1;
-        h3 = other s b 3 (at_home + 3) (omega (arith, near)) (omega arith) refl (λ p q r. next_other q) ∙ h.h3;
-        p1 = this_word shape w s (probing_of b) 1 x (at_probing + 1) (omega arith) (omega arith) refl (at_probing + 1) refl;
-        p3 = other s (probing_of b) 3 (at_probing + 3) (omega arith) (omega arith) refl (λ p q r. omega (arith, r)) ∙ h.p3;
-      }
-
-  store_three : (p : NoteBucket) (w : Words) (f : Four) (x : ℕ) → HasFour w f → HasFour (with_word w (bucket_at shape s (bucket_by b p) + 3) x) (with_three p x f)
-  store_three Home w f x h =
-      let other = other_word shape w s b 3 x (at_home + 3) (omega (arith, near)) (omega arith) refl in
-      record {
-        h1 = other s b 1 (at_home + 1) (omega (arith, near)) (omega arith) refl (λ p q r. omega (arith, r)) ∙ h.h1;
-        h3 = this_word shape w s b 3 x (at_home + 3) (omega (arith, near)) (omega arith) refl (at_home + 3) refl;
-        p1 = other s (probing_of b) 1 (at_probing + 1) (omega arith) (omega arith) refl (λ p q r. next_other (sym q)) ∙ h.p1;
-        p3 = other s (probing_of b) 3 (at_probing + 3) (omega arith) (omega arith) refl (λ p q r. next_other (sym q)) ∙ h.p3;
-      }
-  store_three Probing w f x h =
-      let other = other_word shape w s (probing_of b) 3 x (at_probing + 3) (omega arith) (omega arith) refl in
-      record {
-        h1 = other s b 1 (at_home + 1) (omega (arith, near)) (omega arith) refl (λ p q r. next_other q) ∙ h.h1;
-        h3 = other s b 3 (at_home + 3) (omega (arith, near)) (omega arith) refl (λ p q r. next_other q) ∙ h.h3;
-        p1 = other s (probing_of b) 1 (at_probing + 1) (omega arith) (omega arith) refl (λ p q r. omega (arith, r)) ∙ h.p1;
-        p3 = this_word shape w s (probing_of b) 3 x (at_probing + 3) (omega arith) (omega arith) refl (at_probing + 3) refl;
-      }
-
-  one_here : (p : NoteBucket) (w : Words) (f : Four) → HasFour w f → w (bucket_at shape s (bucket_by b p) + 1) ≡ one_of p f
+  one_here : (p : NoteBucket) (w : Words) (f : Four) → HasFour shape s b near w f → w (bucket_at shape s (bucket_by b p) + 1) ≡ one_of p f
   one_here Home w f h = h.h1
   one_here Probing w f h = h.p1
 
-  three_here : (p : NoteBucket) (w : Words) (f : Four) → HasFour w f → w (bucket_at shape s (bucket_by b p) + 3) ≡ three_of p f
+  three_here : (p : NoteBucket) (w : Words) (f : Four) → HasFour shape s b near w f → w (bucket_at shape s (bucket_by b p) + 3) ≡ three_of p f
   three_here Home w f h = h.h3
   three_here Probing w f h = h.p3
 
   by_near : (p : NoteBucket) → bucket_by b p < 64
   by_near Home = near
-  by_near Probing = next_near
+  by_near Probing = next_near shape s b near
 
   by_bucket : (p : NoteBucket) → (bucket_by b p ≡ b) ⊎ (bucket_by b p ≡ probing_of b)
   by_bucket Home = inl refl
   by_bucket Probing = inr refl
-
-  -- what such a store leaves of the neighbours
-  neighbours : (w u : Words) (f g : Four) → HasFour w f → HasFour u g → KeepsBeside f g → KeepsNeighbours shape w u s b
-  neighbours w u f g h k beside = record {
-    home_before = home_notes u g 1 k ∙ beside.before ∙ sym (home_notes w f 1 h);
-    home_after = probing_notes u g 0 k ∙ beside.after ∙ sym (probing_notes w f 0 h);
-    count_after = ap overflow_count k.p1 ∙ beside.count ∙ ap overflow_count (sym h.p1);
-  }
 
 three_stays : (p : NoteBucket) (x : ℕ) (g : Four) → three_of p (with_one p x g) ≡ three_of p g
 three_stays Home x g = refl
@@ -274,7 +206,7 @@ module _ (site : Ground) (kept : Kept) (is : IsIn site kept) (seen : Seen) (v : 
         bucket = by_bucket site.shape s b near n.bucket;
         meta = meta;
         same_core = core_in site.shape s c m x at.within c_low small ∙ core ∙ sym (core_in site.shape s c m (w (bucket_at site.shape s c + m)) at.within c_low small);
-        neighbours = neighbours site.shape s b near w (with_word w (bucket_at site.shape s c + m) x) g k has after stays;
+        neighbours = beside_kept site.shape s b near w (with_word w (bucket_at site.shape s c + m) x) g k has after stays;
       }
 
     exact_after : (g : Four) (w : Words) → HasFour site.shape s b near w g → IsWith f note g → (stashed : List OverflowNote) → AreExact (note ∷ (owed kept seen).notes) (owed kept seen).count stashed

@@ -1,8 +1,9 @@
 -- A position has one bucket and one slot, and these have that position.
-use Rattle.std.proofs.Common.{◌≡◌, ◌≢◌, ℕ, ◌+◌, ◌<◌, ◌≤◌, cond, Bool, true, false, sym, ap, ◌∙◌, inl, inr, arith}
-use Rattle.std.specs.Prelude.{nat_lt, ◌==◌}
-use Rattle.std.proofs.lemmas.Bool.{cases_eq, cases_lt, lt-ltb, le-ltb, eq-eqb, ne_eqb}
+use Rattle.std.proofs.Common.{◌≡◌, ◌≢◌, ℕ, suc, ◌+◌, ◌-◌, ◌/◌, ◌<◌, ◌≤◌, cond, Bool, true, false, sym, ap, ◌∙◌, inl, inr, arith}
+use Rattle.std.specs.Prelude.{◌==◌}
+use Rattle.std.proofs.lemmas.Bool.{cases_eq, cases_lt, eq-eqb, ne_eqb}
 use Rattle.hash_word.specs.Hash.{probing_of}
+use Rattle.image_layout.specs.Standing.{looked_at}
 use Rattle.whole_segment.specs.Order.{bucket_at, slot_at, position_of}
 
 -- a choice by tests that are known
@@ -29,24 +30,16 @@ module _ (home : ℕ) (within : home < 64) where
 
   -- ---- the bucket of a position
   pub in_home : (p : ℕ) → p < 14 → bucket_at home p ≡ home
-  in_home p low = ap (λ b. cond b home (cond (nat_lt p 28) (probing_of home) (cond (nat_lt p 42) 64 65))) (lt-ltb p 14 low)
+  in_home p low = let n : p / 14 ≡ 0 = omega (arith, low) in ap (looked_at home) n
 
   pub in_probing : (p : ℕ) → 14 ≤ p → p < 28 → bucket_at home p ≡ probing_of home
-  in_probing p high low =
-      ap (λ b. cond b home (cond (nat_lt p 28) (probing_of home) (cond (nat_lt p 42) 64 65))) (le-ltb p 14 high)
-      ∙ ap (λ b. cond b (probing_of home) (cond (nat_lt p 42) 64 65)) (lt-ltb p 28 low)
+  in_probing p high low = let n : p / 14 ≡ 1 = omega (arith, high, low) in ap (looked_at home) n
 
   pub in_stash : (p : ℕ) → 28 ≤ p → p < 42 → bucket_at home p ≡ 64
-  in_stash p high low =
-      ap (λ b. cond b home (cond (nat_lt p 28) (probing_of home) (cond (nat_lt p 42) 64 65))) (le-ltb p 14 (omega (arith, high)))
-      ∙ ap (λ b. cond b (probing_of home) (cond (nat_lt p 42) 64 65)) (le-ltb p 28 high)
-      ∙ ap (λ b. cond b 64 65) (lt-ltb p 42 low)
+  in_stash p high low = let n : p / 14 ≡ 2 = omega (arith, high, low) in ap (looked_at home) n
 
   pub in_last : (p : ℕ) → 42 ≤ p → bucket_at home p ≡ 65
-  in_last p high =
-      ap (λ b. cond b home (cond (nat_lt p 28) (probing_of home) (cond (nat_lt p 42) 64 65))) (le-ltb p 14 (omega (arith, high)))
-      ∙ ap (λ b. cond b (probing_of home) (cond (nat_lt p 42) 64 65)) (le-ltb p 28 (omega (arith, high)))
-      ∙ ap (λ b. cond b 64 65) (le-ltb p 42 high)
+  in_last p high = let n : p / 14 ≡ suc (suc (suc (p / 14 - 3))) = omega (arith, high) in ap (looked_at home) n
 
   pub bucket_low : (p : ℕ) → bucket_at home p < 66
   bucket_low p = elim (cases_lt p 14) [

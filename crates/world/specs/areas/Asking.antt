@@ -9,7 +9,7 @@ use Rattle.image_layout.specs.Volatile.{free_guard}
 use Rattle.sound_image.specs.Segments.{frame_of}
 use Rattle.sound_image.specs.Records.{key_hash, HasExactNotes}
 use Rattle.frame_facts.specs.Core.{core_of, core}
-use Rattle.frame_facts.specs.Standing.{IsTable}
+use Rattle.frame_facts.specs.Standing.{KeysStandOnce, NotesAreExact, IsTable}
 use Rattle.frame_facts.specs.Hits.{Hit}
 use Rattle.frame_facts.specs.Owners.{owner_of}
 use Rattle.frame_facts.specs.TableChanges.{KeepsTable}
@@ -100,8 +100,8 @@ module _ (site : Ground) where
   -- A SEGMENT IS IN ORDER: it owns each record in it, a key stands once, and notes are exact
   pub record IsInOrder (words : Words) (s : ℕ) : Type 0 where
     pub own : (b r k : ℕ) → Hit site.shape words s b r k → owner_of site.shape words (key_hash site.shape k) ≡ Some s
-    pub once : (b r c t k : ℕ) → Hit site.shape words s b r k → Hit site.shape words s c t k → (b ≡ c) × (r ≡ t)
-    pub exact : (b : ℕ) → b < homes → HasExactNotes site.shape words s b
+    pub once : KeysStandOnce site.shape words s
+    pub exact : NotesAreExact site.shape words s
 
   -- it is so whatever the newest words are, after a store
   abbrev pub BringsInOrder : View → ℕ → ℕ → ℕ → Type 0

@@ -3,14 +3,13 @@
 use Rattle.std.specs.Prelude.{◌≡◌, ◌≢◌, ℕ, ◌<◌, ◌≤◌, List}
 use Rattle.trace.specs.Events.{Words, value}
 use Rattle.trace.specs.Steps.{HadSinceSettled}
-use Rattle.bucket_meta.specs.Bucket.{lock_bit}
 use Rattle.segment_head.specs.HeadWord.{normal, splitting}
-use Rattle.image_layout.specs.Places.{bucket_at, buckets, words_of}
+use Rattle.image_layout.specs.Places.{words_of}
 use Rattle.image_layout.specs.Volatile.{all_words_of}
 use Rattle.sound_image.specs.Segments.{frame_of, image_version, state_at}
 use Rattle.sound_image.specs.Directory.{VersionIsPast}
 use Rattle.frame_facts.specs.Claims.{HasSoundFrame}
-use Rattle.frame_facts.specs.Standing.{IsTable}
+use Rattle.frame_facts.specs.Standing.{LocksAreFree, IsTable}
 use Rattle.frame_facts.specs.Hits.{find}
 use Rattle.world.specs.Ground.{Ground, IsGround, version_of, IsStructured, IsCurrentIn}
 use Rattle.world.specs.Views.{View, At}
@@ -43,7 +42,7 @@ FreshViewsStand = (site : Ground) (words : Words) (views : List View) → IsGrou
 pub record IsRepaired (site : Ground) (words : Words) (s : ℕ) : Type 0 where
   pub normal : state_at (frame_of site.shape words) s ≡ normal
   pub in_order : IsInOrder site words s
-  pub free : (b : ℕ) → b < buckets → lock_bit (words (bucket_at site.shape s b)) ≡ 0
+  pub free : LocksAreFree site.shape words s
 
 -- THE WORLD IS RESTARTED: a sound structure and a table with the start's pairs, with all its words settled; the words behind the image are
 -- 0, so that no change is drawn, the power is on, and nobody has a guard; and nobody has done anything

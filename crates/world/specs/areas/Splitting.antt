@@ -15,6 +15,7 @@ use Rattle.frame_facts.specs.Core.{core_of}
 use Rattle.frame_facts.specs.Facts.{Owns, Lacks, Deep}
 use Rattle.frame_facts.specs.DeadSlots.{IsInSlot, IsPlainInSlot}
 use Rattle.frame_facts.specs.Copies.{IsSlotCopy}
+use Rattle.frame_facts.specs.Standing.{KeysStandOnce, NotesAreExact}
 use Rattle.world.specs.Ground.{Ground, IsLockWord, version_of}
 use Rattle.world.specs.Views.{View, Has, HasLock}
 use Rattle.world.specs.Conditions.{IsNewest}
@@ -105,8 +106,8 @@ pub record IsReadyToLive (site : Ground) (v : View) (s n : ℕ) (word : Words) :
   pub buckets_are : KnowsBuckets site.shape v s word
   pub side_buckets : KnowsRecords site.shape v n word
   pub copied : IsSlotCopy site.shape word s n
-  pub once : (b r c t k : ℕ) → Hit site.shape word s b r k → Hit site.shape word s c t k → (b ≡ c) × (r ≡ t)
-  pub exact : (b : ℕ) → b < homes → HasExactNotes site.shape word n b
+  pub once : KeysStandOnce site.shape word s
+  pub exact : NotesAreExact site.shape word n
   pub free : KnowsFree site v n
   pub firm : IsFirmIn v (IsInSlot site.shape n)
 

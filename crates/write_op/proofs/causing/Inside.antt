@@ -50,12 +50,13 @@ use Rattle.write_op.specs.Steps.{go, end_of, giving, answered, walked_to, locked
 use Rattle.write_op.specs.AnyMemory.{after_all, AsksInside}
 use Rattle.write_op.proofs.finding.Searching.{found_some}
 use Rattle.write_op.proofs.finding.Rooms.{room_some}
-use Rattle.write_op.proofs.parts.Putting.{IsInBucket, within_in}
+use Rattle.phase.proofs.asking.Events.{IsInBucket}
+use Rattle.write_op.proofs.parts.Putting.{within_in}
 use Rattle.write_op.proofs.causing.Anywhere.{same_task}
 
 -- ---- in each step
 abbrev StoresIn : Seen → WriteStep → Type 0
-StoresIn seen (step.Make m) = IsInBucket seen
+StoresIn seen (step.Make m) = IsInBucket seen.written
 StoresIn seen more = ⊤
 
 abbrev Stores : Stage → Type 0
@@ -84,7 +85,7 @@ module _ (task : Task) (seen : Seen) where
 
   taken_stores : (place : Role) (lock : ℕ) (x : Taken) → Stores (locked_to seen place lock x)
   taken_stores place lock (taking.On take) = tt
-  taken_stores place lock (taking.Held free) = held_stores _ place
+  taken_stores place lock (taking.Held free) = held_stores (locked_to seen place lock (taking.Held free)).seen place
   taken_stores place lock (taking.Busy value) = giving_stores seen seen.held _
   taken_stores place lock (taking.Moved before after) = giving_stores seen seen.held _
   taken_stores place lock taking.Spent = tt
@@ -129,7 +130,7 @@ module _ (task : Task) (seen : Seen) where
   decided_stores count (Update value) = changing_stores count (found seen task.change.key) refl
   decided_stores count Remove = changing_stores count (found seen task.change.key) refl
 
-  made_stores : IsInBucket seen → (x : Made) → Stores (made_to seen x)
+  made_stores : IsInBucket seen.written → (x : Made) → Stores (made_to seen x)
   made_stores b (made.On m) = b
   made_stores b made.Settled = tt
 

@@ -30,6 +30,7 @@ use Rattle.write_op.specs.declared.step.Spot.{Spot}
 use Rattle.write_op.specs.declared.step.Seen.{Seen}
 use Rattle.phase.specs.declared.ending.Ending.TheVariants as ending
 use Rattle.phase.proofs.asking.Asked.{never}
+use Rattle.phase.proofs.locks.Replying.{reply_gives}
 use Rattle.write_op.specs.declared.step.WriteEnd.TheVariants as ends
 use Rattle.write_op.specs.declared.step.WriteStep.TheVariants as step
 use Rattle.write_op.specs.declared.step.Stage.{Stage}
@@ -51,11 +52,7 @@ module _ (site : Ground) (task : Task) (is : IsIn site task) (seen : Seen) (befo
       → Goes site task before (answered seen n r) (with_reply v (next_entry v (call_of task.change) r n false))
   refused g r n plain =
       let u : View = with_reply v (next_entry v (call_of task.change) r n false) in (
-        give_suits site task is seen (ending.Replied r n) u (record {
-          located = g.located;
-          locks = record { has = g.locks.has; only = g.locks.only; free = g.locks.free; known = g.locks.known; areas = g.locks.areas };
-          quiet = record { dirty = g.quiet.dirty; flushed = g.quiet.flushed; planned = g.quiet.planned; moving = g.quiet.moving; owed = g.quiet.owed };
-        }),
+        give_suits site task is seen (ending.Replied r n) u (reply_gives site task.site task.hash seen.path.segment seen.held v (next_entry v (call_of task.change) r n false) g),
         subst (λ (o : Option (Reply × ℕ)). EntersReply (call_of task.change) o before u) (sym (ap reply_of (giving_outcome seen.held (ending.Replied r n))))
             (one_more (call_of task.change) before v r n plain same),
       )

@@ -1,5 +1,5 @@
 -- The draw keeps the view suited: its reply is entered, and the locks go back, but that a note may be owed.
-use Rattle.std.proofs.Common.{◌≡◌, ℕ, suc, Bool, true, false, [], ◌∷◌, ◌++◌, length, inl, inr, refl, sym, ap, ◌∙◌, subst}
+use Rattle.std.proofs.Common.{◌≡◌, ℕ, Bool, true, false, [], refl, sym, ap, ◌∙◌, subst}
 use Rattle.std.specs.Prelude.{if◌then◌else◌}
 use Rattle.map_model.specs.declared.call.Call.{Call}
 use Rattle.map_model.specs.declared.entry.Reply.TheVariants as reply
@@ -10,8 +10,8 @@ use Rattle.world.specs.Views.{View}
 use Rattle.world.specs.Kinds.{of_other_keys, with_draw}
 use Rattle.world.specs.Attempts.{HasNoMore, HasOneMore, EntersReply}
 use Rattle.part.specs.Outcomes.{reply_of}
-use Rattle.phase.proofs.locks.Giving.{nothing_left}
-use Rattle.phase.proofs.Handing.{own_drawn}
+use Rattle.phase.proofs.locks.Replying.{draw_gives}
+use Rattle.phase.proofs.Handing.{own_drawn, one_drawn}
 use Rattle.write_op.specs.declared.step.Task.{Task}
 use Rattle.write_op.specs.declared.step.Seen.{Seen}
 use Rattle.phase.specs.declared.ending.Ending.TheVariants as ending
@@ -35,16 +35,7 @@ module _ (site : Ground) (task : Task) (is : IsIn site task) (seen : Seen) (befo
   drawn = ap (of_other_keys (key_of call)) d.planned ∙ own_drawn call
 
   entered : HasOneMore call reply.Done n before after
-  entered = record {
-    own = ap (λ o. o ++ record { serial = suc (length o); call = call; reply = reply.Done; place = n; drew = true } ∷ []) same.own;
-    seen = refl;
-  }
-
-  no_dirty : v.dirty ≡ []
-  no_dirty = nothing_left v.dirty (λ p h. d.settled p (inl h))
-
-  no_flushed : v.flushed ≡ []
-  no_flushed = nothing_left v.flushed (λ p h. d.settled p (inr h))
+  entered = one_drawn call before v n same
 
   by : (b : Bool) → leaves_note task.change.effect seen.place ≡ b → Goes site task before (if b then go seen (Unnote Mark n) else answered seen n reply.Done) after
   by true e = (
@@ -67,11 +58,8 @@ module _ (site : Ground) (task : Task) (is : IsIn site task) (seen : Seen) (befo
     entered,
   )
   by false e = (
-    give_suits site task is seen (ending.Replied reply.Done n) after (record {
-      located = located site task is seen v.facts d.all.there;
-      locks = record { has = d.all.locks.has; only = d.all.locks.only; free = d.all.locks.free; known = d.all.locks.known; areas = d.all.locks.areas };
-      quiet = record { dirty = no_dirty; flushed = no_flushed; planned = drawn; moving = d.all.still; owed = d.owes ∙ ap (owed_by site task seen) e };
-    }),
+    give_suits site task is seen (ending.Replied reply.Done n) after
+        (draw_gives site task.site task.hash seen.path.segment seen.held v call n (located site task is seen v.facts d.all.there) d.all.locks d.settled d.planned d.all.still (d.owes ∙ ap (owed_by site task seen) e)),
     subst (λ o. EntersReply call o before after) (sym (ap reply_of (giving_outcome seen.held (ending.Replied reply.Done n)))) entered,
   )
 

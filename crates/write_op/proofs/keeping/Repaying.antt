@@ -1,7 +1,6 @@
 -- The stores by which a note is taken away leave a view that suits.
-use Rattle.std.proofs.Common.{◌≡◌, ◌⊎◌, ℕ, ◌+◌, ◌<◌, ◌≤◌, Bool, true, false, Option, Some, List, [], ◌∷◌, inl, inr, refl, sym, ap, ◌∙◌, subst, arith}
+use Rattle.std.proofs.Common.{◌≡◌, ◌⊎◌, ℕ, ◌+◌, ◌<◌, ◌≤◌, Bool, true, false, Option, Some, List, [], inl, inr, refl, sym, ap, ◌∙◌, subst, arith}
 use Rattle.std.specs.Prelude.{if◌then◌else◌}
-use Rattle.std.proofs.lemmas.Bool.{eq-eqb}
 use Rattle.trace.specs.Events.{Words, with_word}
 use Rattle.map_model.specs.declared.entry.Reply.{Reply}
 use Rattle.map_model.specs.declared.entry.Reply.TheVariants as reply
@@ -19,7 +18,7 @@ use Rattle.phase.specs.declared.role.Role.TheVariants.{Home, Probing}
 use Rattle.phase.specs.AreWords.{AreWords}
 use Rattle.phase.specs.Giving.{IsHeld, IsOfHeld, HoldsLocks}
 use Rattle.phase.specs.Knows.{Knows, HasNoneLoose}
-use Rattle.phase.proofs.Handing.{same_more, own_repaid}
+use Rattle.phase.proofs.Handing.{same_more, own_repaid, core_settled}
 use Rattle.phase.proofs.locks.Giving.{held_has, held_store, nothing_left}
 use Rattle.phase.proofs.locks.Knowing.{known_store}
 use Rattle.phase.specs.Buckets.{words_in}
@@ -80,14 +79,8 @@ module _ (site : Ground) (task : Task) (is : IsIn site task) (seen : Seen) (befo
       same_core : core_of site.shape (lock + k) m ≡ core_of site.shape (lock + k) x
       same_core = ap (core_of site.shape (lock + k)) (found ∙ known_now) ∙ core
 
-      same_dirty : after.dirty ≡ v.dirty
-      same_dirty = ap (λ t. if t then v.dirty else (lock + k, m) ∷ v.dirty) (eq-eqb (core_of site.shape (lock + k) m) (core_of site.shape (lock + k) x) same_core)
-
       after_settled : HasNoneLoose after
-      after_settled p loose = elim loose [
-        | inl d ↦ u.settled p (inl (subst (λ (l : List (ℕ × ℕ)). Has p l) same_dirty d))
-        | inr f ↦ u.settled p (inr f)
-      ]
+      after_settled = core_settled site.shape (lock + k) m x v.planned v.moving os v same_core u.settled
 
       after_locks : HoldsLocks task.site task.hash seen.path.segment seen.held after
       after_locks = held_store task.site task.hash seen.path.segment site.shape seen.held v (lock + k) m x v.planned v.moving os u.all.locks (guard k from low)

@@ -1,8 +1,7 @@
 -- The stores of the record keep the view suited, up to the draw.
-use Rattle.std.proofs.Common.{◌≡◌, ℕ, ◌+◌, ◌*◌, ◌<◌, ◌≤◌, Bool, true, false, ◌∷◌, refl, sym, ap, ◌∙◌, subst, arith}
+use Rattle.std.proofs.Common.{◌≡◌, ℕ, ◌+◌, ◌<◌, ◌≤◌, Bool, true, false, ◌∷◌, refl, sym, ap, ◌∙◌, subst, arith}
 use Rattle.std.specs.Prelude.{nat_lt, if◌then◌else◌}
 use Rattle.bucket_meta.specs.Bucket.{record_slots}
-use Rattle.bucket_meta.specs.Marks.{finger_place}
 use Rattle.map_model.specs.declared.change.Effect.{Effect}
 use Rattle.map_model.specs.declared.change.Effect.TheVariants.{Insert, Update, Remove}
 use Rattle.map_model.specs.Changes.{call_of}
@@ -21,7 +20,7 @@ use Rattle.phase.specs.Making.{IsStoring, make_kind, IsNew, IsMaking, HasMade}
 use Rattle.phase.proofs.Handing.{none_more}
 use Rattle.phase.proofs.locks.Giving.{is_lock, held_has, held_store, held_same}
 use Rattle.phase.proofs.locks.Making.{make_knows}
-use Rattle.phase.proofs.locks.Storing.{place_near}
+use Rattle.phase.proofs.locks.Storing.{key_guard, value_guard, fingers_guard}
 use Rattle.write_op.specs.declared.step.Task.{Task}
 use Rattle.write_op.specs.declared.step.Seen.{Seen}
 use Rattle.write_op.specs.declared.step.WriteStep.TheVariants as step
@@ -61,15 +60,6 @@ module _ (site : Ground) (task : Task) (is : IsIn site task) (seen : Seen) (befo
 
   published_is : seen.written.published ≡ published_word task.change.effect seen.written.slot
   published_is = ap (λ (w : Record). w.published) (written_is site task seen c.all.upto c.chosen)
-
-  key_guard : IsGuarded v.held (key_at lock seen.written)
-  key_guard = let low = slot_small in subst (IsGuarded v.held) (omega arith) (guard (4 + 2 * seen.written.slot) (omega arith) (omega (arith, low)))
-
-  value_guard : IsGuarded v.held (value_at lock seen.written)
-  value_guard = let low = slot_small in subst (IsGuarded v.held) (omega arith) (guard (5 + 2 * seen.written.slot) (omega arith) (omega (arith, low)))
-
-  fingers_guard : IsGuarded v.held (fingers_at lock seen.written)
-  fingers_guard = let near = place_near seen.written.slot in guard (finger_place seen.written.slot) (let a = near.0 in omega (arith, a)) (let b = near.1 in omega (arith, b))
 
   published_guard : IsGuarded v.held (published_at lock seen.written)
   published_guard =
@@ -145,15 +135,15 @@ module _ (site : Ground) (task : Task) (is : IsIn site task) (seen : Seen) (befo
   pub make_goes : (m : Make) → IsChanging site task seen m v → Goes site task before (made_to seen (make_taken seen.written.slot m)) (after m)
   make_goes Key c = next_goes site task is seen before v same Key c (after Key) Value (λ x. tt)
       (held_store task.site task.hash seen.path.segment site.shape seen.held v (key_at (lock_of task seen seen.place) seen.written) n seen.written.key v.planned v.moving v.owed
-      c.all.locks (key_guard site task is seen before v same Key c))
+      c.all.locks (key_guard v.held (lock_of task seen seen.place) seen.written (guard site task is seen before v same Key c) (slot_small site task is seen before v same Key c)))
       refl refl refl (has_made Key c) refl c.planned c.owes refl refl
   make_goes Value c = next_goes site task is seen before v same Value c (after Value) Fingers (λ x. tt)
       (held_store task.site task.hash seen.path.segment site.shape seen.held v (value_at (lock_of task seen seen.place) seen.written) n seen.written.value v.planned v.moving v.owed
-      c.all.locks (value_guard site task is seen before v same Value c))
+      c.all.locks (value_guard v.held (lock_of task seen seen.place) seen.written (guard site task is seen before v same Value c) (slot_small site task is seen before v same Value c)))
       refl refl refl (has_made Value c) refl c.planned c.owes refl refl
   make_goes Fingers c = next_goes site task is seen before v same Fingers c (after Fingers) FlushFingers (λ x. tt)
       (held_store task.site task.hash seen.path.segment site.shape seen.held v (fingers_at (lock_of task seen seen.place) seen.written) n seen.written.fingers v.planned v.moving v.owed
-      c.all.locks (fingers_guard site task is seen before v same Fingers c))
+      c.all.locks (fingers_guard v.held (lock_of task seen seen.place) seen.written (guard site task is seen before v same Fingers c) (slot_small site task is seen before v same Fingers c)))
       refl refl refl (has_made Fingers c) refl c.planned c.owes refl refl
   make_goes FlushFingers c = line_by c (nat_lt seen.written.slot 2) (has_made FlushFingers c)
   make_goes FlushRecord c = next_goes site task is seen before v same FlushRecord c (after FlushRecord) FenceRecord (λ x. tt) (held_same task.site task.hash seen.path.segment seen.held v (after FlushRecord) refl refl refl c.all.locks) refl refl refl (has_made FlushRecord c) refl c.planned c.owes refl refl

@@ -61,7 +61,7 @@ use Rattle.write_op.proofs.parts.Fitting.{wants_in}
 use Rattle.write_op.proofs.keeping.Areas.{no_areas}
 use Rattle.write_op.proofs.keeping.Walking.{step_in, may_in}
 use Rattle.write_op.proofs.parts.Wording.{words_after}
-use Rattle.write_op.proofs.parts.Putting.{puts_word, asks_within}
+use Rattle.write_op.proofs.parts.Putting.{puts_in, asks_in}
 use Rattle.write_op.proofs.parts.Parting.{makes_in, stays_in, done_in, bare_in, few_in, flush_in, keeps_in, none_waits}
 
 -- ---- EACH STEP
@@ -200,7 +200,7 @@ module _ (task : Task) (seen : Seen) where
 -- ---- A CHANGE IS A PART
 within : (site : Ground) (here : Site) (call : Call) (op : WriteOp) (v : View) → IsGround site → ChangeStands site here call op v → IsWithin site.shape (wanted op)
 within site here call op v good st =
-    subst (λ (g : Shape). IsWithin g (wanted op)) st.is_in.shape (asks_within site op.task st.is_in op.stage.seen (subst (λ (g : Shape). IsShape g) (sym st.is_in.shape) good.shape) v op.stage.step st.view)
+    subst (λ (g : Shape). IsWithin g (wanted op)) st.is_in.shape (asks_in site op.task st.is_in op.stage.seen (subst (λ (g : Shape). IsShape g) (sym st.is_in.shape) good.shape) v op.stage.step st.view)
 
 -- a segment that it found stale is known to be live
 known_end : (site : Ground) (task : Task) (seen : Seen) (v : View) (end : WriteEnd) → SuitsEnd site task seen end v → LeavesKnown site (outcome_of end) v.facts
@@ -222,7 +222,7 @@ change_is_part = record {
   time = record { falls = λ op a i. inl (change_falls op a i); most = λ op. most_at op.stage.step };
   within = λ site here call op before v good s. within site here call op v good s.stands;
   words = λ site here call op before v s.
-      puts_word site op.task s.stands.is_in op.stage.seen v s.stands.has.buckets s.stands.has.key s.stands.has.value op.stage.step s.stands.view;
+      puts_in site op.task s.stands.is_in op.stage.seen v s.stands.has.buckets s.stands.has.key s.stands.has.value op.stage.step s.stands.view;
   flushes = record {
     most = λ op. few_in op.stage.step;
     flushes = λ op a l is e. flush_in op.task op.stage.seen op.stage.step a is (subst (λ (w : Want). HasFlush w) (sym e) tt);
@@ -271,11 +271,7 @@ pub hands_on_all : HandsOnAll
 hands_on_all site here call op v st is =
     let all : KeepsAll site (kept_of op) v × HasNoThird op.stage.seen.held = subst (λ s. SuitsStep site op.task op.stage.seen s v) (without op.stage.step is) st.view in
     record {
-      same = st.same;
-      at = st.at;
-      key = st.has.key;
-      value = st.has.value;
-      buckets = st.has.buckets;
+      whose = record { same = st.same; at = st.at; key = st.has.key; value = st.has.value; buckets = st.has.buckets };
       keeps = all.0;
       thirds = all.1;
     }

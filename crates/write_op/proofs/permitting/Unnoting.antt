@@ -1,23 +1,23 @@
 -- The stores by which a note is taken away are of kinds that the view may take, and leave it suited.
-use Rattle.std.proofs.Common.{◌≡◌, ◌≢◌, ◌⊎◌, ℕ, ◌+◌, ◌%◌, ◌^◌, ◌<◌, ◌≤◌, Bool, true, false, List, ◌∷◌, ◌++◌, inl, inr, refl, sym, ap, ◌∙◌, subst, arith, slice_index}
+use Rattle.std.proofs.Common.{◌≡◌, ◌⊎◌, ℕ, ◌+◌, ◌%◌, ◌^◌, ◌<◌, ◌≤◌, Bool, true, false, List, ◌∷◌, inl, inr, refl, sym, ap, ◌∙◌, subst, arith, slice_index}
 use Rattle.std.specs.Prelude.{◌==◌, if◌then◌else◌}
 use Rattle.std.proofs.lemmas.Bool.{eqb-true}
 use Rattle.hash_word.specs.Hash.{home_of, probing_of, finger_of}
 use Rattle.bucket_meta.specs.Bucket.{overflow_count}
-use Rattle.bucket_meta.specs.Notes.{OverflowNote, AreExact, notes_by}
+use Rattle.bucket_meta.specs.Notes.{OverflowNote, AreExact}
 use Rattle.trace.specs.Events.{Words, with_word}
-use Rattle.image_layout.specs.Places.{Shape, bucket_at, buckets}
-use Rattle.sound_image.specs.Records.{notes_in, notes_of, word_in, stashed_of}
+use Rattle.image_layout.specs.Places.{bucket_at, buckets}
+use Rattle.sound_image.specs.Records.{notes_of, word_in, stashed_of}
 use Rattle.map_model.specs.declared.change.Effect.{Effect}
 use Rattle.map_model.specs.declared.change.Effect.TheVariants.{Insert, Update, Remove}
 use Rattle.bucket_words.specs.Core.{core_of, core_in_bucket}
 use Rattle.bucket_words.proofs.segments.Cores.{core_in}
-use Rattle.bucket_words.proofs.segments.Places.{other_word, this_word}
+use Rattle.bucket_words.proofs.segments.Places.{other_word}
 use Rattle.world.specs.Ground.{Ground}
 use Rattle.world.specs.Views.{Owed, View, Has}
 use Rattle.world.specs.Kinds.{repays}
 use Rattle.world.specs.Conditions.{May, IsOwed}
-use Rattle.world.specs.Holders.{KnowsBucket, KeepsNeighbours, TouchesNote}
+use Rattle.world.specs.Holders.{KnowsBucket, TouchesNote}
 use Rattle.world.proofs.holding.Repaying.{may_repay}
 use Rattle.phase.specs.declared.role.Role.{Role}
 use Rattle.phase.specs.declared.role.Role.TheVariants.{Home, Probing, First, Second, Next, Previous}
@@ -36,94 +36,12 @@ use Rattle.phase.specs.declared.note.NoteWord.TheVariants.{Mark, Fingers}
 use Rattle.write_op.specs.Search.{leaves_note, unnoted, has_finger}
 use Rattle.write_op.specs.Steps.{lock_of}
 use Rattle.phase.specs.AreWords.{AreWords}
-use Rattle.phase.proofs.Noting.{Four, notes_four, KeepsBeside}
+use Rattle.phase.proofs.Noting.{Four, notes_four, KeepsBeside, HasFour, four_notes, store_h1, store_h3, store_p1, store_p3, neighbours as beside_kept}
 use Rattle.write_op.specs.Fits.{loaded, prepared_by, changed, owed, mark_kind, note_kind, words_of_note, IsUnnoting, IsIn}
 use Rattle.write_op.proofs.finding.Finding.{asked_held, word_at}
 use Rattle.write_op.proofs.finding.Chosen.{lock_is}
 use Rattle.write_op.proofs.permitting.Publishing.{located_all, holds_for, word_is}
 use Rattle.write_op.proofs.permitting.Freeing.{one_of, three_of, with_one, with_three, IsWithout, Unnotes, four_of, unnotes}
-
--- ---- words 1 and 3 of two buckets, among all words
-module _ (shape : Shape) (s b : ℕ) (near : b < 64) where
-  abbrev at_home : ℕ
-  at_home = bucket_at shape s b
-
-  abbrev at_probing : ℕ
-  at_probing = bucket_at shape s (probing_of b)
-
-  pub record HasFour (w : Words) (f : Four) : Type 0 where
-    pub h1 : w (at_home + 1) ≡ f.h1
-    pub h3 : w (at_home + 3) ≡ f.h3
-    pub p1 : w (at_probing + 1) ≡ f.p1
-    pub p3 : w (at_probing + 3) ≡ f.p3
-
-  next_near : probing_of b < 64
-  next_near = omega arith
-
-  next_other : b ≢ probing_of b
-  next_other e = omega (arith, e, near)
-
-  four_notes : (w : Words) (f : Four) → HasFour w f → notes_of shape w s b ≡ notes_four f
-  four_notes w f h =
-      ap (λ z. notes_by z (w (at_home + 3)) 0 ++ notes_by (w (at_probing + 1)) (w (at_probing + 3)) 1) h.h1
-      ∙ ap (λ z. notes_by f.h1 z 0 ++ notes_by (w (at_probing + 1)) (w (at_probing + 3)) 1) h.h3
-      ∙ ap (λ z. notes_by f.h1 f.h3 0 ++ notes_by z (w (at_probing + 3)) 1) h.p1
-      ∙ ap (λ z. notes_by f.h1 f.h3 0 ++ notes_by f.p1 z 1) h.p3
-
-  home_notes : (w : Words) (f : Four) (side : ℕ) → HasFour w f → notes_in shape w s b side ≡ notes_by f.h1 f.h3 side
-  home_notes w f side h = ap (λ z. notes_by z (w (at_home + 3)) side) h.h1 ∙ ap (λ z. notes_by f.h1 z side) h.h3
-
-  probing_notes : (w : Words) (f : Four) (side : ℕ) → HasFour w f → notes_in shape w s (probing_of b) side ≡ notes_by f.p1 f.p3 side
-  probing_notes w f side h = ap (λ z. notes_by z (w (at_probing + 3)) side) h.p1 ∙ ap (λ z. notes_by f.p1 z side) h.p3
-
-  -- a store to one of them
-  store_one_home : (w : Words) (f : Four) (x : ℕ) → HasFour w f → HasFour (with_word w (at_home + 1) x) (with_one Home x f)
-  store_one_home w f x h =
-      let other = other_word shape w s b 1 x (at_home + 1) (omega (arith, near)) (omega arith) refl in
-      record {
-        h1 = this_word shape w s b 1 x (at_home + 1) (omega (arith, near)) (omega arith) refl (at_home + 1) refl;
-        h3 = other s b 3 (at_home + 3) (omega (arith, near)) (omega arith) refl (λ p q r. omega (arith, r)) ∙ h.h3;
-        p1 = other s (probing_of b) 1 (at_probing + 1) (omega arith) (omega arith) refl (λ p q r. next_other (sym q)) ∙ h.p1;
-        p3 = other s (probing_of b) 3 (at_probing + 3) (omega arith) (omega arith) refl (λ p q r. next_other (sym q)) ∙ h.p3;
-      }
-
-  store_three_home : (w : Words) (f : Four) (x : ℕ) → HasFour w f → HasFour (with_word w (at_home + 3) x) (with_three Home x f)
-  store_three_home w f x h =
-      let other = other_word shape w s b 3 x (at_home + 3) (omega (arith, near)) (omega arith) refl in
-      record {
-        h1 = other s b 1 (at_home + 1) (omega (arith, near)) (omega arith) refl (λ p q r. omega (arith, r)) ∙ h.h1;
-        h3 = this_word shape w s b 3 x (at_home + 3) (omega (arith, near)) (omega arith) refl (at_home + 3) refl;
-        p1 = other s (probing_of b) 1 (at_probing + 1) (omega arith) (omega arith) refl (λ p q r. next_other (sym q)) ∙ h.p1;
-        p3 = other s (probing_of b) 3 (at_probing + 3) (omega arith) (omega arith) refl (λ p q r. next_other (sym q)) ∙ h.p3;
-      }
-
-  store_one_probing : (w : Words) (f : Four) (x : ℕ) → HasFour w f → HasFour (with_word w (at_probing + 1) x) (with_one Probing x f)
-  store_one_probing w f x h =
-      let other = other_word shape w s (probing_of b) 1 x (at_probing + 1) (omega arith) (omega arith) refl in
-      record {
-        h1 = other s b 1 (at_home + 1) (omega (arith, near)) (omega arith) refl (λ p q r. next_other q) ∙ h.h1;
-        h3 = other s b 3 (at_home + 3) (omega (arith, near)) (omega arith) refl (λ p q r. next_other q) ∙ h.h3;
-        p1 = this_word shape w s (probing_of b) 1 x (at_probing + 1) (omega arith) (omega arith) refl (at_probing + 1) refl;
-        p3 = other s (probing_of b) 3 (at_probing + 3) (omega arith) (omega arith) refl (λ p q r. omega (arith, r)) ∙ h.p3;
-      }
-
-  store_three_probing : (w : Words) (f : Four) (x : ℕ) → HasFour w f → HasFour (with_word w (at_probing + 3) x) (with_three Probing x f)
-  store_three_probing w f x h =
-      let other = other_word shape w s (probing_of b) 3 x (at_probing + 3) (omega arith) (omega arith) refl in
-      record {
-        h1 = other s b 1 (at_home + 1) (omega (arith, near)) (omega arith) refl (λ p q r. next_other q) ∙ h.h1;
-        h3 = other s b 3 (at_home + 3) (omega (arith, near)) (omega arith) refl (λ p q r. next_other q) ∙ h.h3;
-        p1 = other s (probing_of b) 1 (at_probing + 1) (omega arith) (omega arith) refl (λ p q r. omega (arith, r)) ∙ h.p1;
-        p3 = this_word shape w s (probing_of b) 3 x (at_probing + 3) (omega arith) (omega arith) refl (at_probing + 3) refl;
-      }
-
-  -- what such a store leaves of the neighbours
-  neighbours : (w u : Words) (f g : Four) → HasFour w f → HasFour u g → KeepsBeside f g → KeepsNeighbours shape w u s b
-  neighbours w u f g h k beside = record {
-    home_before = home_notes u g 1 k ∙ beside.before ∙ sym (home_notes w f 1 h);
-    home_after = probing_notes u g 0 k ∙ beside.after ∙ sym (probing_notes w f 0 h);
-    count_after = ap overflow_count k.p1 ∙ beside.count ∙ ap overflow_count (sym h.p1);
-  }
 
 -- ---- by the hash
 module _ (site : Ground) (task : Task) (is : IsIn site task) (seen : Seen) (v : View) (part : NoteWord) (u : IsUnnoting site task seen part v) (words : (place : Role) → AreWords (words_in seen.buckets place)) where
@@ -225,13 +143,13 @@ module _ (site : Ground) (task : Task) (is : IsIn site task) (seen : Seen) (v : 
 
     store_one : (p : Role) (w : Words) (g : Four) (x : ℕ) → (p ≡ Home) ⊎ (p ≡ Probing) → HasFour site.shape s b near w g
         → HasFour site.shape s b near (with_word w (bucket_at site.shape s (bucket_of task.hash p) + 1) x) (with_one p x g)
-    store_one p w g x (inl e) h = subst (λ (q : Role). HasFour site.shape s b near (with_word w (bucket_at site.shape s (bucket_of task.hash q) + 1) x) (with_one q x g)) (sym e) (store_one_home site.shape s b near w g x h)
-    store_one p w g x (inr e) h = subst (λ (q : Role). HasFour site.shape s b near (with_word w (bucket_at site.shape s (bucket_of task.hash q) + 1) x) (with_one q x g)) (sym e) (store_one_probing site.shape s b near w g x h)
+    store_one p w g x (inl e) h = subst (λ (q : Role). HasFour site.shape s b near (with_word w (bucket_at site.shape s (bucket_of task.hash q) + 1) x) (with_one q x g)) (sym e) (store_h1 site.shape s b near w g x h)
+    store_one p w g x (inr e) h = subst (λ (q : Role). HasFour site.shape s b near (with_word w (bucket_at site.shape s (bucket_of task.hash q) + 1) x) (with_one q x g)) (sym e) (store_p1 site.shape s b near w g x h)
 
     store_three : (p : Role) (w : Words) (g : Four) (x : ℕ) → (p ≡ Home) ⊎ (p ≡ Probing) → HasFour site.shape s b near w g
         → HasFour site.shape s b near (with_word w (bucket_at site.shape s (bucket_of task.hash p) + 3) x) (with_three p x g)
-    store_three p w g x (inl e) h = subst (λ (q : Role). HasFour site.shape s b near (with_word w (bucket_at site.shape s (bucket_of task.hash q) + 3) x) (with_three q x g)) (sym e) (store_three_home site.shape s b near w g x h)
-    store_three p w g x (inr e) h = subst (λ (q : Role). HasFour site.shape s b near (with_word w (bucket_at site.shape s (bucket_of task.hash q) + 3) x) (with_three q x g)) (sym e) (store_three_probing site.shape s b near w g x h)
+    store_three p w g x (inl e) h = subst (λ (q : Role). HasFour site.shape s b near (with_word w (bucket_at site.shape s (bucket_of task.hash q) + 3) x) (with_three q x g)) (sym e) (store_h3 site.shape s b near w g x h)
+    store_three p w g x (inr e) h = subst (λ (q : Role). HasFour site.shape s b near (with_word w (bucket_at site.shape s (bucket_of task.hash q) + 3) x) (with_three q x g)) (sym e) (store_p3 site.shape s b near w g x h)
 
     one_here : (p : Role) (w : Words) (g : Four) → (p ≡ Home) ⊎ (p ≡ Probing) → HasFour site.shape s b near w g → w (bucket_at site.shape s (bucket_of task.hash p) + 1) ≡ one_of p g
     one_here p w g (inl e) h = subst (λ (q : Role). w (bucket_at site.shape s (bucket_of task.hash q) + 1) ≡ one_of q g) (sym e) h.h1
@@ -269,7 +187,7 @@ module _ (site : Ground) (task : Task) (is : IsIn site task) (seen : Seen) (v : 
         bucket = bucket_by n.place un.near;
         meta = meta;
         same_core = core_in site.shape s c m x at.within c_low small ∙ core ∙ sym (core_in site.shape s c m (w (bucket_at site.shape s c + m)) at.within c_low small);
-        neighbours = neighbours site.shape s b near w (with_word w (bucket_at site.shape s c + m) x) g k has after beside;
+        neighbours = beside_kept site.shape s b near w (with_word w (bucket_at site.shape s c + m) x) g k has after beside;
       }
 
     exact_after : (g : Four) (w : Words) → HasFour site.shape s b near w g → IsWithout f note g → (stashed : List OverflowNote) → AreExact (owed task seen).notes (owed task seen).count (note ∷ stashed)

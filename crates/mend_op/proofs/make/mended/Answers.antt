@@ -1,10 +1,9 @@
 -- What is made of what is loaded of the words is what is to be made of them.
 use Rattle.std.proofs.Common.{◌≡◌, ℕ, length, ap, ◌∙◌, arith}
-use Rattle.bucket_meta.specs.Marks.{cleared_mark}
 use Rattle.image_layout.specs.Places.{buckets}
 use Rattle.sound_image.specs.Records.{key_hash}
 use Rattle.whole_segment.specs.Records.{first_in, key_in}
-use Rattle.whole_segment.specs.Mending.{spoiled_set}
+use Rattle.whole_segment.specs.Mending.{spoiled_set, without_spoiled}
 use Rattle.mend_op.specs.Words.{own_depth}
 use Rattle.mend_op.proofs.Making.{all_mended}
 use Rattle.mend_op.proofs.make.mended.Goals as goal
@@ -13,7 +12,7 @@ pub returns : goal.returns
 returns c =
     let loaded = c.of_words.result in
     let rest = c.mended-mended in
-    let cleared : ℕ → ℕ → ℕ → ℕ = λ d p b. cleared_mark (first_in loaded b) (spoiled_set (first_in loaded) (key_in loaded) (key_hash c.args.geometry.now) d p b) in
+    let cleared : ℕ → ℕ → ℕ → ℕ = λ d p b. without_spoiled (first_in loaded) (spoiled_set (first_in loaded) (key_in loaded) (key_hash c.args.geometry.now) d p) b in
     let each : length rest.result.first ≡ buckets = rest.result.each_first in
     all_mended c.args.words.now loaded c.of_words.ensures c.args.geometry.now c.args.head c.put.new.words c.put.array_long rest.result.first c.free_locks.new.words
     (λ b near. rest.ensures.is b near ∙ ap (λ d. cleared d c.pattern_of.result b) c.own_depth.ensures ∙ ap (λ p. cleared (own_depth c.args.head) p b) c.pattern_of.ensures)

@@ -18,7 +18,7 @@ close-words-requires-clause-callers c = ap (λ (w : Watch). w.view.callers) c.ta
 pub close-words-requires-clause-owes : goal.close-words-requires-clause-owes
 close-words-requires-clause-owes c =
     subst (λ (w : Watch). OwesNothing w.view) (sym c.take_all-seat.ensures.taken)
-    (owes_nothing_with c.args.image c.args.keeper.seat.me.0 c.args.passes.items c.requires.keeper.still.nothing c.requires.done)
+    (owes_nothing_with c.args.image c.args.keeper.seat.me.0 c.args.passes.items c.requires.keeper.still.idle.nothing c.requires.done)
 
 pub returns-clause-sound : goal.returns-clause-sound
 returns-clause-sound c =
@@ -30,7 +30,7 @@ returns-clause-sound c =
     (finish (ground_in c.args.image) c.args.image.geometry c.close-words.result.items c.run_close.new.words.items c.truncate.new.self.items (w.view ∷ w.past)
     (replies_of c.args.passes.items) c.requires.on.laid_out c.close-words.ensures.end (subst (λ (ws : List ℕ). (i : ℕ) → slice_index ws i < 2 ^ 64) c.as_slice.ensures.value c.each_fits.ensures)
     c.requires.on.says c.requires.on.unmarked c.run_close.ensures.closed (omega (arith, long, given, words)) (c.truncate.ensures.items ∙ ap (λ (n : ℕ). take n c.run_close.new.words.items) c.words.ensures.is)
-    (ap (λ w. map (λ v. v.own) (w.view ∷ w.past)) c.take_all-seat.ensures.taken ∙ replies_with p c.args.passes.items c.requires.keeper.still.own c.requires.keeper.still.past)).0
+    (ap (λ w. map (λ v. v.own) (w.view ∷ w.past)) c.take_all-seat.ensures.taken ∙ replies_with p c.args.passes.items c.requires.keeper.still.idle.own c.requires.keeper.still.idle.past)).0
 
 pub returns-clause-length : goal.returns-clause-length
 returns-clause-length c = (returns-clause-sound c).whole
@@ -45,7 +45,7 @@ returns-clause-clean c =
     (finish (ground_in c.args.image) c.args.image.geometry c.close-words.result.items c.run_close.new.words.items c.truncate.new.self.items (w.view ∷ w.past)
     (replies_of c.args.passes.items) c.requires.on.laid_out c.close-words.ensures.end (subst (λ (ws : List ℕ). (i : ℕ) → slice_index ws i < 2 ^ 64) c.as_slice.ensures.value c.each_fits.ensures)
     c.requires.on.says c.requires.on.unmarked c.run_close.ensures.closed (omega (arith, long, given, words)) (c.truncate.ensures.items ∙ ap (λ (n : ℕ). take n c.run_close.new.words.items) c.words.ensures.is)
-    (ap (λ w. map (λ v. v.own) (w.view ∷ w.past)) c.take_all-seat.ensures.taken ∙ replies_with p c.args.passes.items c.requires.keeper.still.own c.requires.keeper.still.past)).1
+    (ap (λ w. map (λ v. v.own) (w.view ∷ w.past)) c.take_all-seat.ensures.taken ∙ replies_with p c.args.passes.items c.requires.keeper.still.idle.own c.requires.keeper.still.idle.past)).1
 
 pub returns-clause-replies : goal.returns-clause-replies
 returns-clause-replies c =
@@ -57,7 +57,7 @@ returns-clause-replies c =
     (finish (ground_in c.args.image) c.args.image.geometry c.close-words.result.items c.run_close.new.words.items c.truncate.new.self.items (w.view ∷ w.past)
     (replies_of c.args.passes.items) c.requires.on.laid_out c.close-words.ensures.end (subst (λ (ws : List ℕ). (i : ℕ) → slice_index ws i < 2 ^ 64) c.as_slice.ensures.value c.each_fits.ensures)
     c.requires.on.says c.requires.on.unmarked c.run_close.ensures.closed (omega (arith, long, given, words)) (c.truncate.ensures.items ∙ ap (λ (n : ℕ). take n c.run_close.new.words.items) c.words.ensures.is)
-    (ap (λ w. map (λ v. v.own) (w.view ∷ w.past)) c.take_all-seat.ensures.taken ∙ replies_with p c.args.passes.items c.requires.keeper.still.own c.requires.keeper.still.past)).2
+    (ap (λ w. map (λ v. v.own) (w.view ∷ w.past)) c.take_all-seat.ensures.taken ∙ replies_with p c.args.passes.items c.requires.keeper.still.idle.own c.requires.keeper.still.idle.past)).2
 
 pub returns-clause-ended : goal.returns-clause-ended
 returns-clause-ended c =
@@ -69,4 +69,4 @@ returns-clause-ended c =
     (finish (ground_in c.args.image) c.args.image.geometry c.close-words.result.items c.run_close.new.words.items c.truncate.new.self.items (w.view ∷ w.past)
     (replies_of c.args.passes.items) c.requires.on.laid_out c.close-words.ensures.end (subst (λ (ws : List ℕ). (i : ℕ) → slice_index ws i < 2 ^ 64) c.as_slice.ensures.value c.each_fits.ensures)
     c.requires.on.says c.requires.on.unmarked c.run_close.ensures.closed (omega (arith, long, given, words)) (c.truncate.ensures.items ∙ ap (λ (n : ℕ). take n c.run_close.new.words.items) c.words.ensures.is)
-    (ap (λ w. map (λ v. v.own) (w.view ∷ w.past)) c.take_all-seat.ensures.taken ∙ replies_with p c.args.passes.items c.requires.keeper.still.own c.requires.keeper.still.past)).3
+    (ap (λ w. map (λ v. v.own) (w.view ∷ w.past)) c.take_all-seat.ensures.taken ∙ replies_with p c.args.passes.items c.requires.keeper.still.idle.own c.requires.keeper.still.idle.past)).3

@@ -16,8 +16,8 @@ returns-clause-media c =
     let given = c.cut-words.ensures.length in
     let words = c.requires.on.whole.words in
     cut_leaves (ground_in c.args.image) c.args.image.geometry c.cut-words.result.items c.truncate.new.self.items p c.take_all-seat.result.me.0 c.args.passes.items c.requires.on.laid_out
-    c.requires.on.whole.ground.shape c.take_all-seat.ensures.taken c.cut-words.ensures.left c.requires.keeper.still.nothing
-    (ap (λ w. map (λ v. v.own) (w.view ∷ w.past)) c.take_all-seat.ensures.taken ∙ replies_with p c.args.passes.items c.requires.keeper.still.own c.requires.keeper.still.past)
+    c.requires.on.whole.ground.shape c.take_all-seat.ensures.taken c.cut-words.ensures.left c.requires.keeper.still.idle.nothing
+    (ap (λ w. map (λ v. v.own) (w.view ∷ w.past)) c.take_all-seat.ensures.taken ∙ replies_with p c.args.passes.items c.requires.keeper.still.idle.own c.requires.keeper.still.idle.past)
     c.requires.on.says c.requires.on.unmarked (c.truncate.ensures.items ∙ ap (λ (n : ℕ). take n c.cut-words.result.items) c.words.ensures.is) (omega (arith, given, words))
     (subst (λ (ws : List ℕ). (i : ℕ) → slice_index ws i < 2 ^ 64) c.as_slice.ensures.value c.each_fits.ensures)
 

@@ -9,7 +9,8 @@ use Rattle.sound_image.specs.Segments.{frame_of}
 use Rattle.frame_facts.specs.Stores.{Doubles, NamesClaimer, StoreKeeps}
 use Rattle.frame_facts.proofs.FrameWords.{other_areas_apart}
 use Rattle.frame_facts.proofs.StoreLaws.{doubles, names_claimer, stores_apart}
-use Rattle.frame_facts.specs.Facts.{Owns, ClaimsAll}
+use Rattle.frame_facts.specs.Claims.{ClaimsAll}
+use Rattle.frame_facts.specs.Facts.{Owns}
 use Rattle.frame_facts.specs.Keeping.{KeepsFacts}
 use Rattle.frame_facts.proofs.Records.{structure_apart}
 use Rattle.frame_facts.proofs.Stores.{doubled, named_claimer, deeper_area}

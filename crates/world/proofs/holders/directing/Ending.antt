@@ -7,7 +7,8 @@ use Rattle.sound_image.specs.Segments.{frame_of, image_version}
 use Rattle.frame_facts.specs.Stores.{EndsSplit}
 use Rattle.frame_facts.proofs.Claimers.{ready_claims_none}
 use Rattle.frame_facts.proofs.StoreLaws.{ends_split}
-use Rattle.frame_facts.specs.Facts.{Lacks, Deep, ClaimsNone, NamesDeeper}
+use Rattle.frame_facts.specs.Claims.{ClaimsNone}
+use Rattle.frame_facts.specs.Facts.{Lacks, Deep, NamesDeeper}
 use Rattle.frame_facts.proofs.Records.{structure_apart}
 use Rattle.frame_facts.proofs.Stores.{ends}
 use Rattle.world.specs.Ground.{Ground, IsGround, IsStructured, IsCurrentIn, version_of}

@@ -5,10 +5,10 @@ use Rattle.hash_word.specs.Hash.{Covers, index_of}
 use Rattle.segment_head.specs.HeadWord.{state_in, depth_in, pattern_in, splitting}
 use Rattle.image_layout.specs.Places.{Shape, IsShape, root_word, entry_at}
 use Rattle.sound_image.specs.Segments.{Frame, frame_of, depth_at, IsLive, HasReadySide}
-use Rattle.frame_facts.specs.Claims.{HasSoundFrame, ClaimsNoOneSide, named_for}
+use Rattle.frame_facts.specs.Claims.{HasSoundFrame, ClaimsNoOneSide, named_for, ClaimsAll, ClaimsNone}
 use Rattle.frame_facts.proofs.Claimers.{ready_claims_none}
 use Rattle.frame_facts.proofs.frames.Regions.{fewer, top_below}
-use Rattle.frame_facts.specs.Facts.{Fact, Owns, Lacks, Deep, IsLiveSlot, ClaimsAll, ClaimsNone, NamesDeeper, HoldsFact}
+use Rattle.frame_facts.specs.Facts.{Fact, Owns, Lacks, Deep, IsLiveSlot, NamesDeeper, HoldsFact}
 use Rattle.world.specs.Ground.{Ground, IsGround, version_of}
 use Rattle.world.specs.Views.{View, Has}
 use Rattle.world.specs.Holders.{KnowsWord}

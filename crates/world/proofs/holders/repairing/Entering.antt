@@ -8,7 +8,8 @@ use Rattle.sound_image.specs.Segments.{frame_of, IsReadySide}
 use Rattle.frame_facts.specs.Media.{first_hash}
 use Rattle.frame_facts.specs.Stores.{NamesSide, StoreKeeps}
 use Rattle.frame_facts.proofs.StoreLaws.{names_side as side_named}
-use Rattle.frame_facts.specs.Facts.{Begins, IsLiveSlot, ClaimsNone}
+use Rattle.frame_facts.specs.Claims.{ClaimsNone}
+use Rattle.frame_facts.specs.Facts.{Begins, IsLiveSlot}
 use Rattle.frame_facts.specs.Keeping.{KeepsFacts}
 use Rattle.frame_facts.proofs.Records.{structure_apart}
 use Rattle.frame_facts.proofs.Stores.{named_side}

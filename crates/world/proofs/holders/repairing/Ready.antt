@@ -5,9 +5,8 @@ use Rattle.hash_word.specs.Hash.{first_hash_of}
 use Rattle.segment_head.specs.HeadWord.{state_in, depth_in, pattern_in, splitting}
 use Rattle.image_layout.specs.Places.{Shape, root_word}
 use Rattle.sound_image.specs.Segments.{Frame, frame_of, IsLive, IsReadySide, HasReadySide}
-use Rattle.frame_facts.specs.Claims.{ClaimsNoOneSide}
+use Rattle.frame_facts.specs.Claims.{ClaimsNoOneSide, ClaimsNone}
 use Rattle.frame_facts.proofs.Claimers.{ready_claims_none}
-use Rattle.frame_facts.specs.Facts.{ClaimsNone}
 use Rattle.world.specs.Ground.{Ground, IsGround, IsStructured}
 use Rattle.world.specs.areas.Areas.{header_word, link_word}
 use Rattle.world.specs.areas.Repairing.{side_depth_in, side_pattern_in}

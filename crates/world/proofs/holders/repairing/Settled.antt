@@ -5,10 +5,10 @@ use Rattle.hash_word.specs.Hash.{index_of, first_hash_of}
 use Rattle.segment_head.specs.HeadWord.{depth_in, pattern_in}
 use Rattle.image_layout.specs.Places.{Shape, root_word, entry_at}
 use Rattle.sound_image.specs.Segments.{Frame, frame_of, depth_at, IsLive, InOneSide}
-use Rattle.frame_facts.specs.Claims.{named_for}
+use Rattle.frame_facts.specs.Claims.{named_for, ClaimsNone}
 use Rattle.frame_facts.specs.Media.{first_hash}
 use Rattle.frame_facts.proofs.frames.SoundFrames.{way_begins}
-use Rattle.frame_facts.specs.Facts.{Fact, Begins, ClaimsNone, NamesDeeper, HoldsFact}
+use Rattle.frame_facts.specs.Facts.{Fact, Begins, NamesDeeper, HoldsFact}
 use Rattle.world.specs.Ground.{Ground, IsGround, version_of, IsStructured}
 use Rattle.world.specs.Views.{View, Has}
 use Rattle.world.specs.Holders.{KnowsWord}

@@ -7,7 +7,6 @@ use Rattle.sound_image.specs.Segments.{frame_of, image_version, HasReadySide}
 use Rattle.frame_facts.specs.Stores.{DropsSplit}
 use Rattle.frame_facts.proofs.Claimers.{unready_claims_all}
 use Rattle.frame_facts.proofs.StoreLaws.{drops_split}
-use Rattle.frame_facts.specs.Facts.{ClaimsAll}
 use Rattle.frame_facts.proofs.Stores.{drops}
 use Rattle.world.specs.Ground.{Ground, IsGround, version_of, IsStructured}
 use Rattle.world.specs.Views.{View, Has}
@@ -20,6 +19,7 @@ use Rattle.world.specs.areas.Splitting.{IsHeader}
 use Rattle.world.specs.areas.Repairing.{owns_side, HasStale}
 use Rattle.world.proofs.basics.Structures.{header_is}
 use Rattle.world.proofs.holders.filling.Known.{slot_far, structure_stays, both_sound, known_there, table_stays}
+use Rattle.frame_facts.specs.Claims.{ClaimsAll}
 
 module _ (site : Ground) (ground : IsGround site) (v : View) (s x : ℕ) (word : Words) (mine : HasStale site v s word) (splits : state_in (word (header_word site.shape s)) ≡ splitting)
     (becomes : IsHeader x normal (depth_in (word (header_word site.shape s))) (pattern_in (word (header_word site.shape s))) (version_in (word (header_word site.shape s)))) where
