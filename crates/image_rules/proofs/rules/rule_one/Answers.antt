@@ -1,5 +1,5 @@
 -- The first segment with a number out of its range breaks rule 1 at its header or at its link.
-use Rattle.std.proofs.Common.{◌+◌, ◌<◌, ◌≤◌, ℕ, refl, sym, subst, arith, below_more, slice_index}
+use Rattle.std.proofs.Common.{◌+◌, ◌<◌, ◌≤◌, ℕ, refl, sym, subst, arith, rules, below_more, slice_index}
 use borrow.Author.Count.{below_none}
 use Rattle.sound_image.specs.Segments.{frame_of, image_version}
 use Rattle.sound_image.specs.Rules.{NumbersFit}
@@ -15,7 +15,7 @@ pub returns-then-not-head_in_range-clause-some : goal.returns-then-not-head_in_r
 returns-then-not-head_in_range-clause-some c =
     let shape = c.args.geometry.now in
     let word = slice_index c.args.words.now in
-    let root : word 8 ≤ shape.depth = omega (arith, c.if-words-depth.false, c.depth.ensures.is) in
+    let root : word 8 ≤ shape.depth = subst (λ (n : ℕ). word 8 ≤ n) c.depth.ensures.is c.if-words-depth.false in
     let version : 1 ≤ image_version (frame_of shape word) = omega (arith, c.if-version_of-lt-FIRST_VERSION.false, c.version_of.ensures) in
     let slot : c.loop-s.s < shape.segments = subst (λ (n : ℕ). c.loop-s.s < n) c.segments-s-end.ensures.is c.loop-s-test.true in
     subst (λ (n : ℕ). IsLeast (NumbersFit shape word) (n + 1)) (sym c.head_at.ensures.is)
@@ -26,7 +26,7 @@ pub returns-then-not-link_in_range-clause-some : goal.returns-then-not-link_in_r
 returns-then-not-link_in_range-clause-some c =
     let shape = c.args.geometry.now in
     let word = slice_index c.args.words.now in
-    let root : word 8 ≤ shape.depth = omega (arith, c.if-words-depth.false, c.depth.ensures.is) in
+    let root : word 8 ≤ shape.depth = subst (λ (n : ℕ). word 8 ≤ n) c.depth.ensures.is c.if-words-depth.false in
     let version : 1 ≤ image_version (frame_of shape word) = omega (arith, c.if-version_of-lt-FIRST_VERSION.false, c.version_of.ensures) in
     let slot : c.loop-s.s < shape.segments = subst (λ (n : ℕ). c.loop-s.s < n) c.segments-s-end.ensures.is c.loop-s-test.true in
     subst (λ (n : ℕ). IsLeast (NumbersFit shape word) (n + 2)) (sym c.head_at-then-not-link_in_range.ensures.is)
@@ -44,8 +44,14 @@ pub returns-clause-none : goal.returns-clause-none
 returns-clause-none c =
     let shape = c.args.geometry.now in
     let word = slice_index c.args.words.now in
-    let root : word 8 ≤ shape.depth = omega (arith, c.if-words-depth.false, c.depth.ensures.is) in
+    let root : word 8 ≤ shape.depth = subst (λ (n : ℕ). word 8 ≤ n) c.depth.ensures.is c.if-words-depth.false in
     let version : 1 ≤ image_version (frame_of shape word) = omega (arith, c.if-version_of-lt-FIRST_VERSION.false, c.version_of.ensures) in
     let all : shape.segments ≤ c.loop-s.s = subst (λ (n : ℕ). n ≤ c.loop-s.s) c.segments-s-end.ensures.is c.loop-s-test.false in
     numbers_fit shape word root version (λ t below. c.loop-s.invariant.heads t (omega (arith, below, all)))
     (λ t below. c.loop-s.invariant.links t (omega (arith, below, all)))
+
+pub returns-then-words-depth-clause-some : goal.returns-then-words-depth-clause-some
+returns-then-words-depth-clause-some c = search rules
+
+pub returns-then-version_of-eq0-clause-some : goal.returns-then-version_of-eq0-clause-some
+returns-then-version_of-eq0-clause-some c = search rules

@@ -1,10 +1,13 @@
 -- The first segment of a version above the image's breaks rule 6 at its header.
-use Rattle.std.proofs.Common.{◌+◌, ◌<◌, ℕ, sym, subst, slice_index}
+use Rattle.std.proofs.Common.{◌≡◌, ◌+◌, ◌<◌, ◌≤◌, ℕ, sym, subst, arith, below_more, slice_index}
 use borrow.Author.Count.{below_none}
 use Rattle.sound_image.specs.Rules.{VersionsArePast}
 use Rattle.image_rules.specs.Breach.{IsLeast}
 use Rattle.image_rules.proofs.standing.HeadRules.{not_past, version_ahead}
 use Rattle.image_rules.proofs.rules.rule_six.Goals as goal
+
+is_past : (version most v m : ℕ) → v ≡ version → m ≡ most → v ≤ m → version ≤ most
+is_past version most v m one two past = omega (arith, one, two, past)
 
 pub loop-s-init : goal.loop-s-init
 loop-s-init c = below_none _
@@ -17,3 +20,9 @@ returns-then-version_of-version-clause-some c =
     subst (λ (n : ℕ). IsLeast (VersionsArePast shape word) (n + 1)) (sym c.head_at.ensures.is)
     (version_ahead shape word c.loop-s.s slot c.loop-s.invariant
     (not_past _ _ _ _ c.version_of.ensures c.version_of-version.ensures c.if-version_of-version.true))
+
+pub loop-s-preserved : goal.loop-s-preserved
+loop-s-preserved c = below_more _ _ c.loop-s.invariant (is_past _ _ _ _ c.version_of.ensures c.version_of-version.ensures c.if-version_of-version.false)
+
+pub returns-clause-none : goal.returns-clause-none
+returns-clause-none c w s slot _ = c.loop-s.invariant s (omega (arith, slot, c.segments-s-end.ensures.is, c.loop-s-test.false))

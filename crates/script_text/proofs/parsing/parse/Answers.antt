@@ -1,6 +1,6 @@
 use Rattle.std.proofs.Common.{List, ℕ, length, sym, ap, ◌∙◌, arith}
 use Rattle.script_text.specs.Script.{IsScript}
-use Rattle.script_text.proofs.Progress.{read_skipped, read_line, still_few, none_left, read_all}
+use Rattle.script_text.proofs.Progress.{read_skipped, read_line, first_bad, still_few, none_left, read_all}
 use Rattle.script_text.proofs.SoFar.{all_so_far, script_ordered}
 use Rattle.script_text.proofs.parsing.parse.Goals as goal
 
@@ -34,3 +34,6 @@ returns-clause-so_far c = all_so_far _ _ c.new.result (whole c)
 
 pub returns-clause-ordered : goal.returns-clause-ordered
 returns-clause-ordered c = script_ordered _ _ c.new.result (whole c)
+
+pub returns-in-BadWord-clause-refused : goal.returns-in-BadWord-clause-refused
+returns-in-BadWord-clause-refused c = first_bad _ _ _ c.first_line.result.1.now _ _ _ _ _ _ c.lines.invariant.short c.lines.invariant.read c.first_line.ensures c.reading_of.ensures c.in-BadWord.ensures

@@ -1,7 +1,7 @@
 -- A draw replaces the counter by one more.
 use Rattle.std.proofs.Common.{◌≡◌, ℕ, ◌+◌, ◌%◌, ◌^◌, ◌<◌, ◌∙◌, ◌∷◌, length, ap, subst, sym, arith}
 use Rattle.std.specs.Prelude.{slice_index, slice_set}
-use Rattle.std.proofs.lemmas.Grind.{get_or_default_zero}
+use Rattle.std.proofs.lemmas.Grind.{common_steps, get_or_default_zero}
 use Rattle.image_layout.specs.Places.{words_of}
 use Rattle.trace.specs.Events.Event.{drawn}
 use Rattle.pm_trace.specs.contracts.device.Device.{the_view}
@@ -21,3 +21,6 @@ returns-clause-follows c caller start es traced =
     let is_counter : counter ≡ words_of c.args.self.now.shape = c.words-counter.ensures.is ∙ ap (λ (m : Memory). words_of m.shape) c.self.view_is in
     subst (λ w. IsTraceOf start (drawn caller w ∷ es) (record (the_view c.self.inside) { newest = slice_set items counter ((c.index-place.result.now + 1) % 2 ^ 64) })) is_counter
     (subst (λ x. IsTraceOf start (drawn caller counter ∷ es) (record (the_view c.self.inside) { newest = slice_set items counter ((x + 1) % 2 ^ 64) })) (sym place) drew)
+
+pub returns-clause-place : goal.returns-clause-place
+returns-clause-place c = grind (arith, common_steps)

@@ -1,5 +1,5 @@
 -- An exchange that finds what it expected replaces one of the newest words, and another one is a load.
-use Rattle.std.proofs.Common.{subst, sym, ◌<◌}
+use Rattle.std.proofs.Common.{subst, sym, ◌<◌, rules}
 use Rattle.pm_trace.specs.contracts.device.Device.{the_view}
 use Rattle.image_layout.specs.Volatile.{all_words_of}
 use Rattle.pm_trace.specs.Memory.{Memory}
@@ -15,3 +15,6 @@ returns-clause-won_follows c start es traced =
     let within : c.args.w < all_words_of c.self.inside.geometry = subst (λ (m : Memory). c.args.w < all_words_of m.shape) (sym c.self.view_is) c.requires.word in
     exchange_follows (the_view c.self.inside) c.args.caller c.args.w c.args.new (subst (λ n. c.args.w < n) (sym c.self.invariant.0) within) start es
     (subst (λ m. IsTraceOf start es m) (sym c.self.view_is) traced)
+
+pub returns-then-seen-expected-clause-lost : goal.returns-then-seen-expected-clause-lost
+returns-then-seen-expected-clause-lost c = search rules

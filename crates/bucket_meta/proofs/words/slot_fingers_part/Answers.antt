@@ -1,0 +1,6 @@
+-- By the rules that all proofs share.
+use Rattle.std.proofs.Common.{rules}
+use Rattle.bucket_meta.proofs.words.slot_fingers_part.Goals as goal
+
+pub returns : goal.returns
+returns c = search rules
