@@ -53,5 +53,5 @@ returns-clause-none c =
 pub returns-then-words-depth-clause-some : goal.returns-then-words-depth-clause-some
 returns-then-words-depth-clause-some c = search rules
 
-pub returns-then-version_of-eq0-clause-some : goal.returns-then-version_of-eq0-clause-some
-returns-then-version_of-eq0-clause-some c = search rules
+pub returns-then-version_of-lt-FIRST_VERSION-clause-some : goal.returns-then-version_of-lt-FIRST_VERSION-clause-some
+returns-then-version_of-lt-FIRST_VERSION-clause-some c = search rules
