@@ -51,7 +51,7 @@ good_script_is_taken t mode fault refused good =
 
 pub good_image_is_taken : (t : Bytes) (fault : ImageFault) → RefusesImage t.store_old fault → HasGoodImage t → ⊥
 good_image_is_taken t fault refused good =
-    let short : length good.start ≤ 282067200 = subst (λ (x : List ℕ). length x ≤ 282067200) (sym good.good.file) (file-le good.good.shape good.good.words good.good.sound) in
+    let short : length good.start ≤ 282067200 = subst (λ (x : List ℕ). length x ≤ 282067200) (sym good.good.1.file) (file-le good.good.0 good.good.1.words good.good.1.sound) in
     let whole : refused.start ≡ good.start = whole_front t.store_old 282067200 refused.start good.start good.store_tells refused.reads short in
     refused.not_memory (no_fault good.start good.good fault (subst (λ (x : List ℕ). HasFault x fault) whole refused.has_fault))
 
