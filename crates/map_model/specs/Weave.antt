@@ -1,5 +1,5 @@
 -- The one order of all entries, made from the places that they drew and loaded.
-use Rattle.std.specs.Prelude.{ℕ, ◌^◌, zero, suc, Bool, not, ◌&&◌, ◌==◌, List, [], ◌++◌, length, filter}
+use Rattle.std.specs.Prelude.{ℕ, ◌-◌, ◌^◌, zero, suc, Bool, not, ◌&&◌, ◌==◌, List, [], ◌++◌, length, filter}
 use Rattle.std.specs.List.{flat_map}
 use Rattle.map_model.specs.declared.entry.Entry.{Entry}
 
@@ -18,6 +18,10 @@ most_callers = 64
 -- callers are numbered from this number on
 abbrev pub first_caller : ℕ
 first_caller = 1
+
+-- in lists and among engines they have seats, from 0 on: the seat of the one with this number
+abbrev pub seat_of : ℕ → ℕ
+seat_of caller = caller - first_caller
 
 -- and the number below it is the keeper's, who starts the image and closes it
 abbrev pub keeper_number : ℕ

@@ -1,7 +1,7 @@
 // The entries of each caller.
-ghost use Rattle.std.specs.Prelude.{◌≡◌, ◌-◌, ◌<◌, ◌≤◌, length, map, slice_get, IfOk, IfSome, Some};
+ghost use Rattle.std.specs.Prelude.{◌≡◌, ◌<◌, ◌≤◌, length, map, slice_get, IfOk, IfSome, Some};
 ghost use Rattle.map_model.specs.Roomed.{with_room, with_entry, lists_of};
-ghost use Rattle.map_model.specs.Weave.{first_caller};
+ghost use Rattle.map_model.specs.Weave.{first_caller, seat_of};
 
 use crate::entry::Entry;
 use crate::no_memory::NoMemory;
@@ -34,7 +34,7 @@ impl Model for Lists {
 }
 
 impl Lists {
-    /// No entries yet, and room for `room[caller - 1]` entries of each caller. More room than memory
+    /// No entries yet, and room for so many entries of each caller as `room` says at its seat. More room than memory
     /// can hold is `NoMemory`.
     pub fn new(alloc: Global, room: &[u64]) -> Result<Lists, NoMemory>
         ensures { IfOk result (λ lists. lists ≡ map with_room room.now) }
@@ -57,9 +57,9 @@ impl Lists {
     pub fn of(&self, caller: u8) -> &[Entry]
         requires from_one { first_caller ≤ caller }
         requires is_caller { caller ≤ length self.now }
-        ensures { slice_get (lists_of self.now) (caller - 1) ≡ Some result.now }
+        ensures { slice_get (lists_of self.now) (seat_of caller) ≡ Some result.now }
     {
-        &self.lists[caller as usize - 1]
+        &self.lists[caller as usize - FIRST_CALLER as usize]
     }
 
     /// The entries of all callers, by caller number.
@@ -73,10 +73,10 @@ impl Lists {
     pub fn push(&mut self, caller: u8, entry: Entry)
         requires from_one { first_caller ≤ caller }
         requires is_caller { caller ≤ length self.old }
-        requires has_spare { IfSome (slice_get self.old (caller - 1)) (λ kept. 0 < kept.spare) }
-        ensures { self.new ≡ with_entry self.old (caller - 1) entry }
+        requires has_spare { IfSome (slice_get self.old (seat_of caller)) (λ kept. 0 < kept.spare) }
+        ensures { self.new ≡ with_entry self.old (seat_of caller) entry }
     {
-        let list = &mut self.lists[caller as usize - 1];
+        let list = &mut self.lists[caller as usize - FIRST_CALLER as usize];
         list.push_reserved(entry);
     }
 }

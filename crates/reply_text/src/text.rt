@@ -7,7 +7,7 @@ ghost use Rattle.session.specs.Transcript.{line, placed_text, entry_lines, open_
 ghost use Rattle.reply_text.specs.Told.{told_by, tolds_of};
 
 use crate::left::Session;
-use map_model::{Entry, NoMemory, Stop};
+use map_model::{Entry, FIRST_CALLER, NoMemory, Stop};
 use std::alloc::{AllocError, Global};
 
 // Appends the line of an answered call.
@@ -82,7 +82,7 @@ pub fn transcript(alloc: Global, session: &Session) -> Result<Vec<u8>, NoMemory>
 {
     let mut text = String::new(alloc);
     for i in 0..session.lists.callers() {
-        let caller = i as u8 + 1;
+        let caller = i as u8 + FIRST_CALLER as u8;
         push_caller(
             &mut text,
             caller,
