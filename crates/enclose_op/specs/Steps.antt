@@ -76,7 +76,7 @@ headed e head = go (with_head e head) (if is_followed e head then Fill mark_plac
 -- ---- the words
 -- the number of the word after one: lock words are left out
 abbrev pub word_after : ℕ → ℕ
-word_after at = if (at + 1) % block == lock_place then at + 2 else at + 1
+word_after at = if (at + 1) % block == lock_place then at + (1 + mark_place) else at + 1
 
 -- where there is no room, the segment is too deep to be split, or it is handed on
 abbrev pub decided : Enclosed → EncloseStep

@@ -98,7 +98,7 @@ fn word_after(at: u16) -> u16
     ensures { result ≡ word_after at }
 {
     if (at + 1) % BLOCK_WORDS == LOCK_PLACE {
-        at + 2
+        at + (1 + MARK_PLACE as u16)
     } else {
         at + 1
     }
