@@ -91,9 +91,13 @@ given_back free = free + 2
 abbrev pub without_lock : ℕ → ℕ
 without_lock w0 = free_lock (lock_version w0)
 
+-- how many bits of a lock word its version has: all but the lowest, which is the lock
+abbrev pub lock_version_bits : ℕ
+lock_version_bits = word_bits - 1
+
 -- the last version that a lock may have
 abbrev pub last_lock_version : ℕ
-last_lock_version = 2 ^ 63 - 1
+last_lock_version = 2 ^ lock_version_bits - 1
 
 -- the lock word that is free with the last version, so that nobody takes the lock any more
 abbrev pub spent_lock : ℕ

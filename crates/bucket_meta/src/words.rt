@@ -1,8 +1,8 @@
 //! The words of a bucket, bit by bit. They may have any bits that no field has, which `Meta` does not keep: so a machine
 //! that loads and stores single words looks at them and changes them here.
 
-ghost use Rattle.std.specs.Prelude.{◌≡◌, ◌==◌, ℕ, ◌^◌, ◌<◌, ◌↔◌, IfSome, IfNone, IsTrue, slice_set, ◌%◌};
-ghost use Rattle.bucket_meta.specs.Bucket.{allocated, member, finger, note_used, note_member, note_index, note_finger, overflow_count, record_slots, note_slots, first_key, key_place, value_place, count_bits, locked, unlocked, given_back, without_lock, lock_bit, lock_version, slot_fingers_part};
+ghost use Rattle.std.specs.Prelude.{◌≡◌, ◌==◌, ℕ, ◌^◌, ◌<◌, ◌≤◌, ◌↔◌, IfSome, IfNone, IsTrue, slice_set, ◌%◌};
+ghost use Rattle.bucket_meta.specs.Bucket.{allocated, member, finger, note_used, note_member, note_index, note_finger, overflow_count, record_slots, note_slots, first_key, key_place, value_place, count_bits, last_lock_version, free_lock, locked, unlocked, given_back, without_lock, lock_bit, lock_version, slot_fingers_part};
 ghost use Rattle.bucket_meta.specs.Search.{is_taken, IsThere, lowest_with, lowest_free};
 ghost use Rattle.bucket_meta.specs.Notes.{IsNoteOn};
 ghost use Rattle.bucket_meta.specs.Marks.{inserted_mark, member_mark, removed_mark, finger_place, with_finger};
@@ -81,11 +81,17 @@ pub const REST_FINGERS: u8 = SLOTS - FINGERS_OF_WORD;
 /// From which bit of word 3 on the fingerprints of the lower note slots stand, above those of record slots.
 pub const NOTE_FINGERS_FROM: u32 = FINGERPRINT_BITS * REST_FINGERS as u32;
 
+/// How many lock words a version has: a free one, and a locked one above it.
+const LOCKS_OF_VERSION: u64 = 2;
+
+/// How many bits of a lock word its version has: all but the lowest, which is the lock.
+const LOCK_VERSION_BITS: u32 = u64::BITS - 1;
+
 /// The last version that a lock may have.
-const LAST_LOCK_VERSION: u64 = u64::MAX / 2;
+const LAST_LOCK_VERSION: u64 = (1 << LOCK_VERSION_BITS) - 1;
 
 /// The lock word that is free with the last version, so that nobody takes the lock any more.
-pub const SPENT_LOCK: u64 = 2 * LAST_LOCK_VERSION;
+pub const SPENT_LOCK: u64 = LOCKS_OF_VERSION * LAST_LOCK_VERSION;
 
 /// The words of a bucket before its records, by their numbers in it: its lock word.
 pub const LOCK_PLACE: usize = 0;
@@ -129,14 +135,22 @@ pub fn value_place(slot: u8) -> usize
 pub fn is_locked(w0: u64) -> bool
     ensures { result ≡ (lock_bit w0 == 1) }
 {
-    w0 % 2 == 1
+    w0 % LOCKS_OF_VERSION == 1
 }
 
 /// The version of a lock word, in all the bits above the lock.
 pub fn lock_version(w0: u64) -> u64
     ensures { result ≡ lock_version w0 }
 {
-    w0 / 2
+    w0 / LOCKS_OF_VERSION
+}
+
+/// The lock word that is free with this version.
+pub fn free_lock(version: u64) -> u64
+    requires { version ≤ last_lock_version }
+    ensures { result ≡ free_lock version }
+{
+    LOCKS_OF_VERSION * version
 }
 
 /// The lock word that is locked, of the free one with the same version.
@@ -157,14 +171,14 @@ pub fn unlocked(held: u64) -> u64
 pub fn given_back(free: u64) -> u64
     ensures { result ≡ given_back free % 2 ^ 64 }
 {
-    free.wrapping_add(2)
+    unlocked(locked(free))
 }
 
 /// The lock word that is free with the version of a lock word, be that locked or free.
 pub fn without_lock(w0: u64) -> u64
     ensures { result ≡ without_lock w0 }
 {
-    2 * lock_version(w0)
+    free_lock(lock_version(w0))
 }
 
 // ---- record slots
