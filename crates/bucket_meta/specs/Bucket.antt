@@ -121,7 +121,7 @@ marks_bits = 2 * record_slots
 
 -- how many fingerprints a word has room for
 abbrev pub fingers_of_word : ℕ
-fingers_of_word = 8
+fingers_of_word = word_bits / fingerprint_bits
 
 -- how many fingerprints of record slots stand in w3, the last word before the records: those that w2 has no room for
 abbrev pub rest_fingers : ℕ

@@ -73,7 +73,7 @@ pub const UPPER_FINGERS_FROM: u32 = COUNT_FROM + COUNT_BITS;
 pub(crate) const LAST_FINGER_FROM: u32 = UPPER_FINGERS_FROM + FINGERPRINT_BITS;
 
 /// How many fingerprints a word has room for.
-pub const FINGERS_OF_WORD: u8 = 8;
+pub const FINGERS_OF_WORD: u8 = (u64::BITS / FINGERPRINT_BITS) as u8;
 
 /// How many fingerprints of record slots stand in the last word before the records: those that the word before it has no room for.
 pub const REST_FINGERS: u8 = SLOTS - FINGERS_OF_WORD;
