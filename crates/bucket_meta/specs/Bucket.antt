@@ -57,7 +57,11 @@ key_place r = first_key + record_words * r
 abbrev pub value_place : ℕ → ℕ
 value_place r = first_value + record_words * r
 
--- the same two, counted from where the words begin of which the bucket's are a part; of these brackets, by which proofs go on
+-- the record slot whose key or value stands in the word of this number, which is one of its records
+abbrev pub slot_of_place : ℕ → ℕ
+slot_of_place m = (m - first_key) / record_words
+
+-- the word of the key of record slot r and that of its value, of a bucket whose first word is this one; bracketed as proofs ask for it
 abbrev pub key_behind : ℕ → ℕ → ℕ
 key_behind at r = at + first_key + record_words * r
 

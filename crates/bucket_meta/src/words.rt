@@ -2,7 +2,7 @@
 //! that loads and stores single words looks at them and changes them here.
 
 ghost use Rattle.std.specs.Prelude.{◌≡◌, ◌==◌, ℕ, ◌^◌, ◌<◌, ◌≤◌, ◌↔◌, IfSome, IfNone, IsTrue, slice_set, ◌%◌};
-ghost use Rattle.bucket_meta.specs.Bucket.{allocated, member, finger, note_used, note_member, note_index, note_finger, overflow_count, record_slots, note_slots, first_key, key_place, value_place, count_bits, last_lock_version, free_lock, locked, unlocked, given_back, without_lock, lock_bit, lock_version, slot_fingers_part};
+ghost use Rattle.bucket_meta.specs.Bucket.{allocated, member, finger, note_used, note_member, note_index, note_finger, overflow_count, record_slots, note_slots, first_key, key_place, value_place, slot_of_place, count_bits, last_lock_version, free_lock, locked, unlocked, given_back, without_lock, lock_bit, lock_version, slot_fingers_part};
 ghost use Rattle.bucket_meta.specs.Search.{is_taken, IsThere, lowest_with, lowest_free};
 ghost use Rattle.bucket_meta.specs.Notes.{IsNoteOn};
 ghost use Rattle.bucket_meta.specs.Marks.{inserted_mark, member_mark, removed_mark, finger_place, with_finger};
@@ -129,6 +129,15 @@ pub fn value_place(slot: u8) -> usize
     ensures { result ≡ value_place slot }
 {
     FIRST_VALUE + RECORD_WORDS * usize::from(slot)
+}
+
+/// The record slot whose key or value stands in a word of a bucket, which is one of its records.
+pub fn slot_of_place(place: usize) -> u8
+    requires from { first_key ≤ place }
+    requires within { place < key_place record_slots }
+    ensures { result ≡ slot_of_place place }
+{
+    ((place - FIRST_KEY) / RECORD_WORDS) as u8
 }
 
 /// Whether a lock word says that its bucket is locked.

@@ -1,6 +1,6 @@
 -- The stores of one record, up to where they are settled: what is wanted, and what comes after.
-use Rattle.std.specs.Prelude.{ℕ, ◌+◌, ◌-◌, ◌/◌, nat_lt, if◌then◌else◌}
-use Rattle.bucket_meta.specs.Bucket.{first_key, record_words, key_behind, value_behind}
+use Rattle.std.specs.Prelude.{ℕ, ◌+◌, nat_lt, if◌then◌else◌}
+use Rattle.bucket_meta.specs.Bucket.{slot_of_place, key_behind, value_behind}
 use Rattle.bucket_meta.specs.Marks.{finger_place}
 use Rattle.trace.specs.Events.{line_words, line_of}
 use Rattle.map_model.specs.declared.change.Effect.{Effect}
@@ -48,7 +48,7 @@ module _ (lock : ℕ) (written : Record) where
 
 -- how many record slots have key and value in the first line of the bucket
 abbrev pub slots_of_first_line : ℕ
-slots_of_first_line = (line_words - first_key) / record_words
+slots_of_first_line = slot_of_place line_words
 
 -- the line of the fingerprints is the first one of the bucket, and so the record's too for these slots
 abbrev pub make_taken : ℕ → Make → Made

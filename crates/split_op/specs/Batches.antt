@@ -1,6 +1,6 @@
 -- WHAT A SPLIT STORES, one store after another: to empty a slot, to link it, the two headers, and the copies.
 use Rattle.std.specs.Prelude.{ℕ, zero, suc, ◌+◌, ◌-◌, ◌*◌, ◌/◌, ◌%◌, ◌^◌, nat_lt, ◌==◌, ◌&&◌, ◌||◌, not, Bool, true, false, Option, None, Some, List, slice_index, if◌then◌else◌}
-use Rattle.bucket_meta.specs.Bucket.{lock_place, mark_place, rest_place, first_key, lock_bit, without_lock, record_words}
+use Rattle.bucket_meta.specs.Bucket.{lock_place, mark_place, rest_place, first_key, lock_bit, without_lock, slot_of_place}
 use Rattle.bucket_meta.specs.Search.{is_taken}
 use Rattle.segment_head.specs.HeadWord.{link_to}
 use Rattle.image_layout.specs.Places.{segment_words, buckets, block, header_blocks, header_number, link_number}
@@ -26,7 +26,7 @@ after_empty locks number = if not (nat_lt number block) && nat_lt (number % bloc
 -- ---- records are copied
 -- word m of a bucket of the side is copied, by the word itself and the first metadata word of the bucket
 abbrev pub is_copied_at : ℕ → ℕ → ℕ → Bool
-is_copied_at m word mark = if m == lock_place then false else if nat_lt m first_key then not (word == 0) else is_taken mark ((m - first_key) / record_words)
+is_copied_at m word mark = if m == lock_place then false else if nat_lt m first_key then not (word == 0) else is_taken mark (slot_of_place m)
 
 -- a word of the side is copied, by its number
 abbrev pub is_copied : List ℕ → ℕ → Bool

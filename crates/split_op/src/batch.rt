@@ -45,8 +45,6 @@ pub(crate) const LOCK_PLACE: u16 = words::LOCK_PLACE as u16;
 pub(crate) const MARK_PLACE: u16 = words::MARK_PLACE as u16;
 /// The last one of the metadata.
 const REST_PLACE: u16 = words::REST_PLACE as u16;
-/// How many words a record has.
-pub(crate) const RECORD_WORDS: u16 = words::RECORD_WORDS as u16;
 
 // ---- headers
 

@@ -4,8 +4,8 @@ ghost use Rattle.std.specs.Prelude.{◌≡◌, ◌<◌, ◌≤◌, slice_index};
 ghost use Rattle.image_layout.specs.Places.{segment_words};
 ghost use Rattle.split_op.specs.Batches.{is_copied, copied_from};
 
-use crate::batch::{FIRST_KEY, LOCK_PLACE, MARK_PLACE, RECORD_WORDS, SLOT_WORDS};
-use bucket_meta::words::is_taken;
+use crate::batch::{FIRST_KEY, LOCK_PLACE, MARK_PLACE, SLOT_WORDS};
+use bucket_meta::words::{is_taken, slot_of_place};
 use image_layout::{BLOCK_WORDS, WORDS_OF_BUCKETS};
 
 /// Whether a word of the side is copied, by its number in the slot: of each bucket the metadata that is not 0, and key and value of
@@ -22,7 +22,7 @@ pub(crate) fn is_copied(words: &[u64; WORDS_OF_BUCKETS as usize], number: u16) -
     } else {
         is_taken(
             words[usize::from((number - place).saturating_sub(BLOCK_WORDS - MARK_PLACE))],
-            ((place - FIRST_KEY) / RECORD_WORDS) as u8,
+            slot_of_place(usize::from(place)),
         )
     }
 }
