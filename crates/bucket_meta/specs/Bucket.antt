@@ -155,6 +155,10 @@ count_from = note_index_from + note_slots
 abbrev pub count_bits : ℕ
 count_bits = 5
 
+-- the greatest count that these can hold
+abbrev pub greatest_count : ℕ
+greatest_count = 2 ^ count_bits - 1
+
 -- from which bit of w1 on the fingerprints of the upper note slots stand
 abbrev pub upper_fingers_from : ℕ
 upper_fingers_from = count_from + count_bits

@@ -1,13 +1,9 @@
 -- Exact overflow data: what a home bucket and its probing bucket say of the records of that home in the stash.
-use Rattle.std.specs.Prelude.{ℕ, ◌+◌, ◌-◌, ◌^◌, ◌<◌, List, ◌++◌, slice_index}
+use Rattle.std.specs.Prelude.{ℕ, ◌+◌, ◌<◌, List, ◌++◌, slice_index}
 use Rattle.bucket_meta.specs.declared.metadata.Meta.{Meta}
 use Rattle.word_bits.specs.Bits.{bit}
-use Rattle.bucket_meta.specs.Bucket.{count_bits, home_side, probing_side}
+use Rattle.bucket_meta.specs.Bucket.{home_side, probing_side}
 use Rattle.bucket_meta.specs.Notes.{OverflowNote, how_often, notes_on, AreExact}
-
--- the greatest number that a bucket's count can hold
-abbrev pub greatest_count : ℕ
-greatest_count = 2 ^ count_bits - 1
 
 -- the notes of one side of a bucket: `home_side` is of its own home, `probing_side` of the home that has it as its probing bucket
 abbrev pub notes_at : Meta → ℕ → List OverflowNote

@@ -2,9 +2,9 @@
 
 ghost use Rattle.std.specs.Prelude.{◌≡◌, ◌≢◌, ℕ, ◌+◌, ◌-◌, ◌^◌, ◌<◌, ◌↔◌, IsTrue, List, ◌∷◌, Contains};
 ghost use Rattle.word_bits.specs.Bits.{bit};
-ghost use Rattle.bucket_meta.specs.Bucket.{home_side, probing_side};
+ghost use Rattle.bucket_meta.specs.Bucket.{greatest_count, home_side, probing_side};
 ghost use Rattle.bucket_meta.specs.Notes.{OverflowNote, how_often};
-ghost use Rattle.stash.specs.Exact.{greatest_count, notes_at, notes_of, IsExactFor, IsNamed, IsNotedOrCounted};
+ghost use Rattle.stash.specs.Exact.{notes_at, notes_of, IsExactFor, IsNamed, IsNotedOrCounted};
 ghost use Rattle.image_layout.specs.Places.{stash_buckets};
 ghost use Rattle.stash.specs.NoteSlots.{IsUnused, IsNoteAt, IsLowest, HoldsNowhere, SameSlots, NoteSlotBecomes, CountBecomes, filled_note_slot, freed_note_slot};
 
