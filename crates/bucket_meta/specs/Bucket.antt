@@ -190,12 +190,20 @@ home_side = 0
 abbrev pub probing_side : ℕ
 probing_side = 1
 
+-- how many sides a note may have
+abbrev pub note_sides : ℕ
+note_sides = probing_side + 1
+
 -- the numbers of the two stash buckets, as a note names them
 abbrev pub first_stash_index : ℕ
 first_stash_index = 0
 
 abbrev pub second_stash_index : ℕ
 second_stash_index = 1
+
+-- how many stash buckets a note may name
+abbrev pub stash_indices : ℕ
+stash_indices = second_stash_index + 1
 
 -- which of the two stash buckets the note names
 abbrev pub note_index : ℕ → ℕ → ℕ

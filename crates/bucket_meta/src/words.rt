@@ -2,7 +2,7 @@
 //! that loads and stores single words looks at them and changes them here.
 
 ghost use Rattle.std.specs.Prelude.{◌≡◌, ◌==◌, ℕ, ◌^◌, ◌<◌, ◌≤◌, ◌↔◌, IfSome, IfNone, IsTrue, slice_set, ◌%◌};
-ghost use Rattle.bucket_meta.specs.Bucket.{allocated, member, finger, note_used, note_member, note_index, note_finger, overflow_count, record_slots, note_slots, first_key, key_place, value_place, slot_of_place, count_bits, last_lock_version, free_lock, locked, unlocked, given_back, without_lock, lock_bit, lock_version, slot_fingers_part};
+ghost use Rattle.bucket_meta.specs.Bucket.{allocated, member, finger, note_used, note_member, note_index, note_finger, overflow_count, record_slots, note_slots, first_key, key_place, value_place, slot_of_place, count_bits, stash_indices, last_lock_version, free_lock, locked, unlocked, given_back, without_lock, lock_bit, lock_version, slot_fingers_part};
 ghost use Rattle.bucket_meta.specs.Search.{is_taken, IsThere, lowest_with, lowest_free};
 ghost use Rattle.bucket_meta.specs.Notes.{IsNoteOn};
 ghost use Rattle.bucket_meta.specs.Marks.{inserted_mark, member_mark, removed_mark, finger_place, with_finger};
@@ -56,6 +56,9 @@ pub const FIRST_STASH_INDEX: u8 = 0;
 
 /// The number of the second one among them.
 pub const SECOND_STASH_INDEX: u8 = 1;
+
+/// How many stash buckets a note may name.
+pub const STASH_INDICES: u8 = SECOND_STASH_INDEX + 1;
 
 /// From which bit of the metadata word on a bit of each note slot says which stash bucket the note names.
 pub const NOTE_INDEX_FROM: u32 = NOTE_MEMBER_FROM + NOTE_SET_BITS;
@@ -352,7 +355,7 @@ pub fn is_note_on(w1: u64, note_slot: u8, side: u64) -> bool
 pub fn note_index_of(w1: u64, note_slot: u8) -> u8
     requires { note_slot < note_slots }
     ensures is { result ≡ note_index note_slot w1 }
-    ensures stash { result < 2 }
+    ensures stash { result < stash_indices }
 {
     bits_of(w1, NOTE_INDEX_FROM + u32::from(note_slot), 1) as u8
 }

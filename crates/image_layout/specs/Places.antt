@@ -1,7 +1,7 @@
 -- Where the parts of an image stand, by word number. An image is a list of 64-bit words.
 use Rattle.std.specs.Prelude.{ℕ, ◌+◌, ◌-◌, ◌*◌, ◌/◌, ◌%◌, ◌^◌, ◌≤◌}
 pub use Rattle.hash_word.specs.Hash.{homes, most_depth}
-use Rattle.bucket_meta.specs.Bucket.{record_slots, key_behind, value_behind, second_stash_index}
+use Rattle.bucket_meta.specs.Bucket.{record_slots, key_behind, value_behind, second_stash_index, stash_indices}
 
 -- how many slots for segments an image may have at most, and the greatest kind of hash
 abbrev pub most_segments : ℕ
@@ -53,9 +53,9 @@ front_segments = 2
 abbrev pub front_depth : ℕ
 front_depth = 3
 
--- how many stash buckets a segment has, behind its homes
+-- how many stash buckets a segment has: those that a note may name
 abbrev pub stash_buckets : ℕ
-stash_buckets = 2
+stash_buckets = stash_indices
 
 -- the number of the second one; that of the first is homes
 abbrev pub second_stash : ℕ

@@ -4,7 +4,7 @@ ghost use Rattle.std.specs.Prelude.{◌≡◌, ◌<◌, ◌≤◌, ◌+◌, ◌*
 ghost use Rattle.image_layout.specs.Volatile.{counter_word, power_word, allocation_guard, directory_guard, segment_guard, all_words_of, power_from, allocation_from, directory_from, guards_from};
 ghost use Rattle.image_layout.specs.Places.{IsShape, first_segment, words_of, entry_at, head_at, bucket_at, block, homes, stash_buckets, buckets, segment_words, most_power, first_segment_of_largest, most_words, most_segments, most_depth, most_kind};
 
-use bucket_meta::words::{BUCKET_WORDS, SECOND_STASH_INDEX, SLOTS};
+use bucket_meta::words::{BUCKET_WORDS, SECOND_STASH_INDEX, SLOTS, STASH_INDICES};
 use hash_word::{HOMES, MOST_DEPTH};
 use std::error::Error;
 use std::fmt;
@@ -24,8 +24,8 @@ pub const ROOT_WORD: u64 = 8;
 pub const STATE_WORD: u64 = 16;
 /// How many words the front of an image, a header and a bucket have.
 pub const BLOCK: u64 = BUCKET_WORDS as u64;
-/// How many stash buckets a segment has, behind its homes.
-pub const STASH_BUCKETS: u8 = 2;
+/// How many stash buckets a segment has, behind its homes: those that a note may name.
+pub const STASH_BUCKETS: u8 = STASH_INDICES;
 /// The number of the second one; that of the first is [`HOMES`].
 pub const SECOND_STASH: u8 = HOMES + SECOND_STASH_INDEX;
 /// In how many buckets a key may stand: its home and its probing bucket, and the stash buckets.

@@ -2,7 +2,7 @@
 
 ghost use Rattle.std.specs.Prelude.{◌≡◌, ◌*◌, ◌<◌, ◌≤◌, ◌↔◌, IsTrue, length, slice_index};
 ghost use Rattle.image_layout.specs.Places.{words_of, homes, stash_buckets, buckets, block};
-ghost use Rattle.bucket_meta.specs.Bucket.{note_index, note_finger, record_slots, note_slots};
+ghost use Rattle.bucket_meta.specs.Bucket.{note_index, note_finger, record_slots, note_slots, note_sides};
 ghost use Rattle.sound_image.specs.Records.{word_in, notes_of, stashed_of, HasExactNotes};
 ghost use Rattle.image_rules.specs.Noted.{matches, how_many, piece_on, noted, IsStashed, piece_in, stashed_below, IsNamed, AreNamed};
 ghost use Rattle.image_rules.specs.Slots.{IsRecordSlot};
@@ -171,7 +171,7 @@ fn count_notes(
     requires segment { s < geometry.now.segments }
     requires bucket { b < homes }
     ensures is { result ≡ how_many sought (notes_of geometry.now (slice_index words.now) s b) }
-    ensures most { result ≤ 2 * note_slots }
+    ensures most { result ≤ note_sides * note_slots }
 {
     let beside = hash_word::probing(b);
     let own = count_on(
