@@ -13,7 +13,7 @@ use crate::heads::{header_of, version_of};
 use crate::records::RecordRule;
 use image_layout::state::{self, FIRST_VERSION};
 use image_layout::{Geometry, HEADER, LINK, ROOT_WORD, STATE_WORD};
-use segment_head::word::{FREE, FRESH, depth_of, pattern_of, state_of};
+use segment_head::word::{FREE, LAST_STATE, depth_of, pattern_of, state_of};
 
 /// Whether a header word is in its range.
 fn head_in_range(geometry: &Geometry, words: &[u64], s: u64) -> bool
@@ -25,7 +25,7 @@ fn head_in_range(geometry: &Geometry, words: &[u64], s: u64) -> bool
     let state = state_of(header);
     let depth = depth_of(header);
     let pattern = u64::from(pattern_of(header));
-    state <= FRESH
+    state <= LAST_STATE
         && (state == FREE || (u64::from(depth) <= geometry.depth() && pattern < 1 << depth))
 }
 

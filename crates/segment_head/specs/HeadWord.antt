@@ -57,6 +57,10 @@ splitting = 2
 abbrev pub fresh : ℕ
 fresh = 3
 
+-- the last of them: a greater number is none
+abbrev pub last_state : ℕ
+last_state = fresh
+
 -- a live segment is normal or splitting
 abbrev pub is_live : ℕ → Bool
 is_live h1 = (state_in h1 == normal) || (state_in h1 == splitting)

@@ -1,7 +1,7 @@
 //! A head and its word determine each other.
 
 ghost use Rattle.std.specs.Prelude.{◌≡◌, ◌<◌, ◌↔◌, IfSome, IsNone};
-ghost use Rattle.segment_head.specs.HeadWord.{state_in, fresh};
+ghost use Rattle.segment_head.specs.HeadWord.{state_in, last_state};
 ghost use Rattle.segment_head.specs.Written.{spare_in, WordGivesHead, HeadGivesWord};
 
 use crate::Head;
@@ -27,7 +27,7 @@ pub fn read_of_written(head: &Head) -> Option<Head>
 pub fn written_of_read(h1: u64) -> Option<u64>
     requires { spare_in h1 ≡ 0 }
     ensures some { IfSome result (λ word. word ≡ h1) }
-    ensures none { IsNone result ↔ (fresh < state_in h1) }
+    ensures none { IsNone result ↔ (last_state < state_in h1) }
 {
     match Head::read(h1) {
         Some(head) => Some(head.write()),

@@ -5,8 +5,8 @@
 //! `specs/HeadWord.antt` says what each bit of the word means.
 #![tactic(auto)]
 
-ghost use Rattle.std.specs.Prelude.{◌≡◌, ◌<◌, ◌+◌, ◌*◌, IfSome, IfNone, IsNone, ◌^◌};
-ghost use Rattle.segment_head.specs.HeadWord.{pattern_bits, state_in, fresh};
+ghost use Rattle.std.specs.Prelude.{◌≡◌, ◌<◌, ◌≤◌, ◌+◌, ◌*◌, IfSome, IfNone, IsNone, ◌^◌};
+ghost use Rattle.segment_head.specs.HeadWord.{pattern_bits, state_in, last_state};
 ghost use Rattle.segment_head.specs.Head.{IsHeadOf, number_of};
 ghost use Rattle.segment_head.specs.Sides.{IsOneSideOf, CoversOnes};
 ghost use Rattle.segment_head.specs.Written.{spare_in};
@@ -53,7 +53,7 @@ pub struct Head {
 /// The number of a state in a header word, from 0 to 3.
 fn state_number(state: State) -> u8
     ensures value { result ≡ number_of state }
-    ensures range { result < fresh + 1 }
+    ensures range { result ≤ last_state }
 {
     match state {
         State::Free => FREE,
@@ -67,8 +67,8 @@ impl Head {
     /// Reads a header word. None exactly where its state byte is above 3.
     pub fn read(h1: u64) -> Option<Head>
         ensures some { IfSome result (λ head. IsHeadOf head h1) }
-        ensures none { IfNone result (fresh < state_in h1) }
-        ensures refused { fresh < state_in h1 → IsNone result }
+        ensures none { IfNone result (last_state < state_in h1) }
+        ensures refused { last_state < state_in h1 → IsNone result }
     {
         let state = match state_of(h1) {
             FREE => State::Free,

@@ -39,6 +39,8 @@ pub const NORMAL: u8 = 1;
 pub const SPLITTING: u8 = 2;
 /// That of a segment that takes records from a splitting one, and is not looked at yet.
 pub const FRESH: u8 = 3;
+/// The last of the four; a greater number is none of them.
+pub const LAST_STATE: u8 = FRESH;
 
 /// The state byte: one of the four states, or a number above 3.
 pub fn state_of(h1: u64) -> u8

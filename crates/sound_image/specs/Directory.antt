@@ -2,7 +2,7 @@
 use Rattle.std.specs.Prelude.{◌≡◌, ◌≢◌, ℕ, ◌^◌, ◌<◌, ◌≤◌, ◌⊎◌}
 use Rattle.hash_word.specs.Hash.{index_of, first_hash_of}
 use Rattle.image_layout.specs.StateWord.{first_version}
-use Rattle.segment_head.specs.HeadWord.{version_in, free, fresh}
+use Rattle.segment_head.specs.HeadWord.{version_in, free, last_state}
 use Rattle.sound_image.specs.Segments.{Frame, image_version, state_at, depth_at, pattern_at, IsLive, CoversHash, IsLiveFor, Owns, InOneSide, HasReadySide, LeadsToOwner}
 
 module _ (frame : Frame) where
@@ -16,7 +16,7 @@ module _ (frame : Frame) where
 
   -- the state is one of the four, and a segment that is not free has a depth and a pattern that fit
   pub record HeadInRange (greatest s : ℕ) : Type 0 where
-    pub known : state_at frame s ≤ fresh
+    pub known : state_at frame s ≤ last_state
     pub depth_fits : state_at frame s ≢ free → depth_at frame s ≤ greatest
     pub pattern_fits : state_at frame s ≢ free → pattern_at frame s < 2 ^ depth_at frame s
 
