@@ -13,6 +13,7 @@ use crate::heads::{header_of, version_of};
 use crate::records::RecordRule;
 use image_layout::state::{self, FIRST_VERSION};
 use image_layout::{Geometry, HEADER, LINK, ROOT_WORD, STATE_WORD};
+use segment_head::link::links_within;
 use segment_head::word::{FREE, LAST_STATE, depth_of, pattern_of, state_of};
 
 /// Whether a header word is in its range.
@@ -37,7 +38,7 @@ fn link_in_range(geometry: &Geometry, words: &[u64], s: u64) -> bool
 {
     let at = geometry.head_at(s) as usize;
     state_of(words[at + HEADER as usize]) == FREE
-        || words[at + LINK as usize] <= geometry.segments()
+        || links_within(geometry.segments(), words[at + LINK as usize])
 }
 
 /// The least word at which rule 1 is broken: a number of the image or of a header is out of its range.

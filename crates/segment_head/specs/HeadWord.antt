@@ -1,5 +1,5 @@
 -- The fields of the header word of a segment.
-use Rattle.std.specs.Prelude.{◌≡◌, ◌⊎◌, ℕ, zero, suc, Bool, Option, None, Some, ◌==◌, ◌||◌, ◌+◌, ◌*◌, ◌/◌, ◌%◌, ◌^◌}
+use Rattle.std.specs.Prelude.{◌≡◌, ◌⊎◌, ℕ, zero, suc, Bool, Option, None, Some, ◌==◌, ◌||◌, ◌+◌, ◌*◌, ◌/◌, ◌%◌, ◌^◌, ◌≤◌}
 use Rattle.hash_word.specs.Hash.{version_bits}
 pub use Rattle.hash_word.specs.Hash.{version_in}
 
@@ -75,6 +75,10 @@ link_to slot = suc slot
 -- and where it links none
 abbrev pub no_link : ℕ
 no_link = 0
+
+-- a link names one of so many slots, or none
+abbrev pub LinksWithin : (slots link : ℕ) → Type 0
+LinksWithin slots link = link ≤ slots
 
 -- and the slot that a link names, where it names one
 abbrev pub linked_in : ℕ → Option ℕ

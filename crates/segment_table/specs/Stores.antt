@@ -2,7 +2,7 @@
 use Rattle.std.specs.Prelude.{◌≡◌, ◌≢◌, ℕ, ◌+◌, ◌/◌, ◌^◌, ◌<◌, ◌≤◌, ◌⊎◌}
 use Rattle.trace.specs.Events.{with_word}
 use Rattle.hash_word.specs.Hash.{index_of}
-use Rattle.segment_head.specs.HeadWord.{version_in, state_in, depth_in, pattern_in, free, normal, splitting, fresh, link_to, no_link}
+use Rattle.segment_head.specs.HeadWord.{version_in, state_in, depth_in, pattern_in, free, normal, splitting, fresh, link_to, no_link, LinksWithin}
 use Rattle.segment_head.specs.Prefixes.{pattern_of_zero_side, pattern_of_one_side}
 use Rattle.sound_image.specs.Places.{Shape, root_word, state_word, entry_at, header_word, link_word}
 use Rattle.sound_image.specs.StateWord.{first_version}
@@ -59,7 +59,7 @@ module _ (frame : Frame) where
   pub record Links (s l : ℕ) : Type 0 where
     pub slot : s < frame.segments
     pub not_splitting : state_at frame s ≢ splitting
-    pub in_range : l ≤ frame.segments
+    pub in_range : LinksWithin frame.segments l
 
   -- NORMAL TO SPLITTING: whatever its link names, no live segment lies in its region, so no side is ready
   pub record BeginsSplit (s x : ℕ) : Type 0 where

@@ -2,7 +2,7 @@
 use Rattle.std.specs.Prelude.{◌≡◌, ◌≢◌, ℕ, ◌^◌, ◌<◌, ◌≤◌, ◌⊎◌}
 use Rattle.hash_word.specs.Hash.{index_of, first_hash_of}
 use Rattle.image_layout.specs.StateWord.{first_version}
-use Rattle.segment_head.specs.HeadWord.{version_in, free, last_state}
+use Rattle.segment_head.specs.HeadWord.{version_in, free, last_state, LinksWithin}
 use Rattle.sound_image.specs.Segments.{Frame, image_version, state_at, depth_at, pattern_at, IsLive, CoversHash, IsLiveFor, Owns, InOneSide, HasReadySide, LeadsToOwner}
 
 module _ (frame : Frame) where
@@ -22,7 +22,7 @@ module _ (frame : Frame) where
 
   -- the side link of a segment that is not free names a slot, or nothing
   abbrev pub LinkInRange : ℕ → Type 0
-  LinkInRange s = state_at frame s ≢ free → frame.link s ≤ frame.segments
+  LinkInRange s = state_at frame s ≢ free → LinksWithin frame.segments (frame.link s)
 
   -- ONE OWNER FOR EACH HASH, beside segments that are splitting it off
   -- each hash at place i of the directory has an owner: some live segment covers it

@@ -4,7 +4,7 @@ use Rattle.std.specs.Prelude.{◌≡◌, ◌≢◌, ℕ, suc, ◌+◌, ◌/◌, 
 use Rattle.trace.specs.Events.{Words}
 use Rattle.hash_word.specs.Hash.{Covers, IsUnderPrefix}
 use Rattle.bucket_meta.specs.Bucket.{mark_place, rest_place, lock_bit, record_slots, allocated, member}
-use Rattle.segment_head.specs.HeadWord.{version_in, state_in, depth_in, pattern_in, free, fresh, normal, splitting, HasLiveState, link_to, no_link}
+use Rattle.segment_head.specs.HeadWord.{version_in, state_in, depth_in, pattern_in, free, fresh, normal, splitting, HasLiveState, link_to, no_link, LinksWithin}
 use Rattle.image_layout.specs.Places.{Shape, block, root_word, entry_at, bucket_at, key_at, value_at, homes, buckets}
 use Rattle.segment_head.specs.Prefixes.{pattern_of_zero_side}
 use Rattle.segment_head.specs.SplitHeads.{side_depth_in, side_pattern_in}
@@ -62,9 +62,9 @@ module _ (shape : Shape) (v : View) where
 pub record MayFill (site : Ground) (v : View) : Type 0 where
   pub word : (n i x head : ℕ) → IsSettledHolder site.shape v → HasOwnSlot site.shape v n head → IsPlainInSlot site.shape n i → (IsLockWord site.shape i → lock_bit x ≡ 0)
       → MayAt site (sets i x) v
-  pub side_link : (n l head : ℕ) → IsSettledHolder site.shape v → HasOwnSlot site.shape v n head → l ≤ site.shape.segments → MayAt site (sets (link_word site.shape n) l) v
+  pub side_link : (n l head : ℕ) → IsSettledHolder site.shape v → HasOwnSlot site.shape v n head → LinksWithin site.shape.segments l → MayAt site (sets (link_word site.shape n) l) v
   pub link : (s l head : ℕ) → IsSettledHolder site.shape v → s < site.shape.segments → Has (Segment s) v.areas → (Has (Side s) v.areas → ⊥) → KnowsWord v (header_word site.shape s) head → state_in head ≢ splitting
-      → l ≤ site.shape.segments → MayAt site (sets (link_word site.shape s) l) v
+      → LinksWithin site.shape.segments l → MayAt site (sets (link_word site.shape s) l) v
 
 -- ---- headers
 -- a header of a state, with depth, pattern and version as given
