@@ -6,7 +6,7 @@
 #![tactic(auto)]
 
 ghost use Rattle.std.specs.Prelude.{◌≡◌, ◌<◌, ◌≤◌, ◌^◌, ◌↔◌, IsTrue};
-ghost use Rattle.hash_word.specs.Hash.{hash_bits, homes, hash_of, home_of, probing_of, next_of, previous_of, finger_of, version_in, index_of, Covers};
+ghost use Rattle.hash_word.specs.Hash.{hash_bits, homes, most_depth, hash_of, home_of, probing_of, next_of, previous_of, finger_of, version_in, index_of, first_hash_of, Covers};
 
 /// How many bits a hash has.
 pub const HASH_BITS: u8 = 64;
@@ -110,6 +110,19 @@ pub fn dir_index(h: u64, g: u8) -> u64
     ensures { result ≡ index_of g h }
 {
     if g == 0 { 0 } else { h >> (HASH_BITS - g) }
+}
+
+/// The first hash at place `i`, below 2^g, of a directory of depth `g`.
+pub fn first_hash_of(g: u64, i: u64) -> u64
+    requires depth { g ≤ most_depth }
+    requires place { i < 2 ^ g }
+    ensures { result ≡ first_hash_of g i }
+{
+    if g == 0 {
+        0
+    } else {
+        i << (HASH_BITS as u64 - g)
+    }
 }
 
 /// Whether a segment of this depth, from 0 to 64, and pattern covers the hash.

@@ -1,7 +1,6 @@
 //! Rule 3: each entry of the directory leads to the owner of its hashes.
 
 ghost use Rattle.std.specs.Prelude.{◌≡◌, ℕ, ◌+◌, ◌^◌, ◌<◌, ◌≤◌, ◌↔◌, IfSome, IfNone, IsTrue, length, slice_index};
-ghost use Rattle.hash_word.specs.Hash.{first_hash_of};
 ghost use Rattle.image_layout.specs.Places.{words_of, root_word, most_depth};
 ghost use Rattle.sound_image.specs.Segments.{frame_of, LeadsToOwner};
 ghost use Rattle.sound_image.specs.Directory.{EntryLeads};
@@ -11,12 +10,9 @@ ghost use Rattle.image_rules.specs.Divided.{IsNumbered, IsDivided};
 ghost use Rattle.image_rules.specs.Steps.{IsStep};
 
 use crate::heads::{is_live, prefix_of, ready_side};
-use hash_word::covers;
+use hash_word::{covers, first_hash_of};
 use image_layout::{Geometry, ROOT_WORD, power_of_two};
 use segment_head::prefix::in_one_side;
-
-/// How many bits a hash has.
-const HASH_BITS: u64 = hash_word::HASH_BITS as u64;
 
 /// Where a hash is looked for after a segment.
 #[derive(Clone, Copy)]
@@ -70,19 +66,6 @@ fn leads(geometry: &Geometry, words: &[u64], hash: u64, start: u64) -> bool
     }
 }
 
-/// The first hash of entry `i` of a directory of depth `root`.
-fn first_hash(root: u64, i: u64) -> u64
-    requires root { root ≤ most_depth }
-    requires entry { i < 2 ^ root }
-    ensures { result ≡ first_hash_of root i }
-{
-    if root == 0 {
-        0
-    } else {
-        i << (HASH_BITS - root)
-    }
-}
-
 /// The depth of the directory.
 fn root_of(geometry: &Geometry, words: &[u64]) -> u64
     requires whole { length words.now ≡ words_of geometry.now }
@@ -104,7 +87,7 @@ fn entry_leads(geometry: &Geometry, words: &[u64], i: u64) -> bool
 {
     let root = root_of(geometry, words);
     let entry = words[geometry.entry_at(root, i) as usize];
-    leads(geometry, words, first_hash(root, i), entry)
+    leads(geometry, words, first_hash_of(root, i), entry)
 }
 
 /// The least word at which rule 3 is broken: an entry of the directory does not lead to the owner of its hashes.
