@@ -1,8 +1,8 @@
 //! How facts are learned, and what they depend on. The functions do nothing: each stands for the law that its contract says.
 
-ghost use Rattle.std.specs.Prelude.{◌≡◌, ℕ, ◌+◌, ◌/◌, ◌^◌, ◌<◌, ◌≤◌};
+ghost use Rattle.std.specs.Prelude.{◌≡◌, ℕ, ◌+◌, ◌^◌, ◌<◌, ◌≤◌};
 ghost use Rattle.trace.specs.Events.{Words, with_word};
-ghost use Rattle.hash_word.specs.Hash.{hash_bits};
+ghost use Rattle.hash_word.specs.Hash.{hash_bits, place_over};
 ghost use Rattle.segment_head.specs.HeadWord.{HasLiveState, version_in, normal};
 ghost use Rattle.segment_head.specs.Prefixes.{pattern_of_one_side};
 ghost use Rattle.image_layout.specs.Places.{Shape, IsShape, root_word, entry_at, header_word};
@@ -60,14 +60,14 @@ pub fn live_sides_tell()
 /// What is so of a region is so of each part of it, whose pattern has some bits more; and what entries of all its parts name is as deep
 /// as each of them says.
 pub fn regions_have_parts()
-    ensures owns { (shape : Shape) (version : ℕ) (words medium : Words) (s d k p q : ℕ) → d + k ≤ hash_bits → q / 2 ^ k ≡ p
+    ensures owns { (shape : Shape) (version : ℕ) (words medium : Words) (s d k p q : ℕ) → d + k ≤ hash_bits → place_over k q ≡ p
         → HoldsFact shape version words (Owns s d p) medium → HoldsFact shape version words (Owns s (d + k) q) medium }
-    ensures lacks { (shape : Shape) (version : ℕ) (words medium : Words) (s d k p q : ℕ) → d + k ≤ hash_bits → q / 2 ^ k ≡ p
+    ensures lacks { (shape : Shape) (version : ℕ) (words medium : Words) (s d k p q : ℕ) → d + k ≤ hash_bits → place_over k q ≡ p
         → HoldsFact shape version words (Lacks s d p) medium → HoldsFact shape version words (Lacks s (d + k) q) medium }
-    ensures deep { (shape : Shape) (version : ℕ) (words medium : Words) (f d k p q : ℕ) → d + k ≤ hash_bits → q / 2 ^ k ≡ p
+    ensures deep { (shape : Shape) (version : ℕ) (words medium : Words) (f d k p q : ℕ) → d + k ≤ hash_bits → place_over k q ≡ p
         → HoldsFact shape version words (Deep f d p) medium → HoldsFact shape version words (Deep f (d + k) q) medium }
     ensures joined { (shape : Shape) (version : ℕ) (words medium : Words) (f d k p : ℕ) → d + k ≤ hash_bits
-        → ((q : ℕ) → q < 2 ^ (d + k) → q / 2 ^ k ≡ p → HoldsFact shape version words (Deep f (d + k) q) medium) → HoldsFact shape version words (Deep f d p) medium }
+        → ((q : ℕ) → q < 2 ^ (d + k) → place_over k q ≡ p → HoldsFact shape version words (Deep f (d + k) q) medium) → HoldsFact shape version words (Deep f d p) medium }
 {}
 
 /// The root tells that what its area's entries name lives, if what lives now lives in the medium; such an entry tells a live segment, and
@@ -102,7 +102,7 @@ pub fn facts_allow_stores()
         → HoldsFact shape version words
         (Deep (depth_at (frame_of shape medium) s) (depth_at (frame_of shape medium) s + 1) (pattern_of_one_side (pattern_at (frame_of shape medium) s))) medium
         → EntriesAreDeep (frame_of shape medium) s }
-    ensures claimer { (shape : Shape) (version : ℕ) (words medium : Words) (n d k p i : ℕ) → medium root_word ≡ d + k → d + k ≤ hash_bits → i < 2 ^ medium root_word → i / 2 ^ k ≡ p
+    ensures claimer { (shape : Shape) (version : ℕ) (words medium : Words) (n d k p i : ℕ) → medium root_word ≡ d + k → d + k ≤ hash_bits → i < 2 ^ medium root_word → place_over k i ≡ p
         → HoldsFact shape version words (Owns n d p) medium → NamesClaimer (frame_of shape medium) i n }
     ensures side { (shape : Shape) (version : ℕ) (words medium : Words) → IsShape shape → HasSoundFrame shape medium → (s n i b : ℕ)
         → IsReadySide (frame_of shape medium) s n → s < shape.segments → i < 2 ^ medium root_word → IsSideEntry (frame_of shape medium) s i

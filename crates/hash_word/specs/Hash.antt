@@ -56,9 +56,13 @@ hash_bits = 64
 abbrev pub top : ℕ → ℕ → ℕ
 top d h = h / 2 ^ (hash_bits - d)
 
--- the first of the hashes whose top bits, as many as the depth, are this number
+-- a prefix is a depth and a pattern. The first place under it in a directory of depth g; the first one under the next pattern of its depth is behind them all
+abbrev pub first_under : (g depth pattern : ℕ) → ℕ
+first_under g depth pattern = pattern * 2 ^ (g - depth)
+
+-- the first of the hashes whose top bits, as many as the depth, are this number: hashes are the places of a directory that is as deep as they have bits
 abbrev pub first_hash_of : ℕ → ℕ → ℕ
-first_hash_of depth number = number * 2 ^ (hash_bits - depth)
+first_hash_of depth number = first_under hash_bits depth number
 
 -- the greatest depth that a directory may have
 abbrev pub most_depth : ℕ
@@ -80,6 +84,10 @@ index_of g h = top g h
 abbrev pub Covers : ℕ → ℕ → ℕ → Type 0
 Covers depth pattern h = top depth h ≡ pattern
 
+-- the place over place i that is so many depths less deep
+abbrev pub place_over : (depths i : ℕ) → ℕ
+place_over depths i = i / 2 ^ depths
+
 -- entry i of a directory of depth g lies under a prefix: the hashes whose entry it is have the pattern as their top bits, as many as the depth
 abbrev pub IsUnderPrefix : (g depth pattern i : ℕ) → Type 0
-IsUnderPrefix g depth pattern i = i / 2 ^ (g - depth) ≡ pattern
+IsUnderPrefix g depth pattern i = place_over (g - depth) i ≡ pattern

@@ -1,15 +1,15 @@
 -- The hashes of an image by leaves: the leaves are the places of a directory of the greatest depth, and segments cover
 -- whole leaves, since none is deeper.
-use Rattle.std.specs.Prelude.{◌≡◌, ℕ, ◌+◌, ◌-◌, ◌*◌, ◌^◌, ◌<◌, ◌≤◌, List, slice_index}
-use Rattle.hash_word.specs.Hash.{index_of}
+use Rattle.std.specs.Prelude.{◌≡◌, ℕ, ◌+◌, ◌^◌, ◌<◌, ◌≤◌, List, slice_index}
+use Rattle.hash_word.specs.Hash.{index_of, first_under}
 use Rattle.sound_image.specs.Segments.{Frame, depth_at, pattern_at, IsLive, IsLiveFor}
 use Rattle.sound_image.specs.Directory.{SharesWell}
 use Rattle.segment_head.specs.declared.prefix.Prefix.{Prefix}
 
 -- the leaf is under a prefix: its hashes begin with it
 pub record IsUnder (greatest : ℕ) (prefix : Prefix) (leaf : ℕ) : Type 0 where
-  pub from : prefix.pattern * 2 ^ (greatest - prefix.depth) ≤ leaf
-  pub to : leaf < (prefix.pattern + 1) * 2 ^ (greatest - prefix.depth)
+  pub from : first_under greatest prefix.depth prefix.pattern ≤ leaf
+  pub to : leaf < first_under greatest prefix.depth (prefix.pattern + 1)
 
 -- the leaves under a prefix are raised to a number at least, and the others are as before
 pub record AreRaised (greatest : ℕ) (prefix : Prefix) (n : ℕ) (old new : List ℕ) : Type 0 where

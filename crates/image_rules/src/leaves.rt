@@ -2,7 +2,8 @@
 //! No segment is deeper than the greatest depth of the image, so each covers whole leaves: places of a directory of that
 //! depth. One pass over the segments finds the depth of the deepest one over each leaf, and with it who owns what.
 
-ghost use Rattle.std.specs.Prelude.{◌≡◌, ◌≢◌, ℕ, ◌+◌, ◌-◌, ◌*◌, ◌/◌, ◌^◌, ◌<◌, ◌≤◌, ◌↔◌, IfOk, IfSome, IfNone, IsTrue, length, slice_index, slice_set};
+ghost use Rattle.std.specs.Prelude.{◌≡◌, ◌≢◌, ℕ, ◌+◌, ◌-◌, ◌^◌, ◌<◌, ◌≤◌, ◌↔◌, IfOk, IfSome, IfNone, IsTrue, length, slice_index, slice_set};
+ghost use Rattle.hash_word.specs.Hash.{first_under, place_over};
 ghost use Rattle.image_layout.specs.Places.{words_of, root_word, entry_at, most_depth};
 ghost use Rattle.sound_image.specs.Segments.{frame_of, IsLive};
 ghost use Rattle.sound_image.specs.Directory.{OwnsItsPart, SharesWell};
@@ -22,7 +23,7 @@ fn first_leaf(greatest: u8, depth: u8, pattern: usize) -> usize
     requires greatest { greatest ≤ most_depth }
     requires depth { depth ≤ greatest }
     requires pattern { pattern ≤ 2 ^ depth }
-    ensures is { result ≡ pattern * 2 ^ (greatest - depth) }
+    ensures is { result ≡ first_under greatest depth pattern }
     ensures most { result ≤ 2 ^ greatest }
 {
     pattern * power_of_two((greatest - depth) as u64) as usize
@@ -248,7 +249,7 @@ fn entry_over(geometry: &Geometry, words: &[u64], leaf: usize) -> u64
     requires whole { length words.now ≡ words_of geometry.now }
     requires numbered { IsNumbered geometry.now (slice_index words.now) }
     requires leaf { leaf < 2 ^ geometry.now.depth }
-    ensures { result ≡ entry_at (slice_index words.now root_word) (leaf / 2 ^ (geometry.now.depth - slice_index words.now root_word)) }
+    ensures { result ≡ entry_at (slice_index words.now root_word) (place_over (geometry.now.depth - slice_index words.now root_word) leaf) }
 {
     let root = words[ROOT_WORD as usize];
     geometry.entry_at(root, leaf as u64 >> (geometry.depth() - root))

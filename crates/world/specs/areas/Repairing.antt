@@ -1,8 +1,8 @@
 -- What the holder of a stale segment has to know to repair it: to take back a split that had no ready side, to direct the entries of a ready
 -- side to it, to clear records and end that split, and to mend what is left and give the segment the image's version.
-use Rattle.std.specs.Prelude.{◌≡◌, ◌≢◌, ℕ, suc, ◌+◌, ◌-◌, ◌/◌, ◌^◌, ◌<◌, ◌≤◌, ◌⊎◌, Bool, true, false, [], ◌∷◌}
+use Rattle.std.specs.Prelude.{◌≡◌, ◌≢◌, ℕ, suc, ◌+◌, ◌^◌, ◌<◌, ◌≤◌, ◌⊎◌, Bool, true, false, [], ◌∷◌}
 use Rattle.trace.specs.Events.{Words}
-use Rattle.hash_word.specs.Hash.{first_hash_of, Covers}
+use Rattle.hash_word.specs.Hash.{first_hash_of, Covers, IsUnderPrefix}
 use Rattle.bucket_meta.specs.Bucket.{mark_place, fingers_place, rest_place, lock_bit, record_slots, allocated, member}
 use Rattle.segment_head.specs.HeadWord.{version_in, state_in, depth_in, pattern_in, free, fresh, normal, splitting, link_to, no_link}
 use Rattle.segment_head.specs.Prefixes.{pattern_of_zero_side, pattern_of_one_side}
@@ -83,7 +83,7 @@ pub record HasReadySideOf (site : Ground) (v : View) (s n g : ℕ) (word : Words
 pub record IsEntryOfSide (g depth pattern i : ℕ) : Type 0 where
   pub deep : depth < g
   pub index : i < 2 ^ g
-  pub inside : i / 2 ^ (g - suc depth) ≡ pattern_of_one_side pattern
+  pub inside : IsUnderPrefix g (suc depth) (pattern_of_one_side pattern) i
 
 pub record MayRedirect (site : Ground) (v : View) : Type 0 where
   -- the root is deeper than the segment
