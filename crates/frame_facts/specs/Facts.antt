@@ -1,11 +1,10 @@
 -- What a caller may rely on of the structure, beside the words that it holds: facts that each store of other callers leaves true.
-use Rattle.std.specs.Prelude.{◌≡◌, ◌≢◌, ℕ, ◌+◌, ◌^◌, ◌<◌, ◌≤◌, ◌⊎◌}
+use Rattle.std.specs.Prelude.{◌≡◌, ◌≢◌, ℕ, ◌^◌, ◌<◌, ◌≤◌, ◌⊎◌}
 use Rattle.trace.specs.Events.{Words}
 use Rattle.hash_word.specs.Hash.{Covers}
 use Rattle.segment_head.specs.HeadWord.{version_in, free, splitting, fresh, link_to}
-use Rattle.segment_head.specs.Prefixes.{pattern_of_one_side}
 use Rattle.image_layout.specs.Places.{Shape, root_word, entry_at}
-use Rattle.bucket_words.specs.Segments.{Frame, frame_of, state_at, depth_at, pattern_at, IsLive}
+use Rattle.bucket_words.specs.Segments.{Frame, frame_of, state_at, depth_at, pattern_at, side_depth_at, side_pattern_at, IsLive}
 use Rattle.bucket_words.specs.Claims.{ClaimsAll, ClaimsNone, named_for}
 use Rattle.bucket_words.specs.Media.{first_hash}
 
@@ -49,8 +48,8 @@ module _ (frame : Frame) where
     pub linked : frame.link s ≡ link_to n
     pub side_slot : n < frame.segments
     pub new : state_at frame n ≡ fresh
-    pub depth : depth_at frame n ≡ depth_at frame s + 1
-    pub pattern : pattern_at frame n ≡ pattern_of_one_side (pattern_at frame s)
+    pub depth : depth_at frame n ≡ side_depth_at frame s
+    pub pattern : pattern_at frame n ≡ side_pattern_at frame s
 
   -- slot n is taken for good
   abbrev pub IsUsedSlot : ℕ → ℕ → Type 0

@@ -4,9 +4,8 @@ ghost use Rattle.std.specs.Prelude.{◌≡◌, ℕ, ◌+◌, ◌^◌, ◌<◌, �
 ghost use Rattle.trace.specs.Events.{Words, with_word};
 ghost use Rattle.hash_word.specs.Hash.{hash_bits, place_over};
 ghost use Rattle.segment_head.specs.HeadWord.{HasLiveState, version_in, normal};
-ghost use Rattle.segment_head.specs.Prefixes.{pattern_of_one_side};
 ghost use Rattle.image_layout.specs.Places.{Shape, IsShape, root_word, entry_at, header_word};
-ghost use Rattle.bucket_words.specs.Segments.{frame_of, state_at, depth_at, pattern_at, IsReadySide, HasReadySide};
+ghost use Rattle.bucket_words.specs.Segments.{frame_of, state_at, depth_at, pattern_at, side_depth_at, side_pattern_at, IsReadySide, HasReadySide};
 ghost use Rattle.bucket_words.specs.Claims.{IsSideEntry, HasSoundFrame};
 ghost use Rattle.bucket_words.specs.Media.{first_hash, IsSteady};
 ghost use Rattle.bucket_words.specs.Stores.{EntriesAreDeep, GoesLive, NamesClaimer, NamesSide};
@@ -37,23 +36,23 @@ pub fn sides_tell()
     ensures normal { (shape : Shape) (version : ℕ) (words medium : Words) (s : ℕ) → s < shape.segments → state_at (frame_of shape medium) s ≡ normal
         → HoldsFact shape version words (Owns s (depth_at (frame_of shape medium) s) (pattern_at (frame_of shape medium) s)) medium }
     ensures ready { (shape : Shape) (version : ℕ) (words medium : Words) (s : ℕ) → IsLiveSlot (frame_of shape medium) s → HasReadySide (frame_of shape medium) s
-        → HoldsFact shape version words (Lacks s (depth_at (frame_of shape medium) s + 1) (pattern_of_one_side (pattern_at (frame_of shape medium) s))) medium }
+        → HoldsFact shape version words (Lacks s (side_depth_at (frame_of shape medium) s) (side_pattern_at (frame_of shape medium) s)) medium }
     ensures unready_now { (shape : Shape) (version : ℕ) (words medium : Words) → AreSound shape words medium → IsSteady (frame_of shape medium) (frame_of shape words)
         → (s : ℕ) → IsLiveSlot (frame_of shape medium) s → IsSettled shape words medium s → (HasReadySide (frame_of shape words) s → ⊥)
         → HoldsFact shape version words (Owns s (depth_at (frame_of shape medium) s) (pattern_at (frame_of shape medium) s)) medium }
     ensures ready_now { (shape : Shape) (version : ℕ) (words medium : Words) → AreSound shape words medium → IsSteady (frame_of shape medium) (frame_of shape words)
         → (s n : ℕ) → IsLiveSlot (frame_of shape medium) s → IsSettled shape words medium s → IsReadySide (frame_of shape words) s n
         → HoldsFact shape version words (Lives n) medium
-        → HoldsFact shape version words (Lacks s (depth_at (frame_of shape medium) s + 1) (pattern_of_one_side (pattern_at (frame_of shape medium) s))) medium }
+        → HoldsFact shape version words (Lacks s (side_depth_at (frame_of shape medium) s) (side_pattern_at (frame_of shape medium) s)) medium }
 {}
 
 /// When a side goes live, it owns the 1-side, and its segment lacks it.
 pub fn live_sides_tell()
     ensures owns { (shape : Shape) (version : ℕ) (words medium : Words) → IsShape shape → HasSoundFrame shape medium → (s n x : ℕ) → GoesLive (frame_of shape medium) s n x
-        → HoldsFact shape version words (Owns n (depth_at (frame_of shape medium) s + 1) (pattern_of_one_side (pattern_at (frame_of shape medium) s)))
+        → HoldsFact shape version words (Owns n (side_depth_at (frame_of shape medium) s) (side_pattern_at (frame_of shape medium) s))
         (with_word medium (header_word shape n) x) }
     ensures lacks { (shape : Shape) (version : ℕ) (words medium : Words) → IsShape shape → HasSoundFrame shape medium → (s n x : ℕ) → GoesLive (frame_of shape medium) s n x
-        → HoldsFact shape version words (Lacks s (depth_at (frame_of shape medium) s + 1) (pattern_of_one_side (pattern_at (frame_of shape medium) s)))
+        → HoldsFact shape version words (Lacks s (side_depth_at (frame_of shape medium) s) (side_pattern_at (frame_of shape medium) s))
         (with_word medium (header_word shape n) x) }
 {}
 
@@ -92,15 +91,15 @@ pub fn entries_tell()
 /// begins no later than the one that is repaired.
 pub fn facts_allow_stores()
     ensures ready { (shape : Shape) (version : ℕ) (words medium : Words) → IsShape shape → HasSoundFrame shape medium → (s : ℕ)
-        → HoldsFact shape version words (Lacks s (depth_at (frame_of shape medium) s + 1) (pattern_of_one_side (pattern_at (frame_of shape medium) s))) medium
+        → HoldsFact shape version words (Lacks s (side_depth_at (frame_of shape medium) s) (side_pattern_at (frame_of shape medium) s)) medium
         → HasReadySide (frame_of shape medium) s }
     ensures unready { (shape : Shape) (version : ℕ) (words medium : Words) → IsShape shape → HasSoundFrame shape medium → (s : ℕ)
         → IsLiveSlot (frame_of shape medium) s
-        → HoldsFact shape version words (Owns s (depth_at (frame_of shape medium) s + 1) (pattern_of_one_side (pattern_at (frame_of shape medium) s))) medium
+        → HoldsFact shape version words (Owns s (side_depth_at (frame_of shape medium) s) (side_pattern_at (frame_of shape medium) s)) medium
         → HasReadySide (frame_of shape medium) s → ⊥ }
     ensures deep { (shape : Shape) (version : ℕ) (words medium : Words) (s : ℕ)
         → HoldsFact shape version words
-        (Deep (depth_at (frame_of shape medium) s) (depth_at (frame_of shape medium) s + 1) (pattern_of_one_side (pattern_at (frame_of shape medium) s))) medium
+        (Deep (depth_at (frame_of shape medium) s) (side_depth_at (frame_of shape medium) s) (side_pattern_at (frame_of shape medium) s)) medium
         → EntriesAreDeep (frame_of shape medium) s }
     ensures claimer { (shape : Shape) (version : ℕ) (words medium : Words) (n d k p i : ℕ) → medium root_word ≡ d + k → d + k ≤ hash_bits → i < 2 ^ medium root_word → place_over k i ≡ p
         → HoldsFact shape version words (Owns n d p) medium → NamesClaimer (frame_of shape medium) i n }

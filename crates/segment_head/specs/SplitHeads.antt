@@ -1,10 +1,10 @@
 -- What a split makes of a header word: its 1-side, and the segment itself, which is the 0-side behind it.
-use Rattle.std.specs.Prelude.{ℕ, suc, min, ◌+◌, ◌%◌, ◌^◌}
+use Rattle.std.specs.Prelude.{ℕ, suc, min, ◌%◌, ◌^◌}
 use Rattle.hash_word.specs.Hash.{hash_bits}
 use Rattle.segment_head.specs.HeadWord.{depth_bits, pattern_bits, version_in, depth_in, pattern_in, header_of, normal}
-use Rattle.segment_head.specs.Prefixes.{pattern_of_zero_side, pattern_of_one_side}
+use Rattle.segment_head.specs.Prefixes.{depth_of_sides, pattern_of_zero_side, pattern_of_one_side}
 
--- the depth of the 1-side of a segment with this header, and its pattern
+-- the depth of the 1-side of a segment with this header, as the successor of its own, and its pattern
 abbrev pub side_depth_in : ℕ → ℕ
 side_depth_in head = suc (depth_in head)
 
@@ -17,7 +17,7 @@ side_depth head = min (side_depth_in head) hash_bits
 
 -- what a header word has of them, whatever the header is: both sides have the same depth, of 8 bits, and the 0-side and the 1-side a pattern of 32
 abbrev pub side_depth_field : ℕ → ℕ
-side_depth_field head = (depth_in head + 1) % 2 ^ depth_bits
+side_depth_field head = depth_of_sides (depth_in head) % 2 ^ depth_bits
 
 abbrev pub zero_pattern_field : ℕ → ℕ
 zero_pattern_field head = pattern_of_zero_side (pattern_in head) % 2 ^ pattern_bits

@@ -1,9 +1,9 @@
 //! Which hashes a segment covers, as a depth and a pattern.
 
 ghost use Rattle.std.specs.Prelude.{◌≡◌, ◌+◌, ◌^◌, ◌<◌, ◌≤◌, ◌↔◌, IsTrue};
-ghost use Rattle.hash_word.specs.Hash.{most_depth, Covers};
+ghost use Rattle.hash_word.specs.Hash.{most_depth};
 ghost use Rattle.segment_head.specs.HeadWord.{depth_in, pattern_in};
-ghost use Rattle.segment_head.specs.Prefixes.{IsSidePrefix, pattern_of_zero_side, pattern_of_one_side};
+ghost use Rattle.segment_head.specs.Prefixes.{IsSidePrefix, IsOfOneSide, pattern_of_zero_side, pattern_of_one_side};
 
 use crate::word::{depth_of, pattern_of};
 use hash_word::covers;
@@ -57,7 +57,7 @@ pub fn is_side(whole: Prefix, side: Prefix) -> bool
 pub fn in_one_side(prefix: Prefix, hash: u64) -> bool
     requires depth { prefix.depth ≤ most_depth }
     requires pattern { prefix.pattern < 2 ^ prefix.depth }
-    ensures { IsTrue result ↔ Covers (prefix.depth + 1) (pattern_of_one_side prefix.pattern) hash }
+    ensures { IsTrue result ↔ IsOfOneSide prefix.depth prefix.pattern hash }
 {
     covers(
         prefix.depth + 1,

@@ -1,10 +1,10 @@
 -- Who claims a hash, and the rules about headers, links and the directory in a form that says so: each hash has one
 -- claimer, and its directory entry leads there.
-use Rattle.std.specs.Prelude.{◌≡◌, ℕ, ◌+◌, ◌-◌, ◌*◌, ◌^◌, ◌<◌, ◌≤◌}
+use Rattle.std.specs.Prelude.{◌≡◌, ℕ, ◌+◌, ◌*◌, ◌^◌, ◌<◌, ◌≤◌}
 use Rattle.hash_word.specs.Hash.{Covers, index_of}
-use Rattle.segment_head.specs.Prefixes.{pattern_of_zero_side, pattern_of_one_side, one_side_down_to}
+use Rattle.segment_head.specs.Prefixes.{run_of_sides, one_side_down_to}
 use Rattle.sound_image.specs.Places.{Shape}
-use Rattle.sound_image.specs.Segments.{ImageWords, Frame, frame_of, depth_at, pattern_at, IsLive, IsLiveFor, InOneSide, IsReadySide, HasReadySide}
+use Rattle.sound_image.specs.Segments.{ImageWords, Frame, frame_of, depth_at, pattern_at, side_depth_at, side_pattern_at, IsLive, IsLiveFor, InOneSide, IsReadySide, HasReadySide}
 use Rattle.sound_image.specs.Directory.{RootInRange, VersionInRange, HeadInRange, LinkInRange, VersionIsPast}
 use Rattle.sound_image.specs.Rules.{NumbersFit, HashesAreOwned, EntriesLead, VersionsArePast}
 
@@ -27,19 +27,19 @@ ClaimsNone frame s depth pattern = (h : ℕ) → h < 2 ^ 64 → Covers depth pat
 
 -- it claims no hash of its 1-side, or each
 abbrev pub ClaimsNoOneSide : Frame → ℕ → Type 0
-ClaimsNoOneSide frame s = ClaimsNone frame s (depth_at frame s + 1) (pattern_of_one_side (pattern_at frame s))
+ClaimsNoOneSide frame s = ClaimsNone frame s (side_depth_at frame s) (side_pattern_at frame s)
 
 abbrev pub ClaimsOneSide : Frame → ℕ → Type 0
-ClaimsOneSide frame s = ClaimsAll frame s (depth_at frame s + 1) (pattern_of_one_side (pattern_at frame s))
+ClaimsOneSide frame s = ClaimsAll frame s (side_depth_at frame s) (side_pattern_at frame s)
 
 -- the slot that a hash's directory entry names
 abbrev pub named_for : Frame → ℕ → ℕ
 named_for frame h = frame.entry (index_of frame.root h)
 
--- entry i is one of the 1-side of a segment that is less deep than the root: the pattern behind those of both sides is two more than that of the 0-side
+-- entry i is one of the 1-side of a segment that is less deep than the root
 pub record IsSideEntry (frame : Frame) (s i : ℕ) : Type 0 where
   pub from : one_side_down_to frame.root (depth_at frame s) (pattern_at frame s) ≤ i
-  pub to : i < (pattern_of_zero_side (pattern_at frame s) + 2) * 2 ^ (frame.root - depth_at frame s - 1)
+  pub to : i < (side_pattern_at frame s + 1) * run_of_sides frame.root (depth_at frame s)
 
 -- A SOUND FRAME: its numbers are in their ranges, no version byte is above the image's, no live segment is deeper than
 -- the root; each hash is claimed by one segment, and its entry leads to it

@@ -3,10 +3,10 @@ use Rattle.std.specs.Prelude.{◌≡◌, ◌≢◌, ℕ, ◌+◌, ◌/◌, ◌^�
 use Rattle.trace.specs.Events.{with_word}
 use Rattle.hash_word.specs.Hash.{index_of}
 use Rattle.segment_head.specs.HeadWord.{version_in, state_in, depth_in, pattern_in, free, normal, splitting, fresh, link_to, no_link, LinksWithin}
-use Rattle.segment_head.specs.Prefixes.{pattern_of_zero_side, pattern_of_one_side}
+use Rattle.segment_head.specs.Prefixes.{pattern_of_zero_side}
 use Rattle.sound_image.specs.Places.{Shape, root_word, state_word, entry_at, header_word, link_word}
 use Rattle.sound_image.specs.StateWord.{first_version}
-use Rattle.sound_image.specs.Segments.{ImageWords, Frame, frame_of, image_version, state_at, depth_at, pattern_at, InOneSide, IsReadySide, HasReadySide}
+use Rattle.sound_image.specs.Segments.{ImageWords, Frame, frame_of, image_version, state_at, depth_at, pattern_at, side_depth_at, side_pattern_at, InOneSide, IsReadySide, HasReadySide}
 use Rattle.segment_table.specs.Claims.{Claims, named_for, IsSoundFrame}
 use Rattle.segment_table.specs.Media.{IsSteady}
 
@@ -77,8 +77,8 @@ module _ (frame : Frame) where
     pub side_slot : n < frame.segments
     pub was : state_at frame n ≡ fresh
     pub becomes : state_in x ≡ normal
-    pub depth : depth_in x ≡ depth_at frame s + 1
-    pub pattern : pattern_in x ≡ pattern_of_one_side (pattern_at frame s)
+    pub depth : depth_in x ≡ side_depth_at frame s
+    pub pattern : pattern_in x ≡ side_pattern_at frame s
     pub shallow : depth_at frame s < frame.root
     pub past : IsPast x
 
@@ -107,7 +107,7 @@ module _ (frame : Frame) where
     pub ready : HasReadySide frame s
     pub deep : EntriesAreDeep s
     pub becomes : state_in x ≡ normal
-    pub depth : depth_in x ≡ depth_at frame s + 1
+    pub depth : depth_in x ≡ side_depth_at frame s
     pub pattern : pattern_in x ≡ pattern_of_zero_side (pattern_at frame s)
     pub past : IsPast x
 

@@ -1,10 +1,10 @@
 -- Live segments, owners and ready sides, read from the headers and the directory of an image.
-use Rattle.std.specs.Prelude.{◌≡◌, ℕ, ◌+◌, ◌<◌, ◌≤◌}
+use Rattle.std.specs.Prelude.{◌≡◌, ℕ, ◌<◌, ◌≤◌}
 use Rattle.hash_word.specs.Hash.{Covers}
 use Rattle.image_layout.specs.Places.{Shape, root_word, state_word, entry_at, header_word, link_word}
 use Rattle.image_layout.specs.StateWord.{version_in, IsMarked}
 use Rattle.segment_head.specs.HeadWord.{state_in, depth_in, pattern_in, splitting, HasLiveState, link_to}
-use Rattle.segment_head.specs.Prefixes.{pattern_of_one_side, one_side_down_to}
+use Rattle.segment_head.specs.Prefixes.{depth_of_sides, pattern_of_one_side, IsOfOneSide, one_side_down_to}
 
 -- the words of an image, by their numbers
 abbrev pub ImageWords : Type 0
@@ -68,8 +68,14 @@ module _ (frame : Frame) where
     pub deepest : (t : ℕ) → IsLiveFor h t → depth_at t ≤ depth_at s
 
   -- the 1-side of a segment is one deeper and has a 1 behind its pattern
+  abbrev pub side_depth_at : ℕ → ℕ
+  side_depth_at s = depth_of_sides (depth_at s)
+
+  abbrev pub side_pattern_at : ℕ → ℕ
+  side_pattern_at s = pattern_of_one_side (pattern_at s)
+
   abbrev pub InOneSide : ℕ → ℕ → Type 0
-  InOneSide s h = Covers (depth_at s + 1) (pattern_of_one_side (pattern_at s)) h
+  InOneSide s h = IsOfOneSide (depth_at s) (pattern_at s) h
 
   -- n is the ready side of s: s is splitting and its link names n; n is live and deeper than s, and its pattern
   -- is that of the 1-side of s, followed by zeros alone

@@ -7,9 +7,6 @@ use Rattle.sound_image.specs.Segments.{Frame, depth_at, pattern_at, InOneSide}
 use Rattle.segment_table.specs.Claims.{IsSideEntry}
 use Rattle.segment_table.proofs.frames.Regions.{fewer}
 
-next_odd : (p : ℕ) → 2 * p + 1 + 1 ≡ 2 * p + 2
-next_odd p = omega arith
-
 next_times : (q m : ℕ) → (q + 1) * m ≡ q * m + m
 next_times q m = grind arith
 
@@ -26,9 +23,6 @@ module _ (frame : Frame) (s h : ℕ) (less : depth_at frame s < frame.root) (mos
   top_is : top (depth_at frame s + 1) h ≡ index_of frame.root h / size
   top_is = fewer (depth_at frame s + 1) (frame.root - depth_at frame s - 1) h (omega (arith, whole, most)) ∙ ap (λ d. top d h / size) whole
 
-  end : (side + 1) * size ≡ (2 * pattern_at frame s + 2) * size
-  end = ap (λ q. q * size) (next_odd (pattern_at frame s))
-
   pub side_entry : InOneSide frame s h ↔ IsSideEntry frame s (index_of frame.root h)
   side_entry = (
     λ inside.
@@ -36,7 +30,7 @@ module _ (frame : Frame) (s h : ℕ) (less : depth_at frame s < frame.root) (mos
         let above : index_of frame.root h < index_of frame.root h / size * size + size = lt-div-mul-add (pow_pos (frame.root - depth_at frame s - 1)) in
         record {
           from = subst (λ q. q * size ≤ index_of frame.root h) is (div-mul-le_self (index_of frame.root h) size);
-          to = subst (λ n. index_of frame.root h < n) (sym (next_times side size) ∙ end) (subst (λ q. index_of frame.root h < q * size + size) is above);
+          to = subst (λ n. index_of frame.root h < n) (sym (next_times side size)) (subst (λ q. index_of frame.root h < q * size + size) is above);
         },
-    λ entry. top_is ∙ div-eq_of_lt-le size entry.from (subst (λ n. index_of frame.root h < n) (sym end) entry.to),
+    λ entry. top_is ∙ div-eq_of_lt-le size entry.from entry.to,
   )

@@ -1,10 +1,9 @@
 -- What the words are for views to have their locks and areas, and that a word has one holder.
-use Rattle.std.specs.Prelude.{◌≡◌, ◌≢◌, ℕ, ◌+◌, ◌<◌, ◌⊎◌, List}
+use Rattle.std.specs.Prelude.{◌≡◌, ◌≢◌, ℕ, ◌<◌, ◌⊎◌, List}
 use Rattle.trace.specs.Events.{Words}
 use Rattle.segment_head.specs.HeadWord.{version_in, free, splitting, HasLiveState}
-use Rattle.segment_head.specs.Prefixes.{pattern_of_one_side}
 use Rattle.image_layout.specs.Places.{Shape, block, root_word, words_of, bucket_at, buckets}
-use Rattle.sound_image.specs.Segments.{Frame, frame_of, state_at, depth_at, pattern_at}
+use Rattle.sound_image.specs.Segments.{Frame, frame_of, state_at, depth_at, pattern_at, side_depth_at, side_pattern_at}
 use Rattle.frame_facts.specs.Claims.{HasSoundFrame}
 use Rattle.frame_facts.specs.Facts.{IsLiveSlot}
 use Rattle.world.specs.Ground.{Ground, IsGround, version_of, IsCurrentIn}
@@ -28,8 +27,8 @@ pub record IsGuardedSide (frame : Frame) (areas : List Area) (n : ℕ) : Type 0 
   pub parent_slot : parent < frame.segments
   pub guarded : Has (Segment parent) areas
   pub splits : state_at frame parent ≡ splitting
-  pub depth : depth_at frame n ≡ depth_at frame parent + 1
-  pub pattern : pattern_at frame n ≡ pattern_of_one_side (pattern_at frame parent)
+  pub depth : depth_at frame n ≡ side_depth_at frame parent
+  pub pattern : pattern_at frame n ≡ side_pattern_at frame parent
 
 module _ (site : Ground) (words : Words) (views : List View) where
   -- the segment of a slot lives in whatever a cut may leave

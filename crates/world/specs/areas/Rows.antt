@@ -1,10 +1,9 @@
 -- How headers move: for each row what is stored, what its holder must have, and which areas it has after. And the stores to other words.
-use Rattle.std.specs.Prelude.{◌≡◌, ◌≢◌, ℕ, ◌+◌, ◌<◌, List, ◌∷◌, set}
+use Rattle.std.specs.Prelude.{◌≡◌, ◌≢◌, ℕ, ◌<◌, List, ◌∷◌, set}
 use Rattle.trace.specs.Events.{Words, with_word}
 use Rattle.segment_head.specs.HeadWord.{version_in, depth_in, pattern_in, free, normal, splitting, link_to}
-use Rattle.segment_head.specs.Prefixes.{pattern_of_one_side}
 use Rattle.image_layout.specs.Places.{Shape}
-use Rattle.sound_image.specs.Segments.{Frame, frame_of, state_at, depth_at, pattern_at}
+use Rattle.sound_image.specs.Segments.{Frame, frame_of, state_at, side_depth_at, side_pattern_at}
 use Rattle.frame_facts.specs.Stores.{TakesSlot, FreesSlot, BeginsSplit, GoesLive, EndsSplit, DropsSplit, Renews}
 use Rattle.frame_facts.specs.Owners.{HasStructure}
 use Rattle.world.specs.Ground.{Ground, version_of, IsCurrentIn}
@@ -47,8 +46,8 @@ module _ (site : Ground) (words : Words) where
     pub slot : p < site.shape.segments
     pub splits : state_at now p ≡ splitting
     pub linked : now.link p ≡ link_to s
-    pub depth : depth_in x ≡ depth_at now p + 1
-    pub pattern : pattern_in x ≡ pattern_of_one_side (pattern_at now p)
+    pub depth : depth_in x ≡ side_depth_at now p
+    pub pattern : pattern_in x ≡ side_pattern_at now p
 
   -- WHAT IS STORED: x to the header word of slot s, where the newest words are these
   abbrev pub IsRow : Row → ℕ → ℕ → Type 0
