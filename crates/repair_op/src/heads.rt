@@ -1,20 +1,12 @@
 //! Headers of the side of a split that was cut off.
 
-ghost use Rattle.std.specs.Prelude.{◌≡◌, ◌==◌, ◌≤◌, ◌<◌, ◌+◌, ◌*◌, ◌^◌};
-ghost use Rattle.segment_head.specs.HeadWord.{pattern_bits, depth_in, pattern_in};
+ghost use Rattle.std.specs.Prelude.{◌≡◌};
+ghost use Rattle.segment_head.specs.HeadWord.{depth_in, pattern_in};
 ghost use Rattle.world.specs.areas.Kinds.{is_new_side, is_ready_side};
 
+use segment_head::prefix::{is_side, prefix_in};
 use segment_head::split::side_pattern_of;
-use segment_head::word::{FRESH, PATTERN_BITS, depth_of, is_live, pattern_of, state_of};
-
-/// Whether a pattern is another one, followed by so many zeros.
-fn has_zeros(pattern: u32, before: u64, zeros: u8) -> bool
-    requires most { before < 2 ^ (pattern_bits + 1) }
-    requires some { 1 ≤ before }
-    ensures { result ≡ (pattern == before * 2 ^ zeros) }
-{
-    zeros < PATTERN_BITS && u64::from(pattern) == before << zeros
-}
+use segment_head::word::{FRESH, depth_of, is_live, pattern_of, state_of};
 
 /// Whether this is the header of the new side of a segment with that header.
 pub(crate) fn is_new_side(head: u64, side: u64) -> bool
@@ -29,11 +21,5 @@ pub(crate) fn is_new_side(head: u64, side: u64) -> bool
 pub(crate) fn is_ready_side(head: u64, side: u64) -> bool
     ensures { result ≡ is_ready_side (depth_in head) (pattern_in head) side }
 {
-    is_live(side)
-        && depth_of(head) < depth_of(side)
-        && has_zeros(
-            pattern_of(side),
-            side_pattern_of(head),
-            depth_of(side) - depth_of(head) - 1,
-        )
+    is_live(side) && is_side(prefix_in(head), prefix_in(side))
 }

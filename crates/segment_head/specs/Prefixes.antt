@@ -1,5 +1,5 @@
 -- The patterns of the two sides of a segment, and the prefix of a segment beside that of its 1-side.
-use Rattle.std.specs.Prelude.{◌≡◌, ℕ, ◌+◌, ◌-◌, ◌*◌, ◌^◌, ◌<◌}
+use Rattle.std.specs.Prelude.{◌≡◌, ◌==◌, ◌&&◌, Bool, nat_lt, ℕ, ◌+◌, ◌-◌, ◌*◌, ◌^◌, ◌<◌}
 use Rattle.hash_word.specs.Hash.{Covers}
 use Rattle.segment_head.specs.declared.prefix.Prefix.{Prefix}
 
@@ -25,6 +25,10 @@ run_of_sides greater depth = 2 ^ (greater - depth - 1)
 -- the pattern of the 1-side of a segment of this depth and pattern, followed by zeros alone down to a greater depth: the first of these places
 abbrev pub one_side_down_to : ℕ → ℕ → ℕ → ℕ
 one_side_down_to greater depth pattern = pattern_of_one_side pattern * run_of_sides greater depth
+
+-- a prefix of a side is that of the 1-side of a whole with these numbers, followed by zeros alone or by nothing, as a test
+abbrev pub is_side_prefix : (depth pattern side_depth side_pattern : ℕ) → Bool
+is_side_prefix depth pattern side_depth side_pattern = nat_lt depth side_depth && (side_pattern == one_side_down_to side_depth depth pattern)
 
 -- the side is deeper, and its pattern is that of the 1-side of the whole, followed by zeros alone
 pub record IsSidePrefix (whole side : Prefix) : Type 0 where

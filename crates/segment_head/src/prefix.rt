@@ -1,11 +1,11 @@
 //! Which hashes a segment covers, as a depth and a pattern.
 
-ghost use Rattle.std.specs.Prelude.{◌≡◌, ◌+◌, ◌^◌, ◌<◌, ◌≤◌, ◌↔◌, IsTrue};
+ghost use Rattle.std.specs.Prelude.{◌≡◌, ◌==◌, ◌+◌, ◌*◌, ◌^◌, ◌<◌, ◌≤◌, ◌↔◌, IsTrue};
 ghost use Rattle.hash_word.specs.Hash.{most_depth};
-ghost use Rattle.segment_head.specs.HeadWord.{depth_in, pattern_in};
-ghost use Rattle.segment_head.specs.Prefixes.{IsSidePrefix, IsOfOneSide, pattern_of_zero_side, pattern_of_one_side};
+ghost use Rattle.segment_head.specs.HeadWord.{pattern_bits, depth_in, pattern_in};
+ghost use Rattle.segment_head.specs.Prefixes.{IsSidePrefix, is_side_prefix, IsOfOneSide, pattern_of_zero_side, pattern_of_one_side};
 
-use crate::word::{depth_of, pattern_of};
+use crate::word::{PATTERN_BITS, depth_of, pattern_of};
 use hash_word::covers;
 
 /// The top bits of the hashes that a segment covers: as many as its depth, and these are its pattern.
@@ -42,15 +42,26 @@ pub fn pattern_of_one_side(pattern: u32) -> u64
     pattern_of_zero_side(pattern) + 1
 }
 
+/// Whether a pattern is another one, followed by so many zeros.
+fn has_zeros(pattern: u32, before: u64, zeros: u8) -> bool
+    requires most { before < 2 ^ (pattern_bits + 1) }
+    requires some { 1 ≤ before }
+    ensures { result ≡ (pattern == before * 2 ^ zeros) }
+{
+    zeros < PATTERN_BITS && u64::from(pattern) == before << zeros
+}
+
 /// Whether a prefix is that of the 1-side of another, with zeros alone behind it.
 pub fn is_side(whole: Prefix, side: Prefix) -> bool
-    requires whole { whole.depth ≤ most_depth }
-    requires side { side.depth ≤ most_depth }
-    ensures { IsTrue result ↔ IsSidePrefix whole side }
+    ensures is { result ≡ is_side_prefix whole.depth whole.pattern side.depth side.pattern }
+    ensures side { IsTrue result ↔ IsSidePrefix whole side }
 {
     whole.depth < side.depth
-        && u64::from(side.pattern)
-            == pattern_of_one_side(whole.pattern) << (side.depth - whole.depth - 1)
+        && has_zeros(
+            side.pattern,
+            pattern_of_one_side(whole.pattern),
+            side.depth - whole.depth - 1,
+        )
 }
 
 /// Whether a hash is in the 1-side of a prefix.

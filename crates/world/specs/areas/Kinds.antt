@@ -5,7 +5,7 @@ use Rattle.op_core.specs.declared.want.Want.{Want}
 use Rattle.op_core.specs.declared.want.Want.TheVariants.{Load, Store, Exchange, Fence}
 use Rattle.hash_word.specs.Hash.{first_hash_of}
 use Rattle.segment_head.specs.HeadWord.{version_in, state_in, depth_in, pattern_in, free, fresh, is_live, no_link}
-use Rattle.segment_head.specs.Prefixes.{pattern_of_one_side, one_side_down_to}
+use Rattle.segment_head.specs.Prefixes.{pattern_of_one_side, is_side_prefix}
 use Rattle.image_layout.specs.Places.{Shape, block, root_word, first_segment, entry_at, head_at, segment_words}
 use Rattle.image_layout.specs.Volatile.{allocation_guard, directory_guard, segment_guard, free_guard}
 use Rattle.frame_facts.specs.Facts.{Fact, Lives, Current, Rooted, Owns, Lacks, Deep, Begins, Used, Taken}
@@ -159,8 +159,7 @@ is_new_side depth pattern head = (state_in head == fresh) && ((depth_in head == 
 
 -- a header is that of a ready side of a segment of this depth and pattern: it is live and deeper, and its pattern is that of the 1-side, followed by zeros alone
 abbrev pub is_ready_side : ℕ → ℕ → ℕ → Bool
-is_ready_side depth pattern head =
-    is_live head && (nat_lt depth (depth_in head) && (pattern_in head == one_side_down_to (depth_in head) depth pattern))
+is_ready_side depth pattern head = is_live head && is_side_prefix depth pattern (depth_in head) (pattern_in head)
 
 -- what the linked slot tells of a segment of this depth and pattern: with a ready side there, which begins where the 1-side does, the segment has
 -- none of its 1-side; else it has all of it

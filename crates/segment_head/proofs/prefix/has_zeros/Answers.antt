@@ -1,7 +1,8 @@
+-- Where a pattern has no room for so many zeros, it is not that one.
 use Rattle.std.proofs.Common.{◌≡◌, ◌≤◌, ◌<◌, ◌*◌, ◌^◌, ℕ, sym, ◌∙◌, arith}
 use Rattle.std.proofs.Math.Pow.{pow_mono}
 use Rattle.std.proofs.lemmas.Bool.{le-ltb, ne_eqb}
-use Rattle.repair_op.proofs.heads.has_zeros.Goals as goal
+use Rattle.segment_head.proofs.prefix.has_zeros.Goals as goal
 
 -- a pattern of 32 bits does not end in so many zeros
 no_zeros : (pattern before n : ℕ) → pattern < 2 ^ 32 → 1 ≤ before → 32 ≤ n → pattern ≡ before * 2 ^ n → ⊥
