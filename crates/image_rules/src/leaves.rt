@@ -15,7 +15,7 @@ ghost use Rattle.image_rules.specs.Leaves.{IsUnder, AreRaised, AreDeepest, AreSe
 use crate::heads::{is_live, prefix_of, ready_side};
 use image_layout::{Geometry, HEADER, ROOT_WORD, power_of_two};
 use map_model::NoMemory;
-use segment_head::prefix::{Prefix, pattern_of_one_side, pattern_of_zero_side};
+use segment_head::prefix::{Prefix, one_side_of, zero_side_of};
 use std::alloc::Global;
 
 /// The first leaf under a prefix of this depth and pattern.
@@ -181,14 +181,8 @@ fn owns_its_part(geometry: &Geometry, words: &[u64], leaves: &[u8], s: u64) -> b
     let Some(_) = ready_side(geometry, words, s) else {
         return all_have(leaves, greatest, prefix, prefix.depth + 1);
     };
-    let zeros = Prefix {
-        depth: prefix.depth + 1,
-        pattern: pattern_of_zero_side(prefix.pattern) as u32,
-    };
-    let ones = Prefix {
-        depth: prefix.depth + 1,
-        pattern: pattern_of_one_side(prefix.pattern) as u32,
-    };
+    let zeros = zero_side_of(prefix);
+    let ones = one_side_of(prefix);
     all_have(leaves, greatest, zeros, prefix.depth + 1)
         && none_has(leaves, greatest, ones, prefix.depth + 1)
 }

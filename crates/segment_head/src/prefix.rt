@@ -3,7 +3,7 @@
 ghost use Rattle.std.specs.Prelude.{◌≡◌, ◌==◌, ◌+◌, ◌*◌, ◌^◌, ◌<◌, ◌≤◌, ◌↔◌, IsTrue};
 ghost use Rattle.hash_word.specs.Hash.{most_depth};
 ghost use Rattle.segment_head.specs.HeadWord.{pattern_bits, depth_in, pattern_in};
-ghost use Rattle.segment_head.specs.Prefixes.{IsSidePrefix, is_side_prefix, IsOfOneSide, pattern_of_zero_side, pattern_of_one_side};
+ghost use Rattle.segment_head.specs.Prefixes.{IsSidePrefix, is_side_prefix, IsOfOneSide, depth_of_sides, pattern_of_zero_side, pattern_of_one_side};
 
 use crate::word::{PATTERN_BITS, depth_of, pattern_of};
 use hash_word::covers;
@@ -42,6 +42,32 @@ pub fn pattern_of_one_side(pattern: u32) -> u64
     pattern_of_zero_side(pattern) + 1
 }
 
+/// The prefix of the 0-side of a segment with this one: one bit more, which is 0.
+pub fn zero_side_of(prefix: Prefix) -> Prefix
+    requires depth { prefix.depth ≤ most_depth }
+    requires pattern { prefix.pattern < 2 ^ prefix.depth }
+    ensures depth { result.depth ≡ depth_of_sides prefix.depth }
+    ensures pattern { result.pattern ≡ pattern_of_zero_side prefix.pattern }
+{
+    Prefix {
+        depth: prefix.depth + 1,
+        pattern: pattern_of_zero_side(prefix.pattern) as u32,
+    }
+}
+
+/// That of its 1-side: one bit more, which is 1.
+pub fn one_side_of(prefix: Prefix) -> Prefix
+    requires depth { prefix.depth ≤ most_depth }
+    requires pattern { prefix.pattern < 2 ^ prefix.depth }
+    ensures depth { result.depth ≡ depth_of_sides prefix.depth }
+    ensures pattern { result.pattern ≡ pattern_of_one_side prefix.pattern }
+{
+    Prefix {
+        depth: prefix.depth + 1,
+        pattern: pattern_of_one_side(prefix.pattern) as u32,
+    }
+}
+
 /// Whether a pattern is another one, followed by so many zeros.
 fn has_zeros(pattern: u32, before: u64, zeros: u8) -> bool
     requires most { before < 2 ^ (pattern_bits + 1) }
@@ -70,9 +96,6 @@ pub fn in_one_side(prefix: Prefix, hash: u64) -> bool
     requires pattern { prefix.pattern < 2 ^ prefix.depth }
     ensures { IsTrue result ↔ IsOfOneSide prefix.depth prefix.pattern hash }
 {
-    covers(
-        prefix.depth + 1,
-        pattern_of_one_side(prefix.pattern) as u32,
-        hash,
-    )
+    let ones = one_side_of(prefix);
+    covers(ones.depth, ones.pattern, hash)
 }
