@@ -12,8 +12,7 @@ use crate::words::Words;
 use image_layout::format::format_word;
 use image_layout::state::{self, FIRST_VERSION};
 use image_layout::{
-    FRONT_DEPTH, FRONT_FORMAT, FRONT_MAGIC, FRONT_SEGMENTS, Geometry, HEADER, STATE_WORD,
-    shape_in_range,
+    FRONT_DEPTH, FRONT_FORMAT, FRONT_MAGIC, FRONT_SEGMENTS, Geometry, STATE_WORD, shape_in_range,
 };
 use map_model::NoMemory;
 use segment_head::{Head, State};
@@ -52,7 +51,7 @@ fn empty_words(alloc: Global, geometry: &Geometry) -> Result<Words, NoMemory>
     words[FRONT_SEGMENTS] = geometry.segments();
     words[FRONT_DEPTH] = geometry.depth();
     words[STATE_WORD as usize] = first_state();
-    words[geometry.head_at(0) as usize + HEADER as usize] = first_header();
+    words[geometry.header_word(0) as usize] = first_header();
     Ok(Words::new(words))
 }
 

@@ -10,7 +10,7 @@ ghost use Rattle.image_rules.specs.Slots.{IsStanding};
 ghost use Rattle.image_file.specs.Pairs.{live_slots, keys_of, ArePairs, ArePairsBelow};
 
 use crate::medium::Medium;
-use image_layout::{Geometry, HEADER, ROOT_WORD, SEGMENT_SLOTS, STATE_WORD, state};
+use image_layout::{Geometry, ROOT_WORD, SEGMENT_SLOTS, STATE_WORD, state};
 use image_rules::{is_first_at, pair_at};
 use map_model::NoMemory;
 use segment_head::word::is_live;
@@ -38,7 +38,7 @@ fn count_live(geometry: &Geometry, words: &[u64]) -> u64
 {
     let mut live = 0;
     for slot in 0..geometry.segments() {
-        if is_live(words[geometry.head_at(slot) as usize + HEADER as usize]) {
+        if is_live(words[geometry.header_word(slot) as usize]) {
             live += 1;
         }
     }

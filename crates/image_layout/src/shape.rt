@@ -2,7 +2,7 @@
 
 ghost use Rattle.std.specs.Prelude.{◌≡◌, ◌<◌, ◌≤◌, ◌+◌, ◌*◌, ◌%◌, ◌^◌, IfOk, IfErr};
 ghost use Rattle.image_layout.specs.Volatile.{counter_word, power_word, allocation_guard, directory_guard, segment_guard, all_words_of, power_from, allocation_from, directory_from, guards_from};
-ghost use Rattle.image_layout.specs.Places.{IsShape, first_segment, words_of, entry_at, head_at, bucket_at, block, homes, stash_buckets, buckets, segment_words, most_power, first_segment_of_largest, most_words, most_segments, most_depth, most_kind};
+ghost use Rattle.image_layout.specs.Places.{IsShape, first_segment, words_of, entry_at, head_at, header_word, link_word, bucket_at, block, homes, stash_buckets, buckets, segment_words, most_power, first_segment_of_largest, most_words, most_segments, most_depth, most_kind};
 
 use bucket_meta::words::{BUCKET_WORDS, SECOND_STASH_INDEX, SLOTS, STASH_INDICES};
 use hash_word::{HOMES, MOST_DEPTH};
@@ -231,6 +231,26 @@ impl Geometry {
     {
         let _ = &self.segments;
         self.first_segment() + SEGMENT_WORDS * slot
+    }
+
+    /// The header word of the segment in this slot.
+    pub fn header_word(&self, slot: u64) -> u64
+        requires { slot < self.now.segments }
+        ensures is { result ≡ header_word self.now slot }
+        ensures within { result < words_of self.now }
+        ensures most { result < most_words }
+    {
+        self.head_at(slot) + HEADER
+    }
+
+    /// The word of its link.
+    pub fn link_word(&self, slot: u64) -> u64
+        requires { slot < self.now.segments }
+        ensures is { result ≡ link_word self.now slot }
+        ensures within { result < words_of self.now }
+        ensures most { result < most_words }
+    {
+        self.head_at(slot) + LINK
     }
 
     /// The first of the 32 words of bucket `b`, 0 to 65 with the stash buckets, of the segment in this slot.

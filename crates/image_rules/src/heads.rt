@@ -7,7 +7,7 @@ ghost use Rattle.sound_image.specs.Segments.{frame_of, state_at, IsLive, IsReady
 ghost use Rattle.image_rules.specs.Divided.{IsNumbered, IsDivided, IsPrefixOf, IsNamed, IsGivenAway};
 
 use hash_word::covers;
-use image_layout::{Geometry, HEADER, LINK};
+use image_layout::Geometry;
 use segment_head::link::linked_slot;
 use segment_head::prefix::{Prefix, in_one_side, is_side, prefix_in};
 use segment_head::word::{self, SPLITTING};
@@ -18,7 +18,7 @@ pub(crate) fn header_of(geometry: &Geometry, words: &[u64], s: u64) -> u64
     requires slot { s < geometry.now.segments }
     ensures { result ≡ (frame_of geometry.now (slice_index words.now)).header s }
 {
-    words[geometry.head_at(s) as usize + HEADER as usize]
+    words[geometry.header_word(s) as usize]
 }
 
 /// The state byte of a segment.
@@ -69,7 +69,7 @@ fn named_slot(geometry: &Geometry, words: &[u64], s: u64) -> Option<u64>
     ensures some { IfSome result (λ n. IsNamed (frame_of geometry.now (slice_index words.now)) s n) }
     ensures none { IfNone result ((n : ℕ) → IsNamed (frame_of geometry.now (slice_index words.now)) s n → ⊥) }
 {
-    let link = words[geometry.head_at(s) as usize + LINK as usize];
+    let link = words[geometry.link_word(s) as usize];
     let Some(slot) = linked_slot(link) else {
         return None;
     };

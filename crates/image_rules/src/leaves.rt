@@ -13,7 +13,7 @@ ghost use Rattle.image_rules.specs.Divided.{IsNumbered};
 ghost use Rattle.image_rules.specs.Leaves.{IsUnder, AreRaised, AreDeepest, AreSeen, HasTwin, ShareWellBelow, IsFirstAtFault};
 
 use crate::heads::{is_live, prefix_of, ready_side};
-use image_layout::{Geometry, HEADER, ROOT_WORD, power_of_two};
+use image_layout::{Geometry, ROOT_WORD, power_of_two};
 use map_model::NoMemory;
 use segment_head::prefix::{Prefix, one_side_of, zero_side_of};
 use std::alloc::Global;
@@ -265,7 +265,7 @@ fn first_unowned(nodes: &mut [u8], leaves: &[u8], geometry: &Geometry, words: &[
         return Some(entry_over(geometry, words, leaf));
     }
     match first_at_fault(nodes, leaves, geometry, words) {
-        Some(s) => Some(geometry.head_at(s) + HEADER),
+        Some(s) => Some(geometry.header_word(s)),
         None => None,
     }
 }

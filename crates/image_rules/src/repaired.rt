@@ -14,7 +14,7 @@ use crate::notes::has_exact_notes;
 use crate::record_slot::bucket_word;
 use crate::records::RecordRule;
 use bucket_meta::words::{self, is_locked, key_place};
-use image_layout::{BUCKETS, Geometry, HEADER, HOMES, STATE_WORD, state};
+use image_layout::{BUCKETS, Geometry, HOMES, STATE_WORD, state};
 use segment_head::word::NORMAL;
 
 /// The metadata word of a bucket, by its number in it.
@@ -92,7 +92,7 @@ pub(crate) fn segment_breach(geometry: &Geometry, words: &[u64], s: u64) -> Opti
         return None;
     }
     if state_of(geometry, words, s) != NORMAL {
-        return Some(geometry.head_at(s) + HEADER);
+        return Some(geometry.header_word(s));
     }
     for b in 0..BUCKETS {
         if let Some(word) = bucket_breach(geometry, words, s, b) {

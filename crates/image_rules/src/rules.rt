@@ -12,7 +12,7 @@ ghost use Rattle.image_rules.specs.Slots.{IsStanding};
 use crate::heads::{header_of, version_of};
 use crate::records::RecordRule;
 use image_layout::state::{self, FIRST_VERSION};
-use image_layout::{Geometry, HEADER, LINK, ROOT_WORD, STATE_WORD};
+use image_layout::{Geometry, ROOT_WORD, STATE_WORD};
 use segment_head::link::links_within;
 use segment_head::word::{FREE, LAST_STATE, depth_of, pattern_of, state_of};
 
@@ -36,9 +36,8 @@ fn link_in_range(geometry: &Geometry, words: &[u64], s: u64) -> bool
     requires slot { s < geometry.now.segments }
     ensures { IsTrue result ↔ LinkInRange (frame_of geometry.now (slice_index words.now)) s }
 {
-    let at = geometry.head_at(s) as usize;
-    state_of(words[at + HEADER as usize]) == FREE
-        || links_within(geometry.segments(), words[at + LINK as usize])
+    state_of(header_of(geometry, words, s)) == FREE
+        || links_within(geometry.segments(), words[geometry.link_word(s) as usize])
 }
 
 /// The least word at which rule 1 is broken: a number of the image or of a header is out of its range.
@@ -55,10 +54,10 @@ pub(crate) fn rule_one(geometry: &Geometry, words: &[u64]) -> Option<u64>
     }
     for s in 0..geometry.segments() {
         if !head_in_range(geometry, words, s) {
-            return Some(geometry.head_at(s) + HEADER);
+            return Some(geometry.header_word(s));
         }
         if !link_in_range(geometry, words, s) {
-            return Some(geometry.head_at(s) + LINK);
+            return Some(geometry.link_word(s));
         }
     }
     None
@@ -93,7 +92,7 @@ pub(crate) fn rule_six(geometry: &Geometry, words: &[u64]) -> Option<u64>
     let version = state::version_of(words[STATE_WORD as usize]);
     for s in 0..geometry.segments() {
         if version_of(geometry, words, s) > version {
-            return Some(geometry.head_at(s) + HEADER);
+            return Some(geometry.header_word(s));
         }
     }
     None

@@ -1,10 +1,10 @@
 //! What the header of a segment says.
 
-ghost use Rattle.std.specs.Prelude.{◌≡◌, ◌+◌, ◌<◌, ◌==◌, length, slice_index};
+ghost use Rattle.std.specs.Prelude.{◌≡◌, ◌<◌, ◌==◌, length, slice_index};
 ghost use Rattle.image_layout.specs.Places.{header_word, words_of};
 ghost use Rattle.segment_head.specs.HeadWord.{version_in, state_in, depth_in, pattern_in, free};
 
-use image_layout::{Geometry, HEADER};
+use image_layout::Geometry;
 use segment_head::word::{FREE, NORMAL, SPLITTING, depth_of, pattern_of, state_of, version_of};
 use std::fmt;
 
@@ -30,7 +30,7 @@ pub fn header_of(geometry: &Geometry, words: &[u64], s: u64) -> Header
     ensures depth { result.depth ≡ depth_in (slice_index words.now (header_word geometry.now s)) }
     ensures pattern { result.pattern ≡ pattern_in (slice_index words.now (header_word geometry.now s)) }
 {
-    let head = words[geometry.head_at(s) as usize + HEADER as usize];
+    let head = words[geometry.header_word(s) as usize];
     Header {
         version: version_of(head),
         state: state_of(head),

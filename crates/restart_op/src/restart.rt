@@ -7,7 +7,7 @@ ghost use Rattle.restart_op.specs.declared.restart.RestartStep.TheVariants.{Ende
 ghost use Rattle.restart_op.specs.Restart.{started_for, swept_through, head_word, begun, state_seen, head_stored, head_flushed, heads_fenced, wanted, taken, next_of};
 
 use image_layout::state::{FIRST_VERSION, LAST_VERSION, is_marked, version_of};
-use image_layout::{Geometry, HEADER, STATE_WORD};
+use image_layout::{Geometry, STATE_WORD};
 use op_core::{Ans, Machine, Want};
 use segment_head::version::unversioned;
 use trace::{MOST_UNFENCED, line_of};
@@ -135,7 +135,7 @@ impl RestartOp {
         ensures most { result < most_words }
     {
         if slot < self.geometry.segments() {
-            self.geometry.head_at(slot) + HEADER
+            self.geometry.header_word(slot)
         } else {
             STATE_WORD
         }

@@ -17,7 +17,7 @@ ghost use Rattle.vlock.specs.Finding.{IsBesideWay, Finds};
 use crate::bucket::load;
 use crate::table::{Image, ImageSeat};
 use hash_word::dir_index;
-use image_layout::{Geometry, HEADER, ROOT_WORD};
+use image_layout::{Geometry, ROOT_WORD};
 use segment_head::word;
 use std::marker::Brand;
 use way::is_leading;
@@ -87,7 +87,7 @@ fn meet_head(
     ensures view { Loads (ground_of image.now.key) (header_word image.now.key.geometry segment) (λ n. of_call (meets_head segment version)) seat.old.me.0 result seat.new.me.0 }
     ensures live { HasLiveState result }
 {
-    let head = geometry.head_at(segment) + HEADER;
+    let head = geometry.header_word(segment);
     load::<Brand, (u64, u8)>(image, geometry, seat, head, &(segment, version))
 }
 

@@ -1,5 +1,5 @@
 -- A slot more counts one where its segment is live.
-use Rattle.std.proofs.Common.{◌≡◌, ℕ, ◌+◌, ◌∙◌, sym, ap, arith, slice_index}
+use Rattle.std.proofs.Common.{◌≡◌, ◌∙◌, sym, ap, arith, slice_index}
 use Rattle.segment_head.specs.HeadWord.{is_live}
 use Rattle.sound_image.specs.Segments.{frame_of}
 use Rattle.image_file.proofs.Listed.{live_more, live_same}
@@ -9,8 +9,8 @@ use Rattle.image_file.proofs.summary.count_live.Goals.{then-is_live, else-is_liv
 pub loop-slot-preserved : goal.loop-slot-preserved
 loop-slot-preserved c =
     let frame = frame_of c.args.geometry.now (slice_index c.args.words.now) in
-    let here : slice_index c.args.words.now (c.head_at.result + 1) ≡ frame.header c.loop-slot.slot =
-    ap (λ (n : ℕ). slice_index c.args.words.now (n + 1)) c.head_at.ensures.is in
+    let here : slice_index c.args.words.now c.header_word.result ≡ frame.header c.loop-slot.slot =
+    ap (slice_index c.args.words.now) c.header_word.ensures.is in
     let before = c.loop-slot.invariant.counted in
     let few = c.loop-slot.invariant.few in
     elim c.if-is_live.branch [

@@ -1,5 +1,5 @@
 -- The first bare leaf breaks rule 2 at its entry, and else the first segment at fault at its header.
-use Rattle.std.proofs.Common.{◌≢◌, ℕ, ◌+◌, ◌-◌, ◌/◌, ◌^◌, ◌<◌, sym, subst, arith, slice_index}
+use Rattle.std.proofs.Common.{◌≢◌, ℕ, ◌-◌, ◌/◌, ◌^◌, ◌<◌, sym, subst, arith, slice_index}
 use Rattle.sound_image.specs.Segments.{frame_of}
 use Rattle.sound_image.specs.Rules.{HashesAreOwned}
 use Rattle.image_rules.specs.Breach.{IsLeast}
@@ -27,7 +27,7 @@ returns-in-Some-first_at_fault-clause-some c =
     let frame = frame_of shape word in
     let all = all_owned frame shape.depth c.requires.numbered.in_range.depth c.args.leaves.now c.requires.deepest (root_fits shape word c.requires.numbered)
     (subst (λ (n : ℕ). (l : ℕ) → l < n → slice_index c.args.leaves.now l ≢ 0) c.requires.leaves c.in_default.ensures.none) in
-    subst (λ (n : ℕ). IsLeast (HashesAreOwned shape word) (n + 1)) (sym c.head_at.ensures.is)
+    subst (IsLeast (HashesAreOwned shape word)) (sym c.header_word.ensures.is)
     (segment_breaks shape word c.requires.numbered c.in-Some-first_at_fault.s all c.in-Some-first_at_fault.ensures.some)
 
 pub returns-in-None-clause-none : goal.returns-in-None-clause-none

@@ -1,5 +1,5 @@
 -- One bucket more, or the first that is not repaired.
-use Rattle.std.proofs.Common.{◌+◌, ℕ, refl, sym, subst, ◌∙◌, arith, below_more, slice_index}
+use Rattle.std.proofs.Common.{refl, sym, subst, ◌∙◌, arith, below_more, slice_index}
 use borrow.Author.Count.{below_none}
 use Rattle.image_rules.specs.Repairs.{IsBrokenSegment}
 use Rattle.image_rules.proofs.Answered.{never}
@@ -15,7 +15,7 @@ returns-then-state_of-ne-NORMAL-clause-none c = tt
 pub returns-then-state_of-ne-NORMAL-clause-some : goal.returns-then-state_of-ne-NORMAL-clause-some
 returns-then-state_of-ne-NORMAL-clause-some c = (
   c.if-not-is_current.ensures.0 refl,
-  subst (λ (n : ℕ). IsBrokenSegment c.args.geometry.now (slice_index c.args.words.now) c.args.s (n + 1)) (sym c.head_at.ensures.is)
+  subst (IsBrokenSegment c.args.geometry.now (slice_index c.args.words.now) c.args.s) (sym c.header_word.ensures.is)
       (head_breaks c.args.geometry.now (slice_index c.args.words.now) c.args.s (λ is. c.if-state_of-ne-NORMAL.true (c.state_of.ensures ∙ is))),
 )
 

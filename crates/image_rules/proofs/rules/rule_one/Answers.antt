@@ -1,5 +1,5 @@
 -- The first segment with a number out of its range breaks rule 1 at its header or at its link.
-use Rattle.std.proofs.Common.{◌+◌, ◌<◌, ◌≤◌, ℕ, refl, sym, subst, arith, rules, below_more, slice_index}
+use Rattle.std.proofs.Common.{◌<◌, ◌≤◌, ℕ, refl, sym, subst, arith, rules, below_more, slice_index}
 use borrow.Author.Count.{below_none}
 use Rattle.sound_image.specs.Segments.{frame_of, image_version}
 use Rattle.sound_image.specs.Rules.{NumbersFit}
@@ -18,7 +18,7 @@ returns-then-not-head_in_range-clause-some c =
     let root : word 8 ≤ shape.depth = subst (λ (n : ℕ). word 8 ≤ n) c.depth.ensures.is c.if-words-depth.false in
     let version : 1 ≤ image_version (frame_of shape word) = omega (arith, c.if-version_of-lt-FIRST_VERSION.false, c.version_of.ensures) in
     let slot : c.loop-s.s < shape.segments = subst (λ (n : ℕ). c.loop-s.s < n) c.segments-s-end.ensures.is c.loop-s-test.true in
-    subst (λ (n : ℕ). IsLeast (NumbersFit shape word) (n + 1)) (sym c.head_at.ensures.is)
+    subst (IsLeast (NumbersFit shape word)) (sym c.header_word.ensures.is)
     (head_astray shape word root version c.loop-s.s slot c.loop-s.invariant.heads c.loop-s.invariant.links
     (never c.head_in_range.result c.head_in_range.ensures c.if-not-head_in_range.true))
 
@@ -29,7 +29,7 @@ returns-then-not-link_in_range-clause-some c =
     let root : word 8 ≤ shape.depth = subst (λ (n : ℕ). word 8 ≤ n) c.depth.ensures.is c.if-words-depth.false in
     let version : 1 ≤ image_version (frame_of shape word) = omega (arith, c.if-version_of-lt-FIRST_VERSION.false, c.version_of.ensures) in
     let slot : c.loop-s.s < shape.segments = subst (λ (n : ℕ). c.loop-s.s < n) c.segments-s-end.ensures.is c.loop-s-test.true in
-    subst (λ (n : ℕ). IsLeast (NumbersFit shape word) (n + 2)) (sym c.head_at-then-not-link_in_range.ensures.is)
+    subst (IsLeast (NumbersFit shape word)) (sym c.link_word.ensures.is)
     (link_astray shape word root version c.loop-s.s slot c.loop-s.invariant.heads c.loop-s.invariant.links (c.if-not-head_in_range.ensures.0 refl)
     (never c.link_in_range.result c.link_in_range.ensures c.if-not-link_in_range.true))
 

@@ -1,5 +1,5 @@
 -- The first segment of a version above the image's breaks rule 6 at its header.
-use Rattle.std.proofs.Common.{◌≡◌, ◌+◌, ◌<◌, ◌≤◌, ℕ, sym, subst, arith, below_more, slice_index}
+use Rattle.std.proofs.Common.{◌≡◌, ◌<◌, ◌≤◌, ℕ, sym, subst, arith, below_more, slice_index}
 use borrow.Author.Count.{below_none}
 use Rattle.sound_image.specs.Rules.{VersionsArePast}
 use Rattle.image_rules.specs.Breach.{IsLeast}
@@ -17,7 +17,7 @@ returns-then-version_of-version-clause-some c =
     let shape = c.args.geometry.now in
     let word = slice_index c.args.words.now in
     let slot = subst (λ (n : ℕ). c.loop-s.s < n) c.segments-s-end.ensures.is c.loop-s-test.true in
-    subst (λ (n : ℕ). IsLeast (VersionsArePast shape word) (n + 1)) (sym c.head_at.ensures.is)
+    subst (IsLeast (VersionsArePast shape word)) (sym c.header_word.ensures.is)
     (version_ahead shape word c.loop-s.s slot c.loop-s.invariant
     (not_past _ _ _ _ c.version_of.ensures c.version_of-version.ensures c.if-version_of-version.true))
 
