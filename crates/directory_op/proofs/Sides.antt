@@ -24,7 +24,7 @@ use Rattle.split_op.specs.Enclosed.{Enclosed}
 use Rattle.split_op.specs.Whole.{kept_words, IsOf, IsWhole}
 use Rattle.split_op.specs.declared.copied.Copied.{Copied}
 use Rattle.split_op.specs.Copied.{split_head, side_head, side_words, split_words, copied_words, IsCopy}
-use Rattle.directory_op.specs.Places.{entries_of, run_of, side_first, side_last}
+use Rattle.directory_op.specs.Places.{entries_there, run_of, side_first, side_last}
 use Rattle.directory_op.specs.Fits.{side_depth, side_pattern, IsOfSide}
 use Rattle.directory_op.proofs.Words.{all_entries, doubled, not_in_slot, in_slot, other_slot}
 
@@ -165,7 +165,7 @@ module _ (site : Ground) (ground : IsGround site) (here : Site) (call : Call) (c
     run = 2 ^ (root - side_depth c)
 
     run_is : run_of root (side_head e) ≡ run
-    run_is = ap (λ n. entries_of (root - n)) side_deep ∙ all_entries (root - suc d) (let far = most in omega (arith, far))
+    run_is = ap (λ n. entries_there (root - n)) side_deep ∙ all_entries (root - suc d) (let far = most in omega (arith, far))
 
     first_is : side_first root (side_head e) ≡ side_pattern c * run
     first_is = ap (λ n. pattern_in (side_head e) * n) run_is ∙ ap (λ n. n * run) side_region
@@ -180,8 +180,8 @@ module _ (site : Ground) (ground : IsGround site) (here : Site) (call : Call) (c
 
     last_is : side_last root (side_head e) ≡ (side_pattern c + 1) * run - 1
     last_is =
-        ap (λ n. min ((pattern_in (side_head e) + 1) * n) (entries_of root) - 1) run_is
-        ∙ ap (λ n. min ((n + 1) * run) (entries_of root) - 1) side_region
+        ap (λ n. min ((pattern_in (side_head e) + 1) * n) (entries_there root) - 1) run_is
+        ∙ ap (λ n. min ((n + 1) * run) (entries_there root) - 1) side_region
         ∙ ap (λ n. min ((side_pattern c + 1) * run) n - 1) (all_entries root most)
         ∙ least ((side_pattern c + 1) * run) (2 ^ root) whole_area
       where

@@ -15,11 +15,11 @@ use Rattle.world.specs.areas.Kinds.{is_in_slot}
 use Rattle.world.specs.areas.Splitting.{IsHeader}
 use Rattle.world.proofs.holders.directing.Known.{front_far}
 use Rattle.world.proofs.fitting.OneHolder.{one_slot, head_in_slot}
-use Rattle.directory_op.specs.Places.{entries_of, entry_word, live_head}
+use Rattle.directory_op.specs.Places.{entries_there, entry_word, live_head}
 
 -- ---- numbers
 -- an area that an image may have has all its entries
-pub all_entries : (depth : ℕ) → depth ≤ most_depth → entries_of depth ≡ 2 ^ depth
+pub all_entries : (depth : ℕ) → depth ≤ most_depth → entries_there depth ≡ 2 ^ depth
 all_entries depth low = ap (λ b. cond b (2 ^ depth) 0) (le-leb depth most_depth low)
 
 pub doubled : (depth : ℕ) → 2 ^ suc depth ≡ 2 * 2 ^ depth
@@ -28,8 +28,8 @@ doubled depth = let e = pow-suc 2 depth in omega (arith, e)
 -- ---- the words that are meant
 pub entry_is : (here shape : Shape) (depth index : ℕ) → here ≡ shape → depth ≤ shape.depth → shape.depth ≤ most_depth → index < 2 ^ depth → entry_word here depth index ≡ entry_at depth index
 entry_is here shape depth index same low most near = subst (λ (s : Shape). entry_word s depth index ≡ entry_at depth index) (sym same)
-    (ap (λ b. cond (b && nat_lt index (entries_of depth)) (entry_at depth index) root_word) (le-leb depth shape.depth low)
-    ∙ ap (λ b. cond b (entry_at depth index) root_word) (lt-ltb index (entries_of depth) (subst (λ n. index < n) (sym (all_entries depth (omega (arith, low, most)))) near)))
+    (ap (λ b. cond (b && nat_lt index (entries_there depth)) (entry_at depth index) root_word) (le-leb depth shape.depth low)
+    ∙ ap (λ b. cond b (entry_at depth index) root_word) (lt-ltb index (entries_there depth) (subst (λ n. index < n) (sym (all_entries depth (omega (arith, low, most)))) near)))
 
 pub head_is : (here shape : Shape) (s : ℕ) → here ≡ shape → s < shape.segments → head_word here s ≡ header_word shape s
 head_is here shape s same within = subst (λ (t : Shape). head_word t s ≡ header_word shape s) (sym same) (ap (λ b. cond b (head_at shape s + 1) root_word) (lt-ltb s shape.segments within))

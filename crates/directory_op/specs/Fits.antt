@@ -5,7 +5,7 @@ use Rattle.trace.specs.Events.{HasLine}
 use Rattle.hash_word.specs.Hash.{IsUnderPrefix}
 use Rattle.bucket_meta.specs.Bucket.{mark_place, rest_place, record_slots}
 use Rattle.segment_head.specs.HeadWord.{depth_in}
-use Rattle.image_layout.specs.Places.{Shape, block, root_word, entry_at, bucket_at, key_at, value_at, buckets, words_of}
+use Rattle.image_layout.specs.Places.{Shape, block, root_word, entries_of, entry_at, bucket_at, key_at, value_at, buckets, words_of}
 use Rattle.segment_head.specs.SplitHeads.{side_depth_in, side_pattern_in}
 use Rattle.bucket_words.specs.Buckets.{IsTaken}
 use Rattle.frame_facts.specs.Facts.{Owns, Lacks, Deep}
@@ -128,18 +128,18 @@ module _ (site : Ground) (here : Site) (op : DirectoryOp) where
 
   -- THE ENTRIES of the 1-side below a number name the side
   abbrev pub EnteredBelow : ℕ → View → Type 0
-  EnteredBelow index v = (j : ℕ) → j < index → j < 2 ^ op.root → IsOfSide op.copied op.root j → Has (entry_at op.root j, op.copied.side) v.known
+  EnteredBelow index v = (j : ℕ) → j < index → j < entries_of op.root → IsOfSide op.copied op.root j → Has (entry_at op.root j, op.copied.side) v.known
 
   -- the words that may be loose in a stage
   abbrev pub IsStoredIn : Stage → ℕ → Type 0
-  IsStoredIn (Fill place value) i = (j : ℕ) × (j < 2 ^ op.root) × (i ≡ entry_at op.root j)
-  IsStoredIn Filled i = (j : ℕ) × (j < 2 ^ op.root) × (i ≡ entry_at op.root j)
+  IsStoredIn (Fill place value) i = (j : ℕ) × (j < entries_of op.root) × (i ≡ entry_at op.root j)
+  IsStoredIn Filled i = (j : ℕ) × (j < entries_of op.root) × (i ≡ entry_at op.root j)
   IsStoredIn Deepen i = ⊥
   IsStoredIn Deepened i = i ≡ root_word
   IsStoredIn GoLive i = ⊥
   IsStoredIn Live i = i ≡ header_word site.shape op.copied.side
-  IsStoredIn (Enter index) i = (j : ℕ) × (j < 2 ^ op.root) × (i ≡ entry_at op.root j)
-  IsStoredIn Entered i = (j : ℕ) × (j < 2 ^ op.root) × (i ≡ entry_at op.root j)
+  IsStoredIn (Enter index) i = (j : ℕ) × (j < entries_of op.root) × (i ≡ entry_at op.root j)
+  IsStoredIn Entered i = (j : ℕ) × (j < entries_of op.root) × (i ≡ entry_at op.root j)
 
   -- what is not settled lies in the rounds, whose lines are of the image, and is what is stored in this stage
   pub record IsStoring (stage : Stage) (v : View) : Type 0 where
@@ -158,7 +158,7 @@ module _ (site : Ground) (here : Site) (op : DirectoryOp) where
     -- the next entry has a value that is known of the entry from which it comes
     pub record FillsNext (place value : ℕ) (v : View) : Type 0 where
       pub filling : IsFilling place v
-      pub low : place < 2 ^ op.root
+      pub low : place < entries_of op.root
       pub small : value < 2 ^ 64
       pub known : Has (entry_at (depth_in op.copied.whole.head) (place / 2), value) v.known
 
@@ -180,20 +180,20 @@ module _ (site : Ground) (here : Site) (op : DirectoryOp) where
 
     pub record EntersNext (index : ℕ) (v : View) : Type 0 where
       pub entering : IsEntering index v
-      pub low : index < 2 ^ op.root
+      pub low : index < entries_of op.root
       pub of_side : IsOfSide op.copied op.root index
       pub small : op.copied.side < 2 ^ 64
 
     -- THE VIEW in each stage, but for what is loose
     abbrev pub SuitsStage : Stage → View → Type 0
     SuitsStage (Fill place value) v = FillsNext place value v
-    SuitsStage Filled v = IsFilling (2 ^ op.root) v
-    SuitsStage Deepen v = IsFilling (2 ^ op.root) v
+    SuitsStage Filled v = IsFilling (entries_of op.root) v
+    SuitsStage Deepen v = IsFilling (entries_of op.root) v
     SuitsStage Deepened v = IsRooted v
     SuitsStage GoLive v = IsRooted v
     SuitsStage Live v = HasGoneLive v
     SuitsStage (Enter index) v = EntersNext index v
-    SuitsStage Entered v = IsEntering (2 ^ op.root) v
+    SuitsStage Entered v = IsEntering (entries_of op.root) v
 
     -- ---- between the stages
     -- under the guard, before the root is known
@@ -206,7 +206,7 @@ module _ (site : Ground) (here : Site) (op : DirectoryOp) where
     pub record FillsFrom (place : ℕ) (v : View) : Type 0 where
       pub filling : IsFilling place v
       pub even : place % 2 ≡ 0
-      pub low : place < 2 ^ op.root
+      pub low : place < entries_of op.root
       pub storing : IsStoring Filled v
 
     -- the guard may be given back

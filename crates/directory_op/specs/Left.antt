@@ -1,6 +1,6 @@
 -- How many events are left at most, and how many lines wait for a fence.
-use Rattle.std.specs.Prelude.{ℕ, suc, ◌+◌, ◌-◌, ◌*◌, ◌^◌, min, Bool, true, false}
-use Rattle.image_layout.specs.Places.{Shape, most_depth}
+use Rattle.std.specs.Prelude.{ℕ, suc, ◌+◌, ◌-◌, ◌*◌, min, Bool, true, false}
+use Rattle.image_layout.specs.Places.{Shape, entries_of, most_depth}
 use Rattle.whole_segment.specs.Rounds.{most_lines}
 use Rattle.rounds.specs.Left.{rounds_left, few_left}
 use Rattle.rounds.specs.Waiting.{rounds_waiting}
@@ -9,21 +9,21 @@ use Rattle.directory_op.specs.declared.op.Stage.TheVariants.{Fill, Filled, Deepe
 use Rattle.directory_op.specs.declared.op.DirectoryStep.{DirectoryStep}
 use Rattle.directory_op.specs.declared.op.DirectoryStep.TheVariants.{LoadHead, LoadSideHead, TakeGuard, AskPower, LoadRoot, LoadEntry, Store, GiveGuard, Ended}
 use Rattle.directory_op.specs.declared.op.DirectoryOp.{DirectoryOp}
-use Rattle.directory_op.specs.Places.{entries_of}
+use Rattle.directory_op.specs.Places.{entries_there}
 use Rattle.directory_op.specs.Steps.{shape_of}
 
 -- ---- events
 -- an area has no more entries
 abbrev pub most_entries : ℕ
-most_entries = 2 ^ most_depth
+most_entries = entries_of most_depth
 
 -- how many the deepest area of an image of this shape has
 abbrev pub deepest_entries : Shape → ℕ
-deepest_entries shape = 2 ^ min shape.depth most_depth
+deepest_entries shape = entries_of (min shape.depth most_depth)
 
 -- once the side is settled: its entries, each of which may be stored, flushed and fenced, and the guard
 abbrev pub after_live : DirectoryOp → ℕ
-after_live op = 3 * suc (entries_of op.root) + 1
+after_live op = 3 * suc (entries_there op.root) + 1
 
 -- once the deeper area is: the root and the header too
 abbrev pub after_filled : DirectoryOp → ℕ
@@ -31,7 +31,7 @@ after_filled op = 6 + after_live op
 
 -- from an entry of the deeper area on: before each of them one of the other area may be loaded
 abbrev pub fill_left : DirectoryOp → ℕ → ℕ
-fill_left op place = rounds_left op.rounds (suc (entries_of op.root - place)) + (entries_of op.root - place) + after_filled op
+fill_left op place = rounds_left op.rounds (suc (entries_there op.root - place)) + (entries_there op.root - place) + after_filled op
 
 abbrev pub stage_left : DirectoryOp → Stage → ℕ
 stage_left op (Fill place value) = fill_left op place
@@ -40,7 +40,7 @@ stage_left op Deepen = rounds_left op.rounds 1 + 3 + after_live op
 stage_left op Deepened = rounds_left op.rounds 0 + 3 + after_live op
 stage_left op GoLive = rounds_left op.rounds 1 + after_live op
 stage_left op Live = rounds_left op.rounds 0 + after_live op
-stage_left op (Enter index) = rounds_left op.rounds (suc (entries_of op.root - index)) + 1
+stage_left op (Enter index) = rounds_left op.rounds (suc (entries_there op.root - index)) + 1
 stage_left op Entered = rounds_left op.rounds 0 + 1
 
 -- once the guard is held: the root, at most so many entries that are loaded, stored and entered, each of which may be flushed and fenced when

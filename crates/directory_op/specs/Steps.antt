@@ -18,7 +18,7 @@ use Rattle.directory_op.specs.declared.op.Stage.TheVariants.{Fill, Filled, Deepe
 use Rattle.directory_op.specs.declared.op.DirectoryStep.{DirectoryStep}
 use Rattle.directory_op.specs.declared.op.DirectoryStep.TheVariants.{LoadHead, LoadSideHead, TakeGuard, AskPower, LoadRoot, LoadEntry, Store, GiveGuard, Ended}
 use Rattle.directory_op.specs.declared.op.DirectoryOp.{DirectoryOp}
-use Rattle.directory_op.specs.Places.{entries_of, entry_word, side_first, side_last, live_head}
+use Rattle.directory_op.specs.Places.{entries_there, entry_word, side_first, side_last, live_head}
 
 -- it has done nothing yet
 abbrev pub directed : Copied → DirectoryOp
@@ -47,7 +47,7 @@ fill_on false place value = LoadEntry (place + 1)
 
 -- THE STEP behind the store of a stage
 abbrev pub stage_after : DirectoryOp → Stage → DirectoryStep
-stage_after op (Fill place value) = if nat_lt place (entries_of op.root - 1) then fill_on (place % 2 == 0) place value else Store Filled
+stage_after op (Fill place value) = if nat_lt place (entries_there op.root - 1) then fill_on (place % 2 == 0) place value else Store Filled
 stage_after op Deepen = Store Deepened
 stage_after op GoLive = Store Live
 stage_after op (Enter index) = if nat_lt index (side_last op.root op.side_head) then Store (Enter (index + 1)) else Store Entered

@@ -4,7 +4,7 @@ ghost use Rattle.std.specs.Prelude.{◌≡◌};
 ghost use Rattle.directory_op.specs.Steps.{directed, next_store, stage_after, settled_to, wanted, taken, power_step, with_root, passed, end_of};
 ghost use Rattle.directory_op.specs.DirectoryPart.{goes_on};
 
-use crate::places::{entries, entry_word, live_head, side_first, side_last};
+use crate::places::{entries_there, entry_word, live_head, side_first, side_last};
 use image_layout::{FREE_GUARD, POWER_ON, ROOT_WORD};
 use op_core::{Ans, Machine, Want};
 use rounds::Rounds;
@@ -120,7 +120,7 @@ impl DirectoryOp {
         ensures { result ≡ stage_after self.now stage }
     {
         match stage {
-            Stage::Fill(place, value) if place < entries(self.root).saturating_sub(1) => {
+            Stage::Fill(place, value) if place < entries_there(self.root).saturating_sub(1) => {
                 if place % 2 == 0 {
                     DirectoryStep::Store(Stage::Fill(place + 1, value))
                 } else {

@@ -1,26 +1,30 @@
 //! Which words are loaded and stored.
 
-ghost use Rattle.std.specs.Prelude.{◌≡◌, ◌<◌, ◌≤◌, ◌^◌};
-ghost use Rattle.image_layout.specs.Places.{most_depth};
-ghost use Rattle.directory_op.specs.Places.{entries_of, entry_word, run_of, side_first, side_last, live_head};
+ghost use Rattle.std.specs.Prelude.{◌≡◌, ◌<◌, ◌≤◌};
+ghost use Rattle.image_layout.specs.Places.{entries_of, most_depth};
+ghost use Rattle.directory_op.specs.Places.{entries_there, entry_word, run_of, side_first, side_last, live_head};
 
-use image_layout::{Geometry, MOST_DEPTH, ROOT_WORD};
+use image_layout::{Geometry, MOST_DEPTH, ROOT_WORD, entries_of};
 use segment_head::split::with_state;
 use segment_head::word::{NORMAL, depth_of, pattern_of};
 
 /// How many entries the area of a depth has; no area is deeper than an image allows.
-pub fn entries(depth: u64) -> u64
-    ensures is { result ≡ entries_of depth }
-    ensures most { result ≤ 2 ^ most_depth }
+pub fn entries_there(depth: u64) -> u64
+    ensures is { result ≡ entries_there depth }
+    ensures most { result ≤ entries_of most_depth }
 {
-    if depth <= MOST_DEPTH { 1 << depth } else { 0 }
+    if depth <= MOST_DEPTH {
+        entries_of(depth)
+    } else {
+        0
+    }
 }
 
 /// The word of an entry; an area or an entry that the image has not gives the root's word.
 pub fn entry_word(geometry: &Geometry, depth: u64, index: u64) -> u64
     ensures { result ≡ entry_word geometry.now depth index }
 {
-    if depth <= geometry.depth() && index < entries(depth) {
+    if depth <= geometry.depth() && index < entries_there(depth) {
         geometry.entry_at(depth, index)
     } else {
         ROOT_WORD
@@ -30,9 +34,9 @@ pub fn entry_word(geometry: &Geometry, depth: u64, index: u64) -> u64
 /// How many entries of a root's depth a segment with this header has.
 fn run(root: u64, head: u64) -> u64
     ensures is { result ≡ run_of root head }
-    ensures most { result ≤ 2 ^ most_depth }
+    ensures most { result ≤ entries_of most_depth }
 {
-    entries(root.saturating_sub(u64::from(depth_of(head))))
+    entries_there(root.saturating_sub(u64::from(depth_of(head))))
 }
 
 /// The first of them.
@@ -47,7 +51,7 @@ pub fn side_last(root: u64, head: u64) -> u64
     ensures { result ≡ side_last root head }
 {
     let end = (u64::from(pattern_of(head)) + 1) * run(root, head);
-    end.min(entries(root)).saturating_sub(1)
+    end.min(entries_there(root)).saturating_sub(1)
 }
 
 /// The header of a normal segment, which is else as this one.

@@ -10,7 +10,7 @@ use anyhow::Result;
 use bucket_meta::words::SLOTS;
 use image_file::Medium;
 use image_layout::{BUCKETS, Geometry, HOMES};
-use picture::{entries, entry, filled, header_of, root_depth, stashed};
+use picture::{entries_of, entry, filled, header_of, root_depth, stashed};
 use std::io::Print;
 
 /// The edge of a square and the height of a row.
@@ -47,7 +47,7 @@ fn print_directory<R: Print>(rt: &R, geometry: &Geometry, words: &[u64]) -> Resu
     requires { IsSoundImage geometry.now words.now }
 {
     let depth = root_depth(geometry, words);
-    for i in 0..entries(depth) {
+    for i in 0..entries_of(depth) {
         print_entry(rt, i, entry(geometry, words, depth, i))?;
     }
     Ok(())
@@ -58,7 +58,7 @@ fn directory_height(geometry: &Geometry, words: &[u64]) -> u64
     requires { IsSoundImage geometry.now words.now }
     ensures { result ≤ 20000 }
 {
-    EDGE * (entries(root_depth(geometry, words)) / BESIDE + 1) + 8
+    EDGE * (entries_of(root_depth(geometry, words)) / BESIDE + 1) + 8
 }
 
 /// The left edge of bucket `b`: behind the home buckets there is room of one.

@@ -8,7 +8,7 @@ ghost use Rattle.sound_image.specs.Image.{IsSoundImage};
 use anyhow::Result;
 use image_file::{Medium, check};
 use image_layout::{BUCKETS, Geometry, HOMES};
-use picture::{all_stashed, entries, entry, filled, header_of, root_depth, sign};
+use picture::{all_stashed, entries_of, entry, filled, header_of, root_depth, sign};
 use std::io::Print;
 
 /// The line of an image: what `check` counts.
@@ -34,7 +34,7 @@ fn print_directory<R: Print>(rt: &R, geometry: &Geometry, words: &[u64]) -> Resu
 {
     let depth = root_depth(geometry, words);
     print!(rt; "directory of depth {depth}:")?;
-    for i in 0..entries(depth) {
+    for i in 0..entries_of(depth) {
         let slot = entry(geometry, words, depth, i);
         print!(rt; " {slot}")?;
     }

@@ -3,7 +3,7 @@ use Rattle.std.specs.Prelude.{◌≡◌, ◌≢◌, ℕ, ◌^◌, ◌<◌, ◌�
 use Rattle.trace.specs.Events.{Words}
 use Rattle.hash_word.specs.Hash.{Covers}
 use Rattle.segment_head.specs.HeadWord.{version_in, free, splitting, fresh, link_to}
-use Rattle.image_layout.specs.Places.{Shape, root_word, entry_at}
+use Rattle.image_layout.specs.Places.{Shape, root_word, entries_of, entry_at}
 use Rattle.bucket_words.specs.Segments.{Frame, frame_of, state_at, depth_at, pattern_at, side_depth_at, side_pattern_at, IsLive}
 use Rattle.bucket_words.specs.Claims.{ClaimsAll, ClaimsNone, named_for}
 use Rattle.bucket_words.specs.Media.{first_hash}
@@ -70,7 +70,7 @@ module _ (shape : Shape) (version : ℕ) (words : Words) where
   HoldsFact (Lives s) medium = IsLiveSlot (frame_of shape medium) s
   HoldsFact (Current s) medium = IsCurrentSlot (frame_of shape words) version s
   HoldsFact (Rooted e) medium =
-      (e ≤ words root_word) × ((i : ℕ) → i < 2 ^ e → IsLiveSlot (frame_of shape medium) (words (entry_at e i)))
+      (e ≤ words root_word) × ((i : ℕ) → i < entries_of e → IsLiveSlot (frame_of shape medium) (words (entry_at e i)))
   HoldsFact (Owns s d p) medium = ClaimsAll (frame_of shape medium) s d p
   HoldsFact (Lacks s d p) medium = IsLiveSlot (frame_of shape medium) s × ClaimsNone (frame_of shape medium) s d p
   HoldsFact (Deep f d p) medium = NamesDeeper (frame_of shape medium) f d p

@@ -3,7 +3,7 @@ use Rattle.std.specs.Prelude.{◌≡◌, ℕ, ◌^◌, ◌<◌, ◌≤◌, ⊤}
 use Rattle.trace.specs.Events.{Words, with_word}
 use Rattle.hash_word.specs.Hash.{Covers}
 use Rattle.segment_head.specs.HeadWord.{version_in}
-use Rattle.image_layout.specs.Places.{Shape, IsShape, root_word, entry_at, header_word, link_word}
+use Rattle.image_layout.specs.Places.{Shape, IsShape, root_word, entries_of, entry_at, header_word, link_word}
 use Rattle.bucket_words.specs.Segments.{Frame, frame_of, InOneSide}
 use Rattle.bucket_words.specs.Claims.{HasSoundFrame}
 use Rattle.bucket_words.specs.Stores.{StoreKeeps}
@@ -35,7 +35,7 @@ KeepsVersion shape version s x word = version_in (word (header_word shape s)) �
 
 -- an entry of an area that a root has come to: a fact speaks of these, the areas above are nobody's yet
 abbrev pub IsEntry : Words → ℕ → Type 0
-IsEntry words i = (e : ℕ) × (k : ℕ) × (e ≤ words root_word) × (k < 2 ^ e) × (i ≡ entry_at e k)
+IsEntry words i = (e : ℕ) × (k : ℕ) × (e ≤ words root_word) × (k < entries_of e) × (i ≡ entry_at e k)
 
 -- a fact that is no claim of segment s to a hash of its 1-side
 abbrev pub ClaimsNoneOfSide : Frame → ℕ → Fact → Type 0

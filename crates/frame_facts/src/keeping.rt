@@ -1,8 +1,8 @@
 //! What stores keep of facts. The functions do nothing: each stands for the law that its contract says.
 
-ghost use Rattle.std.specs.Prelude.{◌≡◌, ◌≢◌, ℕ, ◌+◌, ◌^◌, ◌<◌, ◌≤◌};
+ghost use Rattle.std.specs.Prelude.{◌≡◌, ◌≢◌, ℕ, ◌+◌, ◌<◌, ◌≤◌};
 ghost use Rattle.trace.specs.Events.{Words, with_word};
-ghost use Rattle.image_layout.specs.Places.{Shape, most_depth, root_word, entry_at, header_word, link_word, bucket_at, block, buckets};
+ghost use Rattle.image_layout.specs.Places.{Shape, most_depth, root_word, entries_of, entry_at, header_word, link_word, bucket_at, block, buckets};
 ghost use Rattle.bucket_words.specs.Segments.{Frame, frame_of};
 ghost use Rattle.bucket_words.specs.Claims.{IsSoundFrame};
 ghost use Rattle.bucket_words.specs.Stores.{TakesSlot, FreesSlot, Links, BeginsSplit, GoesLive, NamesClaimer, NamesSide, EndsSplit, DropsSplit, Renews};
@@ -68,7 +68,7 @@ pub fn other_stores_keep_facts()
     ensures apart { (shape : Shape) (version : ℕ) (words medium : Words) → AreSound shape words medium → (i x : ℕ)
         → Both words medium (λ word. IsFrameWord shape word i → ⊥) → (IsEntry words i → ⊥) → KeepsFacts shape version words medium i x }
     ensures areas { (shape : Shape) (version : ℕ) (words medium : Words) → AreSound shape words medium → HaveOneRoot shape words medium → (e i x : ℕ)
-        → words root_word < e → e ≤ shape.depth → i < 2 ^ e → KeepsFacts shape version words medium (entry_at e i) x }
+        → words root_word < e → e ≤ shape.depth → i < entries_of e → KeepsFacts shape version words medium (entry_at e i) x }
     ensures buckets { (shape : Shape) (version : ℕ) (words medium : Words) → AreSound shape words medium → (s b n x : ℕ) → b < buckets → n < block
         → KeepsFacts shape version words medium (bucket_at shape s b + n) x }
 {}

@@ -1,10 +1,10 @@
 //! How facts are learned, and what they depend on. The functions do nothing: each stands for the law that its contract says.
 
-ghost use Rattle.std.specs.Prelude.{◌≡◌, ℕ, ◌+◌, ◌^◌, ◌<◌, ◌≤◌};
+ghost use Rattle.std.specs.Prelude.{◌≡◌, ℕ, ◌+◌, ◌<◌, ◌≤◌};
 ghost use Rattle.trace.specs.Events.{Words, with_word};
 ghost use Rattle.hash_word.specs.Hash.{hash_bits, place_over};
 ghost use Rattle.segment_head.specs.HeadWord.{HasLiveState, version_in, normal};
-ghost use Rattle.image_layout.specs.Places.{Shape, IsShape, root_word, entry_at, header_word};
+ghost use Rattle.image_layout.specs.Places.{Shape, IsShape, root_word, entries_of, entry_at, header_word};
 ghost use Rattle.bucket_words.specs.Segments.{frame_of, state_at, depth_at, pattern_at, side_depth_at, side_pattern_at, IsReadySide, HasReadySide};
 ghost use Rattle.bucket_words.specs.Claims.{IsSideEntry, HasSoundFrame};
 ghost use Rattle.bucket_words.specs.Media.{first_hash, IsSteady};
@@ -66,7 +66,7 @@ pub fn regions_have_parts()
     ensures deep { (shape : Shape) (version : ℕ) (words medium : Words) (f d k p q : ℕ) → d + k ≤ hash_bits → place_over k q ≡ p
         → HoldsFact shape version words (Deep f d p) medium → HoldsFact shape version words (Deep f (d + k) q) medium }
     ensures joined { (shape : Shape) (version : ℕ) (words medium : Words) (f d k p : ℕ) → d + k ≤ hash_bits
-        → ((q : ℕ) → q < 2 ^ (d + k) → place_over k q ≡ p → HoldsFact shape version words (Deep f (d + k) q) medium) → HoldsFact shape version words (Deep f d p) medium }
+        → ((q : ℕ) → q < entries_of (d + k) → place_over k q ≡ p → HoldsFact shape version words (Deep f (d + k) q) medium) → HoldsFact shape version words (Deep f d p) medium }
 {}
 
 /// The root tells that what its area's entries name lives, if what lives now lives in the medium; such an entry tells a live segment, and
@@ -74,7 +74,7 @@ pub fn regions_have_parts()
 pub fn entries_tell()
     ensures root { (shape : Shape) (version : ℕ) (words medium : Words) → IsShape shape → HasSoundFrame shape words
         → ((s : ℕ) → IsLiveSlot (frame_of shape words) s → IsLiveSlot (frame_of shape medium) s) → HoldsFact shape version words (Rooted (words root_word)) medium }
-    ensures lives { (shape : Shape) (version : ℕ) (words medium : Words) (e i : ℕ) → HoldsFact shape version words (Rooted e) medium → i < 2 ^ e
+    ensures lives { (shape : Shape) (version : ℕ) (words medium : Words) (e i : ℕ) → HoldsFact shape version words (Rooted e) medium → i < entries_of e
         → HoldsFact shape version words (Lives (words (entry_at e i))) medium }
     ensures deep { (shape : Shape) (version : ℕ) (words medium : Words) (f i : ℕ) → f < depth_at (frame_of shape medium) (medium (entry_at (medium root_word) i))
         → HoldsFact shape version words (Deep f (medium root_word) i) medium }
@@ -101,10 +101,10 @@ pub fn facts_allow_stores()
         → HoldsFact shape version words
         (Deep (depth_at (frame_of shape medium) s) (side_depth_at (frame_of shape medium) s) (side_pattern_at (frame_of shape medium) s)) medium
         → EntriesAreDeep (frame_of shape medium) s }
-    ensures claimer { (shape : Shape) (version : ℕ) (words medium : Words) (n d k p i : ℕ) → medium root_word ≡ d + k → d + k ≤ hash_bits → i < 2 ^ medium root_word → place_over k i ≡ p
+    ensures claimer { (shape : Shape) (version : ℕ) (words medium : Words) (n d k p i : ℕ) → medium root_word ≡ d + k → d + k ≤ hash_bits → i < entries_of (medium root_word) → place_over k i ≡ p
         → HoldsFact shape version words (Owns n d p) medium → NamesClaimer (frame_of shape medium) i n }
     ensures side { (shape : Shape) (version : ℕ) (words medium : Words) → IsShape shape → HasSoundFrame shape medium → (s n i b : ℕ)
-        → IsReadySide (frame_of shape medium) s n → s < shape.segments → i < 2 ^ medium root_word → IsSideEntry (frame_of shape medium) s i
+        → IsReadySide (frame_of shape medium) s n → s < shape.segments → i < entries_of (medium root_word) → IsSideEntry (frame_of shape medium) s i
         → HoldsFact shape version words (Begins (medium (entry_at (medium root_word) i)) b) medium → b ≤ first_hash (frame_of shape medium) s
         → NamesSide (frame_of shape medium) s n i }
 {}

@@ -1,7 +1,7 @@
 -- The words of an image by what they are for, and that no two parts share a word.
-use Rattle.std.specs.Prelude.{◌≡◌, ℕ, ◌+◌, ◌^◌, ◌<◌, ◌≤◌}
+use Rattle.std.specs.Prelude.{◌≡◌, ℕ, ◌+◌, ◌<◌, ◌≤◌}
 use Rattle.bucket_meta.specs.Bucket.{record_slots, first_key}
-use Rattle.image_layout.specs.Places.{Shape, block, buckets, entry_at, head_at, bucket_at, key_at, value_at, words_of}
+use Rattle.image_layout.specs.Places.{Shape, block, buckets, entries_of, entry_at, head_at, bucket_at, key_at, value_at, words_of}
 
 -- what a word of an image is for
 pub data Part : Type 0 where
@@ -21,7 +21,7 @@ pub data Part : Type 0 where
 -- an image of this shape has the part
 abbrev pub HasPart : Shape → Part → Type 0
 HasPart shape (front w) = w < block
-HasPart shape (entry e i) = (e ≤ shape.depth) × (i < 2 ^ e)
+HasPart shape (entry e i) = (e ≤ shape.depth) × (i < entries_of e)
 HasPart shape (head s w) = (s < shape.segments) × (w < block)
 HasPart shape (meta s b w) = (s < shape.segments) × (b < buckets) × (w < first_key)
 HasPart shape (key s b r) = (s < shape.segments) × (b < buckets) × (r < record_slots)

@@ -128,9 +128,13 @@ root_word = 8
 abbrev pub state_word : ℕ
 state_word = 16
 
+-- how many entries the directory area of a depth has
+abbrev pub entries_of : ℕ → ℕ
+entries_of depth = 2 ^ depth
+
 -- entry i of the directory area of depth e: the areas follow one another from word 32 on, depth 0 first
 abbrev pub entry_at : ℕ → ℕ → ℕ
-entry_at e i = block + 2 ^ e - 1 + i
+entry_at e i = block + entries_of e - 1 + i
 
 -- two to the power of one more than the greatest depth, written out: the areas of the largest image have one entry less
 abbrev pub most_power : ℕ
@@ -138,7 +142,7 @@ most_power = 131072
 
 -- the first segment begins at the next whole block behind the areas
 abbrev pub first_segment : Shape → ℕ
-first_segment shape = (block + 2 ^ (shape.depth + 1) - 1 + (block - 1)) / block * block
+first_segment shape = (block + entries_of (shape.depth + 1) - 1 + (block - 1)) / block * block
 
 -- the first word of the header of the segment in slot s
 abbrev pub head_at : Shape → ℕ → ℕ

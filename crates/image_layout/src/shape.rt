@@ -2,7 +2,7 @@
 
 ghost use Rattle.std.specs.Prelude.{◌≡◌, ◌<◌, ◌≤◌, ◌+◌, ◌*◌, ◌%◌, ◌^◌, IfOk, IfErr};
 ghost use Rattle.image_layout.specs.Volatile.{counter_word, power_word, allocation_guard, directory_guard, segment_guard, all_words_of, power_from, allocation_from, directory_from, guards_from};
-ghost use Rattle.image_layout.specs.Places.{IsShape, first_segment, words_of, entry_at, head_at, header_word, link_word, bucket_at, block, homes, stash_buckets, buckets, segment_words, most_power, first_segment_of_largest, most_words, most_segments, most_depth, most_kind};
+ghost use Rattle.image_layout.specs.Places.{IsShape, first_segment, words_of, entry_at, head_at, header_word, link_word, bucket_at, block, homes, stash_buckets, buckets, segment_words, most_power, first_segment_of_largest, most_words, most_segments, most_depth, most_kind, entries_of};
 
 use bucket_meta::words::{BUCKET_WORDS, SECOND_STASH_INDEX, SLOTS, STASH_INDICES};
 use hash_word::{HOMES, MOST_DEPTH};
@@ -108,14 +108,15 @@ impl fmt::Display for GeoFault {
 
 impl Error for GeoFault {}
 
-/// Two to the power `e`, which is at most one more than the greatest depth: how many entries the directory area of depth `e` has.
-pub fn power_of_two(e: u64) -> u64
-    requires { e ≤ most_depth + 1 }
-    ensures is { result ≡ 2 ^ e }
+/// How many entries the directory area of a depth has, which is at most one more than the greatest depth: all areas together have one
+/// entry less than the area behind them would have.
+pub fn entries_of(depth: u64) -> u64
+    requires { depth ≤ most_depth + 1 }
+    ensures is { result ≡ entries_of depth }
     ensures some { 1 ≤ result }
     ensures most { result ≤ most_power }
 {
-    1 << e
+    1 << depth
 }
 
 /// How an image is laid out: three numbers, all in range.
@@ -204,13 +205,13 @@ impl Geometry {
         ensures is { result ≡ first_segment self.now }
         ensures most { result ≤ first_segment_of_largest }
     {
-        (BLOCK + power_of_two(self.depth + 1) - 1).next_multiple_of(BLOCK)
+        (BLOCK + entries_of(self.depth + 1) - 1).next_multiple_of(BLOCK)
     }
 
     /// The word of entry `i`, below 2^e, of the directory area of depth `e`.
     pub fn entry_at(&self, e: u64, i: u64) -> u64
         requires depth { e ≤ self.now.depth }
-        requires index { i < 2 ^ e }
+        requires index { i < entries_of e }
         ensures is { result ≡ entry_at e i }
         ensures from { block ≤ result }
         ensures within { result < first_segment self.now }
@@ -218,7 +219,7 @@ impl Geometry {
         ensures most { result < first_segment_of_largest }
     {
         let _ = &self.depth;
-        BLOCK + power_of_two(e) - 1 + i
+        BLOCK + entries_of(e) - 1 + i
     }
 
     /// The first of the 32 words of the header of the segment in this slot.

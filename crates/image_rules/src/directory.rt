@@ -1,7 +1,7 @@
 //! Rule 3: each entry of the directory leads to the owner of its hashes.
 
-ghost use Rattle.std.specs.Prelude.{◌≡◌, ℕ, ◌+◌, ◌^◌, ◌<◌, ◌≤◌, ◌↔◌, IfSome, IfNone, IsTrue, length, slice_index};
-ghost use Rattle.image_layout.specs.Places.{words_of, root_word, most_depth};
+ghost use Rattle.std.specs.Prelude.{◌≡◌, ℕ, ◌+◌, ◌<◌, ◌≤◌, ◌↔◌, IfSome, IfNone, IsTrue, length, slice_index};
+ghost use Rattle.image_layout.specs.Places.{words_of, root_word, entries_of, most_depth};
 ghost use Rattle.sound_image.specs.Segments.{frame_of, LeadsToOwner};
 ghost use Rattle.sound_image.specs.Directory.{EntryLeads};
 ghost use Rattle.sound_image.specs.Rules.{EntriesLead};
@@ -11,7 +11,7 @@ ghost use Rattle.image_rules.specs.Steps.{IsStep};
 
 use crate::heads::{is_live, prefix_of, ready_side};
 use hash_word::{covers, first_hash_of};
-use image_layout::{Geometry, ROOT_WORD, power_of_two};
+use image_layout::{Geometry, ROOT_WORD, entries_of};
 use segment_head::prefix::in_one_side;
 
 /// Where a hash is looked for after a segment.
@@ -82,7 +82,7 @@ fn root_of(geometry: &Geometry, words: &[u64]) -> u64
 fn entry_leads(geometry: &Geometry, words: &[u64], i: u64) -> bool
     requires whole { length words.now ≡ words_of geometry.now }
     requires divided { IsDivided geometry.now (slice_index words.now) }
-    requires entry { i < 2 ^ slice_index words.now root_word }
+    requires entry { i < entries_of (slice_index words.now root_word) }
     ensures { IsTrue result ↔ EntryLeads (frame_of geometry.now (slice_index words.now)) i }
 {
     let root = root_of(geometry, words);
@@ -98,7 +98,7 @@ pub(crate) fn rule_three(geometry: &Geometry, words: &[u64]) -> Option<u64>
     ensures some { IfSome result (λ w. IsLeast (EntriesLead geometry.now (slice_index words.now)) w) }
 {
     let root = root_of(geometry, words);
-    for i in 0..power_of_two(root) {
+    for i in 0..entries_of(root) {
         if !entry_leads(geometry, words, i) {
             return Some(geometry.entry_at(root, i));
         }

@@ -4,7 +4,7 @@
 
 ghost use Rattle.std.specs.Prelude.{◌≡◌, ◌≢◌, ℕ, ◌+◌, ◌-◌, ◌^◌, ◌<◌, ◌≤◌, ◌↔◌, IfOk, IfSome, IfNone, IsTrue, length, slice_index, slice_set};
 ghost use Rattle.hash_word.specs.Hash.{first_under, place_over};
-ghost use Rattle.image_layout.specs.Places.{words_of, root_word, entry_at, most_depth};
+ghost use Rattle.image_layout.specs.Places.{words_of, root_word, entries_of, entry_at, most_depth};
 ghost use Rattle.sound_image.specs.Segments.{frame_of, IsLive};
 ghost use Rattle.sound_image.specs.Directory.{OwnsItsPart, SharesWell};
 ghost use Rattle.sound_image.specs.Rules.{HashesAreOwned};
@@ -13,7 +13,7 @@ ghost use Rattle.image_rules.specs.Divided.{IsNumbered};
 ghost use Rattle.image_rules.specs.Leaves.{IsUnder, AreRaised, AreDeepest, AreSeen, HasTwin, ShareWellBelow, IsFirstAtFault};
 
 use crate::heads::{is_live, prefix_of, ready_side};
-use image_layout::{Geometry, ROOT_WORD, power_of_two};
+use image_layout::{Geometry, ROOT_WORD, entries_of};
 use map_model::NoMemory;
 use segment_head::prefix::{Prefix, one_side_of, zero_side_of};
 use std::alloc::Global;
@@ -24,15 +24,15 @@ fn first_leaf(greatest: u8, depth: u8, pattern: usize) -> usize
     requires depth { depth ≤ greatest }
     requires pattern { pattern ≤ 2 ^ depth }
     ensures is { result ≡ first_under greatest depth pattern }
-    ensures most { result ≤ 2 ^ greatest }
+    ensures most { result ≤ entries_of greatest }
 {
-    pattern * power_of_two((greatest - depth) as u64) as usize
+    pattern * entries_of((greatest - depth) as u64) as usize
 }
 
 /// Raises the leaves under a prefix to one more than its depth, where they are lower.
 fn raise(leaves: &mut [u8], greatest: u8, prefix: Prefix)
     requires greatest { greatest ≤ most_depth }
-    requires leaves { length leaves.old ≡ 2 ^ greatest }
+    requires leaves { length leaves.old ≡ entries_of greatest }
     requires depth { prefix.depth ≤ greatest }
     requires pattern { prefix.pattern < 2 ^ prefix.depth }
     ensures { AreRaised greatest prefix (prefix.depth + 1) leaves.old leaves.new }
@@ -49,7 +49,7 @@ fn raise(leaves: &mut [u8], greatest: u8, prefix: Prefix)
 /// Whether each leaf under a prefix has this number.
 fn all_have(leaves: &[u8], greatest: u8, prefix: Prefix, n: u8) -> bool
     requires greatest { greatest ≤ most_depth }
-    requires leaves { length leaves.now ≡ 2 ^ greatest }
+    requires leaves { length leaves.now ≡ entries_of greatest }
     requires depth { prefix.depth ≤ greatest }
     requires pattern { prefix.pattern < 2 ^ prefix.depth }
     ensures { IsTrue result ↔ ((l : ℕ) → IsUnder greatest prefix l → slice_index leaves.now l ≡ n) }
@@ -67,7 +67,7 @@ fn all_have(leaves: &[u8], greatest: u8, prefix: Prefix, n: u8) -> bool
 /// Whether no leaf under a prefix has this number.
 fn none_has(leaves: &[u8], greatest: u8, prefix: Prefix, n: u8) -> bool
     requires greatest { greatest ≤ most_depth }
-    requires leaves { length leaves.now ≡ 2 ^ greatest }
+    requires leaves { length leaves.now ≡ entries_of greatest }
     requires depth { prefix.depth ≤ greatest }
     requires pattern { prefix.pattern < 2 ^ prefix.depth }
     ensures { IsTrue result ↔ ((l : ℕ) → IsUnder greatest prefix l → slice_index leaves.now l ≢ n) }
@@ -100,14 +100,14 @@ fn first_bare(leaves: &[u8]) -> Option<usize>
 /// Notes that a live segment has this prefix, and says whether it was noted before.
 fn see(nodes: &mut [u8], greatest: u8, prefix: Prefix) -> bool
     requires greatest { greatest ≤ most_depth }
-    requires nodes { length nodes.old ≡ 2 ^ (greatest + 1) }
+    requires nodes { length nodes.old ≡ entries_of (greatest + 1) }
     requires depth { prefix.depth ≤ greatest }
     requires pattern { prefix.pattern < 2 ^ prefix.depth }
     ensures seen { IsTrue result ↔ (slice_index nodes.old (2 ^ prefix.depth + prefix.pattern) ≡ 1) }
     ensures noted { nodes.new ≡ slice_set nodes.old (2 ^ prefix.depth + prefix.pattern) 1 }
     ensures within { 2 ^ prefix.depth + prefix.pattern < length nodes.old }
 {
-    let node = power_of_two(prefix.depth as u64) as usize + prefix.pattern as usize;
+    let node = entries_of(prefix.depth as u64) as usize + prefix.pattern as usize;
     let seen = nodes[node] == 1;
     nodes[node] = 1;
     seen
@@ -119,7 +119,7 @@ fn see_segment(nodes: &mut [u8], geometry: &Geometry, words: &[u64], s: u64) -> 
     requires numbered { IsNumbered geometry.now (slice_index words.now) }
     requires slot { s < geometry.now.segments }
     requires live { IsLive (frame_of geometry.now (slice_index words.now)) s }
-    requires nodes { length nodes.old ≡ 2 ^ (geometry.now.depth + 1) }
+    requires nodes { length nodes.old ≡ entries_of (geometry.now.depth + 1) }
     requires seen { AreSeen (frame_of geometry.now (slice_index words.now)) geometry.now.depth s nodes.old }
     ensures twin { IsTrue result ↔ HasTwin (frame_of geometry.now (slice_index words.now)) s }
     ensures seen { AreSeen (frame_of geometry.now (slice_index words.now)) geometry.now.depth (s + 1) nodes.new }
@@ -134,8 +134,8 @@ fn add_segment(leaves: &mut [u8], nodes: &mut [u8], geometry: &Geometry, words: 
     requires whole { length words.now ≡ words_of geometry.now }
     requires numbered { IsNumbered geometry.now (slice_index words.now) }
     requires slot { s < geometry.now.segments }
-    requires leaves { length leaves.old ≡ 2 ^ geometry.now.depth }
-    requires nodes { length nodes.old ≡ 2 ^ (geometry.now.depth + 1) }
+    requires leaves { length leaves.old ≡ entries_of geometry.now.depth }
+    requires nodes { length nodes.old ≡ entries_of (geometry.now.depth + 1) }
     requires deepest { AreDeepest (frame_of geometry.now (slice_index words.now)) geometry.now.depth s leaves.old }
     requires seen { AreSeen (frame_of geometry.now (slice_index words.now)) geometry.now.depth s nodes.old }
     ensures deepest { AreDeepest (frame_of geometry.now (slice_index words.now)) geometry.now.depth (s + 1) leaves.new }
@@ -154,12 +154,12 @@ fn add_segment(leaves: &mut [u8], nodes: &mut [u8], geometry: &Geometry, words: 
 fn deepest(alloc: Global, geometry: &Geometry, words: &[u64]) -> Result<Vec<u8>, NoMemory>
     requires whole { length words.now ≡ words_of geometry.now }
     requires numbered { IsNumbered geometry.now (slice_index words.now) }
-    ensures leaves { IfOk result (λ leaves. length leaves.items ≡ 2 ^ geometry.now.depth) }
+    ensures leaves { IfOk result (λ leaves. length leaves.items ≡ entries_of geometry.now.depth) }
     ensures is { IfOk result (λ leaves. AreDeepest (frame_of geometry.now (slice_index words.now)) geometry.now.depth geometry.now.segments leaves.items) }
 {
     let greatest = geometry.depth() as u8;
-    let mut leaves = vec![in alloc; 0u8; power_of_two(greatest as u64) as usize]?;
-    let mut nodes = vec![in alloc; 0u8; power_of_two(greatest as u64 + 1) as usize]?;
+    let mut leaves = vec![in alloc; 0u8; entries_of(greatest as u64) as usize]?;
+    let mut nodes = vec![in alloc; 0u8; entries_of(greatest as u64 + 1) as usize]?;
     for s in 0..geometry.segments() {
         add_segment(&mut leaves, &mut nodes, geometry, words, s);
     }
@@ -172,7 +172,7 @@ fn owns_its_part(geometry: &Geometry, words: &[u64], leaves: &[u8], s: u64) -> b
     requires numbered { IsNumbered geometry.now (slice_index words.now) }
     requires slot { s < geometry.now.segments }
     requires live { IsLive (frame_of geometry.now (slice_index words.now)) s }
-    requires leaves { length leaves.now ≡ 2 ^ geometry.now.depth }
+    requires leaves { length leaves.now ≡ entries_of geometry.now.depth }
     requires deepest { AreDeepest (frame_of geometry.now (slice_index words.now)) geometry.now.depth geometry.now.segments leaves.now }
     ensures { IsTrue result ↔ OwnsItsPart (frame_of geometry.now (slice_index words.now)) s }
 {
@@ -192,9 +192,9 @@ fn shares_well(nodes: &mut [u8], leaves: &[u8], geometry: &Geometry, words: &[u6
     requires whole { length words.now ≡ words_of geometry.now }
     requires numbered { IsNumbered geometry.now (slice_index words.now) }
     requires slot { s < geometry.now.segments }
-    requires leaves { length leaves.now ≡ 2 ^ geometry.now.depth }
+    requires leaves { length leaves.now ≡ entries_of geometry.now.depth }
     requires deepest { AreDeepest (frame_of geometry.now (slice_index words.now)) geometry.now.depth geometry.now.segments leaves.now }
-    requires nodes { length nodes.old ≡ 2 ^ (geometry.now.depth + 1) }
+    requires nodes { length nodes.old ≡ entries_of (geometry.now.depth + 1) }
     requires seen { AreSeen (frame_of geometry.now (slice_index words.now)) geometry.now.depth s nodes.old }
     ensures shares { IsTrue result ↔ (IsLive (frame_of geometry.now (slice_index words.now)) s → SharesWell (frame_of geometry.now (slice_index words.now)) s) }
     ensures seen { AreSeen (frame_of geometry.now (slice_index words.now)) geometry.now.depth (s + 1) nodes.new }
@@ -223,9 +223,9 @@ fn first_at_fault(
 ) -> Option<u64>
     requires whole { length words.now ≡ words_of geometry.now }
     requires numbered { IsNumbered geometry.now (slice_index words.now) }
-    requires leaves { length leaves.now ≡ 2 ^ geometry.now.depth }
+    requires leaves { length leaves.now ≡ entries_of geometry.now.depth }
     requires deepest { AreDeepest (frame_of geometry.now (slice_index words.now)) geometry.now.depth geometry.now.segments leaves.now }
-    requires nodes { length nodes.old ≡ 2 ^ (geometry.now.depth + 1) }
+    requires nodes { length nodes.old ≡ entries_of (geometry.now.depth + 1) }
     requires seen { AreSeen (frame_of geometry.now (slice_index words.now)) geometry.now.depth 0 nodes.old }
     ensures some { IfSome result (λ s. IsFirstAtFault (frame_of geometry.now (slice_index words.now)) s) }
     ensures none { IfNone result (ShareWellBelow (frame_of geometry.now (slice_index words.now)) geometry.now.segments) }
@@ -242,7 +242,7 @@ fn first_at_fault(
 fn entry_over(geometry: &Geometry, words: &[u64], leaf: usize) -> u64
     requires whole { length words.now ≡ words_of geometry.now }
     requires numbered { IsNumbered geometry.now (slice_index words.now) }
-    requires leaf { leaf < 2 ^ geometry.now.depth }
+    requires leaf { leaf < entries_of geometry.now.depth }
     ensures { result ≡ entry_at (slice_index words.now root_word) (place_over (geometry.now.depth - slice_index words.now root_word) leaf) }
 {
     let root = words[ROOT_WORD as usize];
@@ -254,9 +254,9 @@ fn entry_over(geometry: &Geometry, words: &[u64], leaf: usize) -> u64
 fn first_unowned(nodes: &mut [u8], leaves: &[u8], geometry: &Geometry, words: &[u64]) -> Option<u64>
     requires whole { length words.now ≡ words_of geometry.now }
     requires numbered { IsNumbered geometry.now (slice_index words.now) }
-    requires leaves { length leaves.now ≡ 2 ^ geometry.now.depth }
+    requires leaves { length leaves.now ≡ entries_of geometry.now.depth }
     requires deepest { AreDeepest (frame_of geometry.now (slice_index words.now)) geometry.now.depth geometry.now.segments leaves.now }
-    requires nodes { length nodes.old ≡ 2 ^ (geometry.now.depth + 1) }
+    requires nodes { length nodes.old ≡ entries_of (geometry.now.depth + 1) }
     requires seen { AreSeen (frame_of geometry.now (slice_index words.now)) geometry.now.depth 0 nodes.old }
     ensures none { IfNone result ((w : ℕ) → HashesAreOwned geometry.now (slice_index words.now) w) }
     ensures some { IfSome result (λ w. IsLeast (HashesAreOwned geometry.now (slice_index words.now)) w) }
@@ -286,6 +286,6 @@ pub(crate) fn rule_two(
     ensures some { IfOk result (λ found. IfSome found (λ w. IsLeast (HashesAreOwned geometry.now (slice_index words.now)) w)) }
 {
     let leaves = deepest(alloc, geometry, words)?;
-    let mut nodes = vec![in alloc; 0u8; power_of_two(geometry.depth() + 1) as usize]?;
+    let mut nodes = vec![in alloc; 0u8; entries_of(geometry.depth() + 1) as usize]?;
     Ok(first_unowned(&mut nodes, &leaves, geometry, words))
 }

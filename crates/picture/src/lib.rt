@@ -1,4 +1,4 @@
-//! What a picture of an image shows, taken from its words: [`root_depth`], [`entries`] and [`entry`] read the directory,
+//! What a picture of an image shows, taken from its words: [`root_depth`], [`entries_of`] and [`entry`] read the directory,
 //! [`header_of`] the header of a segment, and [`filled`], [`stashed`] and [`all_stashed`] count the records of buckets.
 //! [`sign`] shows such a count in one sign.
 #![tactic(auto)]
@@ -8,5 +8,6 @@ mod directory;
 mod header;
 
 pub use counts::{all_stashed, filled, sign, stashed};
-pub use directory::{entries, entry, root_depth};
+pub use directory::{entry, root_depth};
 pub use header::{Header, header_of};
+pub use image_layout::entries_of;

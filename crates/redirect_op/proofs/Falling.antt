@@ -14,7 +14,7 @@ use Rattle.rounds.specs.Left.{rounds_left}
 use Rattle.rounds.proofs.Events.{cases_wanted, none_stored}
 use Rattle.rounds.proofs.Wanted.{asked, asked_some}
 use Rattle.rounds.proofs.Falling.{step_most, few_is, few_below, few_most, few_less, fewer_stores, rounds_fall}
-use Rattle.directory_op.specs.Places.{entries_of, run_of, side_first}
+use Rattle.directory_op.specs.Places.{entries_there, run_of, side_first}
 use Rattle.directory_op.specs.Left.{most_entries, deepest_entries}
 use Rattle.directory_op.proofs.ends.Falling.{few_entries, entries_within, few_deepest}
 use Rattle.redirect_op.specs.declared.step.RedirectStep.{RedirectStep}
@@ -114,8 +114,8 @@ root_falls op n =
     let few = entries_within root (shape_of op) (least n (shape_of op).depth) in
     let some = some_deepest (shape_of op) in
     let head = side_head op.guarded.head in
-    let most = behind_few ((pattern_in head + 1) * run_of root head) (entries_of root) (side_first root head) in
-    by (entries_behind (rooted_at op root) (side_first root head)) (entries_of root) (deepest_entries (shape_of op)) most few some
+    let most = behind_few ((pattern_in head + 1) * run_of root head) (entries_there root) (side_first root head) in
+    by (entries_behind (rooted_at op root) (side_first root head)) (entries_there root) (deepest_entries (shape_of op)) most few some
   where
     least : (a b : ℕ) → min a b ≤ b
     least a b = omega arith
@@ -164,9 +164,9 @@ stores_most op stores = few_most op.rounds (rounds_left op.rounds stores) (3 * s
 behind_most : (op : RedirectOp) (index : ℕ) → suc (entries_behind op index) ≤ most_entries
 behind_most op index =
     let head = side_head op.guarded.head in
-    let most = behind_few ((pattern_in head + 1) * run_of op.root head) (entries_of op.root) index in
+    let most = behind_few ((pattern_in head + 1) * run_of op.root head) (entries_there op.root) index in
     let all = few_entries op.root in
-    by (entries_behind op index) (entries_of op.root) most_entries most all (omega arith)
+    by (entries_behind op index) (entries_there op.root) most_entries most all (omega arith)
   where
     by : (m e most : ℕ) → m ≤ e - 1 → e ≤ most → 1 ≤ most → suc m ≤ most
     by m e most low all some = omega (arith, low, all, some)

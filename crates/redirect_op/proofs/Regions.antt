@@ -17,7 +17,7 @@ use Rattle.segment_table.proofs.frames.SideEntries.{side_entry}
 use Rattle.segment_table.proofs.frames.SoundFrames.{first_covered, way_begins, live_low, nested, nested_side, side_covered}
 use Rattle.world.specs.areas.Repairing.{IsEntryOfSide}
 use Rattle.world.proofs.holders.repairing.SideEntries.{stands_in_row, side_later}
-use Rattle.directory_op.specs.Places.{entries_of, run_of, side_first, side_last}
+use Rattle.directory_op.specs.Places.{entries_there, run_of, side_first, side_last}
 use Rattle.directory_op.proofs.Words.{all_entries, doubled}
 use Rattle.redirect_op.specs.Steps.{side_head}
 
@@ -64,7 +64,7 @@ module _ (head root : ℕ) (deeper : depth_in head < root) (most : root ≤ most
   some_run = pow_pos (root - suc d)
 
   run_is : run_of root (side_head head) ≡ run
-  run_is = ap (λ n. entries_of (root - n)) side_deep ∙ all_entries (root - suc d) (let far = most in omega (arith, far))
+  run_is = ap (λ n. entries_there (root - n)) side_deep ∙ all_entries (root - suc d) (let far = most in omega (arith, far))
 
   first_is : first_entry ≡ pattern * run
   first_is = ap (λ n. pattern_in (side_head head) * n) run_is ∙ ap (λ n. n * run) side_region
@@ -79,8 +79,8 @@ module _ (head root : ℕ) (deeper : depth_in head < root) (most : root ≤ most
 
   last_is : last_entry ≡ (pattern + 1) * run - 1
   last_is =
-      ap (λ n. min ((pattern_in (side_head head) + 1) * n) (entries_of root) - 1) run_is
-      ∙ ap (λ n. min ((n + 1) * run) (entries_of root) - 1) side_region
+      ap (λ n. min ((pattern_in (side_head head) + 1) * n) (entries_there root) - 1) run_is
+      ∙ ap (λ n. min ((n + 1) * run) (entries_there root) - 1) side_region
       ∙ ap (λ n. min ((pattern + 1) * run) n - 1) (all_entries root most)
       ∙ least ((pattern + 1) * run) (2 ^ root) whole_area
     where

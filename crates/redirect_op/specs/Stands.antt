@@ -3,7 +3,7 @@ use Rattle.std.specs.Prelude.{◌≡◌, ◌≢◌, ℕ, ◌^◌, ◌<◌, ◌�
 use Rattle.trace.specs.Events.{HasLine}
 use Rattle.hash_word.specs.Hash.{first_hash_of}
 use Rattle.segment_head.specs.HeadWord.{depth_in, pattern_in}
-use Rattle.image_layout.specs.Places.{root_word, entry_at, words_of}
+use Rattle.image_layout.specs.Places.{root_word, entries_of, entry_at, words_of}
 use Rattle.frame_facts.specs.Facts.{Fact, Lives, Lacks, Deep, Begins}
 use Rattle.map_model.specs.declared.call.Call.{Call}
 use Rattle.world.specs.declared.site.Site.{Site}
@@ -113,7 +113,7 @@ module _ (site : Ground) (here : Site) (g : Guarded) where
     pub record LeadBelow (index : ℕ) (v : View) : Type 0 where
       pub rooted : IsRooted v
       pub behind : (j : ℕ) → j < index → IsOfSide j → LeadsBehind j v
-      pub loose : (p : ℕ × ℕ) → IsLoose v p → (j : ℕ) × (j < index) × (j < 2 ^ root) × (p.0 ≡ entry_at root j)
+      pub loose : (p : ℕ × ℕ) → IsLoose v p → (j : ℕ) × (j < index) × (j < entries_of root) × (p.0 ≡ entry_at root j)
 
     module _ (rounds : Rounds) where
       -- the rounds have touched lines of the image
@@ -129,7 +129,7 @@ module _ (site : Ground) (here : Site) (g : Guarded) where
 
       -- all lead into the side, and are to be settled
       pub record AreToSettle (v : View) : Type 0 where
-        pub below : LeadBelow (2 ^ root) v
+        pub below : LeadBelow (entries_of root) v
         pub in_rounds : StandsInRounds v
         pub open_round : rounds_wanted rounds None ≢ None
 
@@ -146,7 +146,7 @@ module _ (site : Ground) (here : Site) (call : Call) (op : RedirectOp) where
   SuitsStep (Head index slot) v = ComesNext site here op.guarded op.root op.rounds index v × Has (entry_at op.root index, slot) v.known × Has (Lives slot) v.facts
   SuitsStep (Store index) v = ComesNext site here op.guarded op.root op.rounds index v × LeadsPast site here op.guarded op.root index v
   SuitsStep Settle v = AreToSettle site here op.guarded op.root op.rounds v
-  SuitsStep Fence v = LeadBelow site here op.guarded op.root (2 ^ op.root) v × IsSettled v
+  SuitsStep Fence v = LeadBelow site here op.guarded op.root (entries_of op.root) v × IsSettled v
   SuitsStep GiveDirectory v = AreSettled site here op.guarded v
   SuitsStep (Give end) v = RunsHere site here op.guarded × IsBack end × HoldsGuard site op.guarded v
   SuitsStep (Ended end) v = SuitsEnd end v

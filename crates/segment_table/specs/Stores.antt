@@ -4,7 +4,7 @@ use Rattle.trace.specs.Events.{with_word}
 use Rattle.hash_word.specs.Hash.{index_of}
 use Rattle.segment_head.specs.HeadWord.{version_in, state_in, depth_in, pattern_in, free, normal, splitting, fresh, link_to, no_link, LinksWithin}
 use Rattle.segment_head.specs.Prefixes.{pattern_of_zero_side}
-use Rattle.sound_image.specs.Places.{Shape, root_word, state_word, entry_at, header_word, link_word}
+use Rattle.sound_image.specs.Places.{Shape, root_word, state_word, entries_of, entry_at, header_word, link_word}
 use Rattle.sound_image.specs.StateWord.{first_version}
 use Rattle.sound_image.specs.Segments.{ImageWords, Frame, frame_of, image_version, state_at, depth_at, pattern_at, side_depth_at, side_pattern_at, InOneSide, IsReadySide, HasReadySide}
 use Rattle.segment_table.specs.Claims.{Claims, named_for, IsSoundFrame}
@@ -84,7 +84,7 @@ module _ (frame : Frame) where
 
   -- AN ENTRY IN A SPLIT: the slot that it is to name claims each hash of the entry
   pub record NamesClaimer (i n : ℕ) : Type 0 where
-    pub index : i < 2 ^ frame.root
+    pub index : i < entries_of frame.root
     pub claims : (h : ℕ) → h < 2 ^ 64 → index_of frame.root h ≡ i → Claims frame n h
 
   -- AN ENTRY IN A REPAIR: it is to name the ready side n of s, all its hashes are in the 1-side of s, and it names no
@@ -92,7 +92,7 @@ module _ (frame : Frame) where
   pub record NamesSide (s n i : ℕ) : Type 0 where
     pub slot : s < frame.segments
     pub side : IsReadySide frame s n
-    pub index : i < 2 ^ frame.root
+    pub index : i < entries_of frame.root
     pub in_side : (h : ℕ) → h < 2 ^ 64 → index_of frame.root h ≡ i → InOneSide frame s h
     pub shallow : depth_at frame (frame.entry i) ≤ depth_at frame s
 
@@ -136,13 +136,13 @@ module _ (shape : Shape) (word : ImageWords) where
   -- THE ROOT, one deeper: there is room, and each entry of the area that is one deeper names what the entry above it names
   pub record Doubles : Type 0 where
     pub room : word root_word < shape.depth
-    pub filled : (i : ℕ) → i < 2 ^ (word root_word + 1) → word (entry_at (word root_word + 1) i) ≡ word (entry_at (word root_word) (i / 2))
+    pub filled : (i : ℕ) → i < entries_of (word root_word + 1) → word (entry_at (word root_word + 1) i) ≡ word (entry_at (word root_word) (i / 2))
 
   -- the words that the frame is read from: any other store leaves it as it is, so one to an entry of another area
   abbrev pub IsFrameWord : ℕ → Type 0
   IsFrameWord i =
       (i ≡ root_word) ⊎ (i ≡ state_word) ⊎ ((s : ℕ) × (s < shape.segments) × ((i ≡ header_word shape s) ⊎ (i ≡ link_word shape s)))
-      ⊎ ((e : ℕ) × (e < 2 ^ word root_word) × (i ≡ entry_at (word root_word) e))
+      ⊎ ((e : ℕ) × (e < entries_of (word root_word)) × (i ≡ entry_at (word root_word) e))
 
   -- a store keeps the claims
   abbrev pub StoreKeeps : ℕ → ℕ → Type 0

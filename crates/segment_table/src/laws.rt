@@ -3,7 +3,7 @@
 ghost use Rattle.std.specs.Prelude.{◌≡◌, ◌≢◌, ◌↔◌, ℕ, ◌+◌, ◌^◌, ◌<◌, ◌≤◌, Option, None, Some};
 ghost use Rattle.trace.specs.Events.{with_word};
 ghost use Rattle.hash_word.specs.Hash.{index_of, hash_bits, most_depth};
-ghost use Rattle.sound_image.specs.Places.{Shape, IsShape, block, buckets, root_word, state_word, entry_at, header_word, link_word, bucket_at, words_of};
+ghost use Rattle.sound_image.specs.Places.{Shape, IsShape, block, buckets, root_word, state_word, entries_of, entry_at, header_word, link_word, bucket_at, words_of};
 ghost use Rattle.sound_image.specs.Segments.{ImageWords, Frame, frame_of, depth_at, IsLive, CoversHash, IsLiveFor, Owns, InOneSide, IsReadySide, HasReadySide};
 ghost use Rattle.segment_table.specs.Claims.{Claims, ClaimsNoOneSide, ClaimsOneSide, IsSideEntry, IsSoundFrame, HasSoundFrame, FollowsFrameRules};
 ghost use Rattle.segment_table.specs.Owner.{owner};
@@ -110,7 +110,7 @@ pub fn versions_are_stored()
 pub fn other_words_are_apart()
     ensures apart { (shape : Shape) (word : ImageWords) → IsShape shape → HasSoundFrame shape word → (i x : ℕ) → (IsFrameWord shape word i → ⊥)
         → StoreKeeps shape word i x }
-    ensures areas { (shape : Shape) (word : ImageWords) → IsShape shape → HasSoundFrame shape word → (e i : ℕ) → e ≤ shape.depth → i < 2 ^ e → e ≢ word root_word
+    ensures areas { (shape : Shape) (word : ImageWords) → IsShape shape → HasSoundFrame shape word → (e i : ℕ) → e ≤ shape.depth → i < entries_of e → e ≢ word root_word
         → IsFrameWord shape word (entry_at e i) → ⊥ }
     ensures buckets { (shape : Shape) (word : ImageWords) → IsShape shape → HasSoundFrame shape word → (s b n : ℕ) → b < buckets → n < block
         → IsFrameWord shape word (bucket_at shape s b + n) → ⊥ }

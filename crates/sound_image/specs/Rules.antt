@@ -1,10 +1,10 @@
 -- The seven rules of a sound image, each said of single words: a rule says something of the words that it names,
 -- and nothing of others. So the word at which a rule is broken first is one word.
-use Rattle.std.specs.Prelude.{◌≡◌, ◌≢◌, ℕ, ◌+◌, ◌^◌, ◌<◌}
+use Rattle.std.specs.Prelude.{◌≡◌, ◌≢◌, ℕ, ◌+◌, ◌<◌}
 use Rattle.hash_word.specs.Hash.{finger_of}
 use Rattle.image_layout.specs.Bucket.{mark_place, fingers_place, rest_place, lock_bit, member, finger}
 use Rattle.segment_head.specs.HeadWord.{version_in, normal}
-use Rattle.image_layout.specs.Places.{Shape, homes, buckets, root_word, state_word, entry_at, header_word, link_word, bucket_at, key_at}
+use Rattle.image_layout.specs.Places.{Shape, homes, buckets, root_word, state_word, entries_of, entry_at, header_word, link_word, bucket_at, key_at}
 use Rattle.image_layout.specs.Standing.{StandsAt}
 use Rattle.sound_image.specs.Segments.{ImageWords, Frame, frame_of, image_version, IsClean, state_at, IsLive, Owns}
 use Rattle.sound_image.specs.Directory.{RootInRange, VersionInRange, HeadInRange, LinkInRange, HasOwners, SharesWell, EntryLeads, VersionIsPast}
@@ -71,12 +71,12 @@ module _ (shape : Shape) (word : ImageWords) where
 
   -- each hash has one owner, beside segments that are splitting it off
   pub record HashesAreOwned (w : ℕ) : Type 0 where
-    pub entry : (i : ℕ) → i < 2 ^ frame.root → w ≡ entry_at frame.root i → HasOwners frame i
+    pub entry : (i : ℕ) → i < entries_of frame.root → w ≡ entry_at frame.root i → HasOwners frame i
     pub head : (s : ℕ) → s < shape.segments → w ≡ header_word shape s → IsLive frame s → SharesWell frame s
 
   -- the entries of the directory lead to the owners
   abbrev pub EntriesLead : ℕ → Type 0
-  EntriesLead w = (i : ℕ) → i < 2 ^ frame.root → w ≡ entry_at frame.root i → EntryLeads frame i
+  EntriesLead w = (i : ℕ) → i < entries_of frame.root → w ≡ entry_at frame.root i → EntryLeads frame i
 
   -- a record in its owner stands where it is looked for, with its fingerprint
   abbrev pub RecordsStandRight : ℕ → Type 0

@@ -1,9 +1,9 @@
 //! The segment of a hash is found by three loads: of the root depth, of a directory entry and of a header.
 
-ghost use Rattle.std.specs.Prelude.{◌≡◌, ℕ, ◌+◌, ◌<◌, ◌≤◌, ◌^◌, None};
+ghost use Rattle.std.specs.Prelude.{◌≡◌, ℕ, ◌+◌, ◌<◌, ◌≤◌, None};
 ghost use Rattle.hash_word.specs.Hash.{index_of};
 ghost use Rattle.segment_head.specs.HeadWord.{HasLiveState};
-ghost use Rattle.image_layout.specs.Places.{root_word, entry_at, header_word};
+ghost use Rattle.image_layout.specs.Places.{root_word, entries_of, entry_at, header_word};
 ghost use Rattle.world.specs.Facts.{Lives, Rooted};
 ghost use Rattle.world.specs.Ground.{version_of};
 ghost use Rattle.world.specs.Views.{Has};
@@ -59,7 +59,7 @@ fn meet_entry(
     requires table { IsSeatOf image.now.table_id image.now.key seat.old }
     requires geometry { geometry.now ≡ image.now.key.geometry }
     requires caller { MayCall seat.old.me.0.view }
-    requires place { (depth ≤ image.now.key.geometry.depth) × (index < 2 ^ depth) }
+    requires place { (depth ≤ image.now.key.geometry.depth) × (index < entries_of depth) }
     requires known { Has (Rooted depth) seat.old.me.0.view.facts }
     ensures table { IsSeatOf image.now.table_id image.now.key seat.new }
     ensures view { Loads (ground_of image.now.key) (entry_at depth index) (λ n. of_call (meets_entry depth index)) seat.old.me.0 result seat.new.me.0 }

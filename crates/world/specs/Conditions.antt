@@ -1,7 +1,7 @@
 -- What each kind of step asks of the stepping view alone.
-use Rattle.std.specs.Prelude.{◌≡◌, ◌≢◌, ℕ, ◌+◌, ◌^◌, ◌<◌, ◌≤◌, Bool, true, false, ⊤, Option, Some, List, [], ◌∷◌, ◌⊎◌}
+use Rattle.std.specs.Prelude.{◌≡◌, ◌≢◌, ℕ, ◌+◌, ◌<◌, ◌≤◌, Bool, true, false, ⊤, Option, Some, List, [], ◌∷◌, ◌⊎◌}
 use Rattle.trace.specs.Events.{Words, with_word}
-use Rattle.image_layout.specs.Places.{Shape, header_word, bucket_at, homes, stash_buckets, buckets}
+use Rattle.image_layout.specs.Places.{Shape, entries_of, header_word, bucket_at, homes, stash_buckets, buckets}
 use Rattle.map_model.specs.declared.call.Call.{Call}
 use Rattle.map_model.specs.declared.call.Call.TheVariants.{Remove}
 use Rattle.map_model.specs.declared.entry.Reply.{Reply}
@@ -232,7 +232,7 @@ module _ (site : Ground) where
   May (peeks i) v = ⊤
   May asks_power v = ⊤
   May meets_root v = ⊤
-  May (meets_entry e i) v = Has (Rooted e) v.facts × (e ≤ site.shape.depth) × (i < 2 ^ e)
+  May (meets_entry e i) v = Has (Rooted e) v.facts × (e ≤ site.shape.depth) × (i < entries_of e)
   May (meets_head s version) v = Has (Lives s) v.facts × (version ≡ version_of site)
   May (pins s b) v = (b < buckets) × HasLock v.held (bucket_at site.shape s b)
   May (finds_room call) v = IsChange call × (0 < v.callers)

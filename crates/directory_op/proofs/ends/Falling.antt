@@ -23,13 +23,13 @@ use Rattle.directory_op.specs.declared.op.Stage.TheVariants.{Fill, Filled, Deepe
 use Rattle.directory_op.specs.declared.op.DirectoryStep.{DirectoryStep}
 use Rattle.directory_op.specs.declared.op.DirectoryStep.TheVariants.{LoadHead, LoadSideHead, TakeGuard, AskPower, LoadRoot, LoadEntry, Store, GiveGuard, Ended}
 use Rattle.directory_op.specs.declared.op.DirectoryOp.{DirectoryOp}
-use Rattle.directory_op.specs.Places.{entries_of, run_of, side_first, side_last}
+use Rattle.directory_op.specs.Places.{entries_there, run_of, side_first, side_last}
 use Rattle.directory_op.specs.Steps.{shape_of, next_store, fill_on, stage_after, settled_to, settled_by, passed_to, passed, wanted_in, power_step, rooted, is_over, with_root, taken_in}
 use Rattle.directory_op.specs.Left.{most_entries, deepest_entries, after_filled, fill_left, stage_left, guarded_with, guarded_left, step_left, left_of, is_trying}
 use Rattle.directory_op.specs.DirectoryPart.{goes_on, directory_part}
 
 -- ---- numbers
-pub few_entries : (depth : ℕ) → entries_of depth ≤ most_entries
+pub few_entries : (depth : ℕ) → entries_there depth ≤ most_entries
 few_entries depth = elim (cases_lt most_depth depth) [
   | inl high ↦ (let e = ap (λ b. cond b (2 ^ depth) 0) (lt-leb depth most_depth high) in omega (arith, e))
   | inr low ↦ (let e = ap (λ b. cond b (2 ^ depth) 0) (le-leb depth most_depth low) in let most = pow_mono {i = depth} {j = most_depth} low in omega (arith, e, most))
@@ -39,7 +39,7 @@ few_entries depth = elim (cases_lt most_depth depth) [
 least_depth : (root depth : ℕ) → root ≤ depth → root ≤ most_depth → root ≤ min depth most_depth
 least_depth root depth low most = omega (arith, low, most)
 
-pub entries_within : (root : ℕ) (shape : Shape) → root ≤ shape.depth → entries_of root ≤ deepest_entries shape
+pub entries_within : (root : ℕ) (shape : Shape) → root ≤ shape.depth → entries_there root ≤ deepest_entries shape
 entries_within root shape within = elim (cases_lt most_depth root) [
   | inl high ↦ (let e = ap (λ b. cond b (2 ^ root) 0) (lt-leb root most_depth high) in omega (arith, e))
   | inr low ↦ (let e = ap (λ b. cond b (2 ^ root) 0) (le-leb root most_depth low) in let most = pow_mono {i = root} {j = min shape.depth most_depth} (least_depth root shape.depth within low) in omega (arith, e, most))
@@ -105,7 +105,7 @@ module _ (op : DirectoryOp) where
   lines_left rounds = left_at rounds.round rounds.step
 
   abbrev all : ℕ
-  all = entries_of op.root
+  all = entries_there op.root
 
   store_falls : (stage : Stage) → rounds_stores op.rounds (next_store op stage) ≡ true → raw_left (after stage) (stage_after op stage) < stage_left op stage
   store_falls (Fill place value) is =

@@ -11,7 +11,7 @@ use Rattle.directory_op.specs.declared.op.Stage.TheVariants.{Fill, Filled, Deepe
 use Rattle.directory_op.specs.declared.op.DirectoryStep.{DirectoryStep}
 use Rattle.directory_op.specs.declared.op.DirectoryStep.TheVariants.{Store, Ended}
 use Rattle.directory_op.specs.declared.op.DirectoryOp.{DirectoryOp}
-use Rattle.directory_op.specs.Places.{entries_of, side_last}
+use Rattle.directory_op.specs.Places.{entries_there, side_last}
 use Rattle.directory_op.specs.Steps.{shape_of, next_store, fill_on, stage_after, settled_to, settled_by, passed_to, passed, rooted, is_over, with_root}
 use Rattle.directory_op.specs.Left.{step_left, alone_in, left_of, left_alone}
 use Rattle.directory_op.specs.DirectoryPart.{outcome_at}
@@ -35,7 +35,7 @@ by_last false step last on end = end
 
 module _ (op : DirectoryOp) where
   after_goes : (stage : Stage) → GoesOn (stage_after op stage)
-  after_goes (Fill place value) = by_last (nat_lt place (entries_of op.root - 1)) (fill_on (place % 2 == 0) place value) (Store Filled) (fill_goes (place % 2 == 0) place value) (store_on Filled)
+  after_goes (Fill place value) = by_last (nat_lt place (entries_there op.root - 1)) (fill_on (place % 2 == 0) place value) (Store Filled) (fill_goes (place % 2 == 0) place value) (store_on Filled)
   after_goes Deepen = store_on Deepened
   after_goes GoLive = store_on Live
   after_goes (Enter index) = by_last (nat_lt index (side_last op.root op.side_head)) (Store (Enter (index + 1))) (Store Entered) (store_on (Enter (index + 1))) (store_on Entered)

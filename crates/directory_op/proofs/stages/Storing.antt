@@ -31,7 +31,7 @@ use Rattle.directory_op.specs.declared.op.Stage.TheVariants.{Fill, Filled, Deepe
 use Rattle.directory_op.specs.declared.op.DirectoryStep.{DirectoryStep}
 use Rattle.directory_op.specs.declared.op.DirectoryStep.TheVariants.{LoadEntry, Store}
 use Rattle.directory_op.specs.declared.op.DirectoryOp.{DirectoryOp}
-use Rattle.directory_op.specs.Places.{entries_of, entry_word, side_last, live_head}
+use Rattle.directory_op.specs.Places.{entries_there, entry_word, side_last, live_head}
 use Rattle.directory_op.specs.Steps.{next_store, fill_on, stage_after}
 use Rattle.directory_op.specs.Fits.{with_side, SuitsStore, SuitsStep, FilledBelow, EnteredBelow, IsFilling, IsEntering}
 use Rattle.directory_op.proofs.Words.{all_entries, doubled, entry_is, head_is, entry_no_root, entry_same, entry_deeper, entry_no_slot, root_no_slot, root_no_header, other_slot}
@@ -109,7 +109,7 @@ module _ (site : Ground) (ground : IsGround site) (here : Site) (call : Call) (o
     shallow : op.root ≤ most_depth
     shallow = let most = ground.shape.depth in let deep = s.at.filling.doubles.deep in omega (arith, most, deep)
 
-    all : entries_of op.root ≡ 2 ^ op.root
+    all : entries_there op.root ≡ 2 ^ op.root
     all = all_entries op.root shallow
 
     half : (j : ℕ) → j < 2 ^ op.root → j / 2 < 2 ^ d
@@ -155,7 +155,7 @@ module _ (site : Ground) (ground : IsGround site) (here : Site) (call : Call) (o
     loose = stored_loose w value (λ i. (j : ℕ) × (j < 2 ^ op.root) × (i ≡ entry_at op.root j)) s.storing.loose (place, s.at.low, fill_is)
 
     -- the next one is not the last
-    next_fill : place < entries_of op.root - 1 → (even : Bool) → (place % 2 == 0) ≡ even → SuitsStep site here (later (fill_on even place value)) call (fill_on even place value) filled
+    next_fill : place < entries_there op.root - 1 → (even : Bool) → (place % 2 == 0) ≡ even → SuitsStep site here (later (fill_on even place value)) call (fill_on even place value) filled
     next_fill less true e =
         let even = eqb-true (place % 2) 0 e in
         let whole = all in
@@ -186,7 +186,7 @@ module _ (site : Ground) (ground : IsGround site) (here : Site) (call : Call) (o
         next_even : (place : ℕ) → (place % 2 ≡ 0 → ⊥) → (place + 1) % 2 ≡ 0
         next_even place odd = elim (cases_lt 0 (place % 2)) [ inl one ↦ omega (arith, one) | inr none ↦ absurd (odd (omega (arith, none))) ]
 
-    last_fill : entries_of op.root - 1 ≤ place → SuitsStep site here (later (Store Filled)) call (Store Filled) filled
+    last_fill : entries_there op.root - 1 ≤ place → SuitsStep site here (later (Store Filled)) call (Store Filled) filled
     last_fill last =
         let whole = all in
         let near = s.at.low in
@@ -198,11 +198,11 @@ module _ (site : Ground) (ground : IsGround site) (here : Site) (call : Call) (o
         }
 
     pub fill_stands : SuitsStep site here (later (stage_after op fill)) call (stage_after op fill) filled
-    fill_stands = elim (cases_lt place (entries_of op.root - 1)) [
+    fill_stands = elim (cases_lt place (entries_there op.root - 1)) [
       | inl less ↦ subst (λ b. SuitsStep site here (later (cond b (fill_on (place % 2 == 0) place value) (Store Filled))) call (cond b (fill_on (place % 2 == 0) place value) (Store Filled)) filled)
-          (sym (lt-ltb place (entries_of op.root - 1) less)) (next_fill less (place % 2 == 0) refl)
+          (sym (lt-ltb place (entries_there op.root - 1) less)) (next_fill less (place % 2 == 0) refl)
       | inr last ↦ subst (λ b. SuitsStep site here (later (cond b (fill_on (place % 2 == 0) place value) (Store Filled))) call (cond b (fill_on (place % 2 == 0) place value) (Store Filled)) filled)
-          (sym (le-ltb place (entries_of op.root - 1) last)) (last_fill last)
+          (sym (le-ltb place (entries_there op.root - 1) last)) (last_fill last)
     ]
 
   -- ---- the root gets deeper

@@ -1,10 +1,10 @@
 -- What each kind of step at the structure asks of the stepping view alone.
-use Rattle.std.specs.Prelude.{◌≡◌, ◌≢◌, ℕ, suc, ◌^◌, ◌<◌, ◌⊎◌, ⊤, Some, []}
+use Rattle.std.specs.Prelude.{◌≡◌, ◌≢◌, ℕ, suc, ◌<◌, ◌⊎◌, ⊤, Some, []}
 use Rattle.trace.specs.Events.{Words, with_word}
 use Rattle.hash_word.specs.Hash.{home_of}
 use Rattle.bucket_meta.specs.Bucket.{lock_bit}
 use Rattle.segment_head.specs.HeadWord.{state_in, depth_in, pattern_in, normal, splitting, HasLiveState, link_to}
-use Rattle.image_layout.specs.Places.{Shape, root_word, state_word, bucket_at, homes, buckets}
+use Rattle.image_layout.specs.Places.{Shape, root_word, state_word, entries_of, bucket_at, homes, buckets}
 use Rattle.image_layout.specs.Volatile.{free_guard}
 use Rattle.sound_image.specs.Segments.{frame_of}
 use Rattle.sound_image.specs.Records.{key_hash, HasExactNotes}
@@ -163,7 +163,7 @@ module _ (site : Ground) where
   MayAt (finds_free n) v = Has Allocation v.areas × (n < site.shape.segments) × IsFirmIn v (IsInSlot site.shape n)
   MayAt (finds_link p depth pattern) v = IsStaleSplit v p depth pattern × ((y : ℕ) → IsLoose v (link_word site.shape p, y) → ⊥)
   MayAt (finds_side p n depth pattern) v = IsStaleSplit v p depth pattern × KnowsWord v (link_word site.shape p) (link_to n) × (n < site.shape.segments) × HasNoSides v.areas
-  MayAt (finds_entry e i) v = Has Directory v.areas × Has (root_word, e) v.known × (i < 2 ^ e)
+  MayAt (finds_entry e i) v = Has Directory v.areas × Has (root_word, e) v.known × (i < entries_of e)
   MayAt (finds_begin s) v = Has (Lives s) v.facts
   MayAt (reads i) v = HoldsWord site.shape v i
   MayAt (sets i x) v = MaySet v i x

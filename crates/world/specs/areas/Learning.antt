@@ -1,8 +1,8 @@
 -- What loads tell of all media.
-use Rattle.std.specs.Prelude.{◌≡◌, ℕ, ◌^◌, ◌<◌, List}
+use Rattle.std.specs.Prelude.{◌≡◌, ℕ, ◌<◌, List}
 use Rattle.trace.specs.Events.{Words}
 use Rattle.segment_head.specs.HeadWord.{version_in}
-use Rattle.image_layout.specs.Places.{root_word, entry_at}
+use Rattle.image_layout.specs.Places.{root_word, entries_of, entry_at}
 use Rattle.sound_image.specs.Segments.{frame_of}
 use Rattle.frame_facts.specs.Media.{first_hash}
 use Rattle.frame_facts.specs.Facts.{Lives, Current, Rooted, Begins}
@@ -20,7 +20,7 @@ RootsTell = (site : Ground) (words : Words) (views : List View) → HasGrounds s
 
 -- such an entry tells a segment that lives there
 abbrev pub EntriesTell : Type 0
-EntriesTell = (site : Ground) (words : Words) (views : List View) (e i : ℕ) → i < 2 ^ e → IsSaid site words views (Rooted e) → IsSaid site words views (Lives (words (entry_at e i)))
+EntriesTell = (site : Ground) (words : Words) (views : List View) (e i : ℕ) → i < entries_of e → IsSaid site words views (Rooted e) → IsSaid site words views (Lives (words (entry_at e i)))
 
 -- and the header of such a segment where it begins, and that it is current, if it has the image's version
 abbrev pub HeadersTell : Type 0

@@ -1,13 +1,13 @@
 -- What the holder of a stale segment has to know to repair it: to take back a split that had no ready side, to direct the entries of a ready
 -- side to it, to clear records and end that split, and to mend what is left and give the segment the image's version.
-use Rattle.std.specs.Prelude.{◌≡◌, ◌≢◌, ℕ, suc, ◌+◌, ◌^◌, ◌<◌, ◌≤◌, ◌⊎◌, Bool, true, false, [], ◌∷◌}
+use Rattle.std.specs.Prelude.{◌≡◌, ◌≢◌, ℕ, suc, ◌+◌, ◌<◌, ◌≤◌, ◌⊎◌, Bool, true, false, [], ◌∷◌}
 use Rattle.trace.specs.Events.{Words}
 use Rattle.hash_word.specs.Hash.{first_hash_of, Covers, IsUnderPrefix}
 use Rattle.bucket_meta.specs.Bucket.{mark_place, fingers_place, rest_place, lock_bit, record_slots, allocated, member}
 use Rattle.segment_head.specs.HeadWord.{version_in, state_in, depth_in, pattern_in, free, fresh, normal, splitting, link_to, no_link}
 use Rattle.segment_head.specs.Prefixes.{pattern_of_zero_side, pattern_of_one_side}
 pub use Rattle.segment_head.specs.SplitHeads.{side_depth_in, side_pattern_in}
-use Rattle.image_layout.specs.Places.{block, root_word, entry_at, bucket_at, homes, buckets}
+use Rattle.image_layout.specs.Places.{block, root_word, entries_of, entry_at, bucket_at, homes, buckets}
 use Rattle.sound_image.specs.Records.{key_hash, HasExactNotes}
 use Rattle.frame_facts.specs.Buckets.{key_in}
 use Rattle.frame_facts.specs.Hits.{Hit}
@@ -82,7 +82,7 @@ pub record HasReadySideOf (site : Ground) (v : View) (s n g : ℕ) (word : Words
 -- entry i is one of its 1-side, where the root is g deep
 pub record IsEntryOfSide (g depth pattern i : ℕ) : Type 0 where
   pub deep : depth < g
-  pub index : i < 2 ^ g
+  pub index : i < entries_of g
   pub inside : IsUnderPrefix g (suc depth) (pattern_of_one_side pattern) i
 
 pub record MayRedirect (site : Ground) (v : View) : Type 0 where

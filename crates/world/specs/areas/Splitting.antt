@@ -1,11 +1,11 @@
 -- What the holder of a guarded segment has to know to split it: to empty a slot, to link it, to begin the split, to copy records, to make
 -- the side live, to double the directory and to store entries, to clear what moved, to end the split and to open the segment again.
-use Rattle.std.specs.Prelude.{◌≡◌, ◌≢◌, ℕ, suc, ◌+◌, ◌/◌, ◌^◌, ◌<◌, ◌≤◌, ◌⊎◌, [], ◌∷◌}
+use Rattle.std.specs.Prelude.{◌≡◌, ◌≢◌, ℕ, suc, ◌+◌, ◌/◌, ◌<◌, ◌≤◌, ◌⊎◌, [], ◌∷◌}
 use Rattle.trace.specs.Events.{Words}
 use Rattle.hash_word.specs.Hash.{Covers, IsUnderPrefix}
 use Rattle.bucket_meta.specs.Bucket.{mark_place, rest_place, lock_bit, record_slots, allocated, member}
 use Rattle.segment_head.specs.HeadWord.{version_in, state_in, depth_in, pattern_in, free, fresh, normal, splitting, HasLiveState, link_to, no_link, LinksWithin}
-use Rattle.image_layout.specs.Places.{Shape, block, root_word, entry_at, bucket_at, key_at, value_at, homes, buckets}
+use Rattle.image_layout.specs.Places.{Shape, block, root_word, entries_of, entry_at, bucket_at, key_at, value_at, homes, buckets}
 use Rattle.segment_head.specs.Prefixes.{pattern_of_zero_side}
 use Rattle.segment_head.specs.SplitHeads.{side_depth_in, side_pattern_in}
 use Rattle.sound_image.specs.Records.{key_hash, HasExactNotes}
@@ -119,13 +119,13 @@ pub record MayPublish (site : Ground) (v : View) : Type 0 where
 -- ---- THE DIRECTORY
 pub record MayDirect (site : Ground) (v : View) : Type 0 where
   -- an entry of an area that is deeper than the root
-  pub fill : (g e i x : ℕ) → IsSettledHolder site.shape v → Has Directory v.areas → KnowsWord v root_word g → g < e → e ≤ site.shape.depth → i < 2 ^ e → MayAt site (sets (entry_at e i) x) v
+  pub fill : (g e i x : ℕ) → IsSettledHolder site.shape v → Has Directory v.areas → KnowsWord v root_word g → g < e → e ≤ site.shape.depth → i < entries_of e → MayAt site (sets (entry_at e i) x) v
   -- the root, one deeper, where all entries of both areas are known and settled, and the deeper one is filled
   pub root : (g : ℕ) (word : Words) → IsSettledHolder site.shape v → Has Directory v.areas → KnowsWord v root_word g → g < site.shape.depth
-      → ((i : ℕ) → i < 2 ^ g → KnowsWord v (entry_at g i) (word (entry_at g i))) → ((i : ℕ) → i < 2 ^ suc g → KnowsWord v (entry_at (suc g) i) (word (entry_at (suc g) i)))
-      → ((i : ℕ) → i < 2 ^ suc g → word (entry_at (suc g) i) ≡ word (entry_at g (i / 2))) → MayAt site (sets root_word (suc g)) v
+      → ((i : ℕ) → i < entries_of g → KnowsWord v (entry_at g i) (word (entry_at g i))) → ((i : ℕ) → i < entries_of (suc g) → KnowsWord v (entry_at (suc g) i) (word (entry_at (suc g) i)))
+      → ((i : ℕ) → i < entries_of (suc g) → word (entry_at (suc g) i) ≡ word (entry_at g (i / 2))) → MayAt site (sets root_word (suc g)) v
   -- an entry that is to name a segment which owns the region, of this depth and pattern, in which all hashes of the entry lie
-  pub enter : (g i n d p : ℕ) → IsSettledHolder site.shape v → Has Directory v.areas → KnowsWord v root_word g → g ≤ site.shape.depth → d ≤ g → i < 2 ^ g → IsUnderPrefix g d p i → Has (Owns n d p) v.facts
+  pub enter : (g i n d p : ℕ) → IsSettledHolder site.shape v → Has Directory v.areas → KnowsWord v root_word g → g ≤ site.shape.depth → d ≤ g → i < entries_of g → IsUnderPrefix g d p i → Has (Owns n d p) v.facts
       → MayAt site (sets (entry_at g i) n) v
   -- the fence after the last one: of the 1-side of the segment that was split all entries are known to name its side, another slot, which owns that; so they
   -- name a deeper segment than it is, and it claims none of it
@@ -133,7 +133,7 @@ pub record MayDirect (site : Ground) (v : View) : Type 0 where
       → state_in (word (header_word site.shape s)) ≡ splitting → word (link_word site.shape s) ≡ link_to n
       → KnowsWord v root_word g → depth_in (word (header_word site.shape s)) < g
       → Has (Owns n (side_depth_in (word (header_word site.shape s))) (side_pattern_in (word (header_word site.shape s)))) v.facts
-      → ((i : ℕ) → i < 2 ^ g → IsUnderPrefix g (side_depth_in (word (header_word site.shape s))) (side_pattern_in (word (header_word site.shape s))) i → Has (entry_at g i, n) v.known × ((y : ℕ) → Has (entry_at g i, y) v.dirty → ⊥))
+      → ((i : ℕ) → i < entries_of g → IsUnderPrefix g (side_depth_in (word (header_word site.shape s))) (side_pattern_in (word (header_word site.shape s))) i → Has (entry_at g i, n) v.known × ((y : ℕ) → Has (entry_at g i, y) v.dirty → ⊥))
       → MayAt site (settles (Deep (depth_in (word (header_word site.shape s))) (side_depth_in (word (header_word site.shape s))) (side_pattern_in (word (header_word site.shape s)))
       ∷ Lacks s (side_depth_in (word (header_word site.shape s))) (side_pattern_in (word (header_word site.shape s))) ∷ [])) v
 

@@ -11,8 +11,8 @@ loop-s-init c =
     let no_leaf = c.in_ok-leaves.ensures.items_if_clones_equal (λ y same. same) in
     let no_node = c.in_ok-nodes.ensures.items_if_clones_equal (λ y same. same) in
     record {
-      leaves = zero_length c.in_ok-leaves.leaves.items _ no_leaf ∙ c.power_of_two.ensures.is ∙ ap (λ (n : ℕ). 2 ^ n) c.depth-greatest.ensures.is;
-      nodes = zero_length c.in_ok-nodes.nodes.items _ no_node ∙ c.power_of_two-2.ensures.is ∙ ap (λ (n : ℕ). 2 ^ (n + 1)) c.depth-greatest.ensures.is;
+      leaves = zero_length c.in_ok-leaves.leaves.items _ no_leaf ∙ c.entries_of.ensures.is ∙ ap (λ (n : ℕ). 2 ^ n) c.depth-greatest.ensures.is;
+      nodes = zero_length c.in_ok-nodes.nodes.items _ no_node ∙ c.entries_of-2.ensures.is ∙ ap (λ (n : ℕ). 2 ^ (n + 1)) c.depth-greatest.ensures.is;
       deepest = none_deepest frame c.args.geometry.now.depth c.in_ok-leaves.leaves.items (all_zero c.in_ok-leaves.leaves.items _ no_leaf);
       seen = none_seen frame c.args.geometry.now.depth c.in_ok-nodes.nodes.items (all_zero c.in_ok-nodes.nodes.items _ no_node);
     }

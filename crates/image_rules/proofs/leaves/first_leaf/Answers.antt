@@ -11,5 +11,5 @@ returns-clause-most c =
     let parts : g ≡ d + (g - d) = omega arith in
     let whole : 2 ^ g ≡ 2 ^ d * 2 ^ (g - d) = ap (λ (n : ℕ). 2 ^ n) parts ∙ pow-add 2 d (g - d) in
     let more : c.args.pattern * 2 ^ (g - d) ≤ 2 ^ d * 2 ^ (g - d) = mul-le-mul_right (2 ^ (g - d)) c.requires.pattern in
-    let here = ap (λ (n : ℕ). c.args.pattern * n) c.power_of_two.ensures.is in
+    let here = ap (λ (n : ℕ). c.args.pattern * n) c.entries_of.ensures.is in
     omega (arith, more, whole, here)
