@@ -1,11 +1,11 @@
 -- The machine as a part of a call: the kind of each event, how the view stands, how it ends, and that it wins a guard that is free.
-use Rattle.std.specs.Prelude.{◌≡◌, ◌≢◌, ℕ, ◌+◌, ◌-◌, ◌/◌, ◌<◌, ◌≤◌, ⊤, Bool, true, false, Option, None, Some, List, [], ◌∷◌}
+use Rattle.std.specs.Prelude.{◌≡◌, ◌≢◌, ℕ, ◌+◌, ◌<◌, ◌≤◌, ⊤, Bool, true, false, Option, None, Some, List, [], ◌∷◌}
 use Rattle.op_core.specs.declared.want.Want.{Want}
 use Rattle.op_core.specs.declared.want.Want.TheVariants as want
 use Rattle.trace.specs.Events.{Words}
 use Rattle.segment_head.specs.HeadWord.{depth_in, pattern_in}
 use Rattle.segment_head.specs.SplitHeads.{side_depth_in, side_pattern_in}
-use Rattle.image_layout.specs.Places.{root_word}
+use Rattle.image_layout.specs.Places.{root_word, depth_above, entry_above}
 use Rattle.image_layout.specs.Volatile.{directory_guard, free_guard}
 use Rattle.way.specs.Ways.{head_word}
 use Rattle.whole_segment.specs.Rounds.{most_lines}
@@ -56,7 +56,7 @@ kind_in op LoadSideHead = of_structure (reads (head_word (shape_of op) op.copied
 kind_in op TakeGuard = of_structure (takes of_directory op.copied.whole.site.caller)
 kind_in op AskPower = of_call asks_power
 kind_in op LoadRoot = of_structure (reads root_word)
-kind_in op (LoadEntry place) = of_structure (reads (entry_word (shape_of op) (op.root - 1) (place / 2)))
+kind_in op (LoadEntry place) = of_structure (reads (entry_word (shape_of op) (depth_above op.root) (entry_above place)))
 kind_in op (Store stage) = stage_kind op stage (rounds_wanted op.rounds (next_store op stage))
 kind_in op GiveGuard = of_structure (gives of_directory)
 kind_in op (Ended end) = of_call (peeks root_word)

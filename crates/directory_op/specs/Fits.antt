@@ -1,11 +1,11 @@
 -- How the view of the caller stands in each step: what it holds and knows of the segment, of its side and of the directory, and what is
 -- not settled.
-use Rattle.std.specs.Prelude.{◌≡◌, ◌≢◌, None, ℕ, suc, ◌+◌, ◌/◌, ◌%◌, ◌^◌, ◌<◌, ◌≤◌, ◌⊎◌, List, [], ◌∷◌}
+use Rattle.std.specs.Prelude.{◌≡◌, ◌≢◌, None, ℕ, suc, ◌+◌, ◌^◌, ◌<◌, ◌≤◌, ◌⊎◌, List, [], ◌∷◌}
 use Rattle.trace.specs.Events.{HasLine}
 use Rattle.hash_word.specs.Hash.{IsUnderPrefix}
 use Rattle.bucket_meta.specs.Bucket.{mark_place, rest_place, record_slots}
 use Rattle.segment_head.specs.HeadWord.{depth_in}
-use Rattle.image_layout.specs.Places.{Shape, block, root_word, entries_of, entry_at, bucket_at, key_at, value_at, buckets, words_of}
+use Rattle.image_layout.specs.Places.{Shape, block, root_word, entries_of, entry_above, half_of_entry, entry_at, bucket_at, key_at, value_at, buckets, words_of}
 use Rattle.segment_head.specs.SplitHeads.{side_depth_in, side_pattern_in}
 use Rattle.bucket_words.specs.Buckets.{IsTaken}
 use Rattle.frame_facts.specs.Facts.{Owns, Lacks, Deep}
@@ -118,7 +118,7 @@ module _ (site : Ground) (here : Site) (op : DirectoryOp) where
 
   -- THE ENTRIES BELOW a number are filled: each has what the entry of the root's area has from which it comes, and both are known
   abbrev pub FilledBelow : ℕ → View → Type 0
-  FilledBelow place v = (j : ℕ) → j < place → (x : ℕ) × Has (entry_at (depth_in op.copied.whole.head) (j / 2), x) v.known × Has (entry_at op.root j, x) v.known
+  FilledBelow place v = (j : ℕ) → j < place → (x : ℕ) × Has (entry_at (depth_in op.copied.whole.head) (entry_above j), x) v.known × Has (entry_at op.root j, x) v.known
 
   -- the root is deeper than the segment, as far as is known
   pub record IsDeepEnough (v : View) : Type 0 where
@@ -160,7 +160,7 @@ module _ (site : Ground) (here : Site) (op : DirectoryOp) where
       pub filling : IsFilling place v
       pub low : place < entries_of op.root
       pub small : value < 2 ^ 64
-      pub known : Has (entry_at (depth_in op.copied.whole.head) (place / 2), value) v.known
+      pub known : Has (entry_at (depth_in op.copied.whole.head) (entry_above place), value) v.known
 
     -- ---- while the side goes live
     pub record IsRooted (v : View) : Type 0 where
@@ -205,7 +205,7 @@ module _ (site : Ground) (here : Site) (op : DirectoryOp) where
     -- an entry is to be loaded, with which two are filled
     pub record FillsFrom (place : ℕ) (v : View) : Type 0 where
       pub filling : IsFilling place v
-      pub even : place % 2 ≡ 0
+      pub even : half_of_entry place ≡ 0
       pub low : place < entries_of op.root
       pub storing : IsStoring Filled v
 

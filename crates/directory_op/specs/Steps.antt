@@ -1,8 +1,8 @@
 -- What the machine wants, and what an answer makes of it: the doubling of the directory, the store that makes the side live, and the entries
 -- that name it.
-use Rattle.std.specs.Prelude.{ℕ, ◌+◌, ◌-◌, ◌/◌, ◌%◌, ◌==◌, nat_le, nat_lt, Bool, true, false, Option, None, Some, if◌then◌else◌}
+use Rattle.std.specs.Prelude.{ℕ, ◌+◌, ◌-◌, ◌==◌, nat_le, nat_lt, Bool, true, false, Option, None, Some, if◌then◌else◌}
 use Rattle.segment_head.specs.HeadWord.{depth_in}
-use Rattle.image_layout.specs.Places.{Shape, root_word}
+use Rattle.image_layout.specs.Places.{Shape, root_word, depth_above, entry_above, half_of_entry}
 use Rattle.image_layout.specs.Volatile.{power_on, directory_guard, free_guard}
 use Rattle.op_core.specs.declared.want.Want.{Want}
 use Rattle.op_core.specs.declared.want.Want.TheVariants as want
@@ -47,7 +47,7 @@ fill_on false place value = LoadEntry (place + 1)
 
 -- THE STEP behind the store of a stage
 abbrev pub stage_after : DirectoryOp → Stage → DirectoryStep
-stage_after op (Fill place value) = if nat_lt place (entries_there op.root - 1) then fill_on (place % 2 == 0) place value else Store Filled
+stage_after op (Fill place value) = if nat_lt place (entries_there op.root - 1) then fill_on (half_of_entry place == 0) place value else Store Filled
 stage_after op Deepen = Store Deepened
 stage_after op GoLive = Store Live
 stage_after op (Enter index) = if nat_lt index (side_last op.root op.side_head) then Store (Enter (index + 1)) else Store Entered
@@ -68,7 +68,7 @@ wanted_in op LoadSideHead = want.Load (head_word (shape_of op) op.copied.side)
 wanted_in op TakeGuard = want.Exchange (directory_guard (shape_of op)) free_guard op.copied.whole.site.caller
 wanted_in op AskPower = want.Power
 wanted_in op LoadRoot = want.Load root_word
-wanted_in op (LoadEntry place) = want.Load (entry_word (shape_of op) (op.root - 1) (place / 2))
+wanted_in op (LoadEntry place) = want.Load (entry_word (shape_of op) (depth_above op.root) (entry_above place))
 wanted_in op (Store stage) = event_wanted op.rounds (next_store op stage)
 wanted_in op GiveGuard = want.Store (directory_guard (shape_of op)) free_guard
 wanted_in op (Ended end) = want.Done

@@ -5,7 +5,7 @@ ghost use Rattle.directory_op.specs.Steps.{directed, next_store, stage_after, se
 ghost use Rattle.directory_op.specs.DirectoryPart.{goes_on};
 
 use crate::places::{entries_there, entry_word, live_head, side_first, side_last};
-use image_layout::{FREE_GUARD, POWER_ON, ROOT_WORD};
+use image_layout::{FREE_GUARD, POWER_ON, ROOT_WORD, depth_above, entry_above, half_of_entry};
 use op_core::{Ans, Machine, Want};
 use rounds::Rounds;
 use segment_head::word::depth_of;
@@ -121,7 +121,7 @@ impl DirectoryOp {
     {
         match stage {
             Stage::Fill(place, value) if place < entries_there(self.root).saturating_sub(1) => {
-                if place % 2 == 0 {
+                if half_of_entry(place) == 0 {
                     DirectoryStep::Store(Stage::Fill(place + 1, value))
                 } else {
                     DirectoryStep::LoadEntry(place + 1)
@@ -241,7 +241,7 @@ impl Machine for DirectoryOp {
             DirectoryStep::AskPower => Want::Power,
             DirectoryStep::LoadRoot => Want::Load(ROOT_WORD),
             DirectoryStep::LoadEntry(place) => {
-                Want::Load(entry_word(geometry, self.root.saturating_sub(1), place / 2))
+                Want::Load(entry_word(geometry, depth_above(self.root), entry_above(place)))
             }
             DirectoryStep::Store(stage) => self.rounds.event(self.next_store(stage)),
             DirectoryStep::GiveGuard => Want::Store(geometry.directory_guard(), FREE_GUARD),

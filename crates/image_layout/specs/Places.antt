@@ -132,6 +132,16 @@ state_word = 16
 abbrev pub entries_of : ℕ → ℕ
 entries_of depth = 2 ^ depth
 
+-- the depth of the area above that of a depth; the entry of it that has the hashes of entry i, and of one more; and which half of them entry i has, 0 or 1
+abbrev pub depth_above : ℕ → ℕ
+depth_above depth = depth - 1
+
+abbrev pub entry_above : ℕ → ℕ
+entry_above i = i / 2
+
+abbrev pub half_of_entry : ℕ → ℕ
+half_of_entry i = i % 2
+
 -- entry i of the directory area of depth e: the areas follow one another from word 32 on, depth 0 first
 abbrev pub entry_at : ℕ → ℕ → ℕ
 entry_at e i = block + entries_of e - 1 + i

@@ -2,7 +2,7 @@
 
 ghost use Rattle.std.specs.Prelude.{◌≡◌, ◌<◌, ◌≤◌, ◌+◌, ◌*◌, ◌%◌, ◌^◌, IfOk, IfErr};
 ghost use Rattle.image_layout.specs.Volatile.{counter_word, power_word, allocation_guard, directory_guard, segment_guard, all_words_of, power_from, allocation_from, directory_from, guards_from};
-ghost use Rattle.image_layout.specs.Places.{IsShape, first_segment, words_of, entry_at, head_at, header_word, link_word, bucket_at, block, homes, stash_buckets, buckets, segment_words, most_power, first_segment_of_largest, most_words, most_segments, most_depth, most_kind, entries_of};
+ghost use Rattle.image_layout.specs.Places.{IsShape, first_segment, words_of, entry_at, head_at, header_word, link_word, bucket_at, block, homes, stash_buckets, buckets, segment_words, most_power, first_segment_of_largest, most_words, most_segments, most_depth, most_kind, entries_of, depth_above, entry_above, half_of_entry};
 
 use bucket_meta::words::{BUCKET_WORDS, SECOND_STASH_INDEX, SLOTS, STASH_INDICES};
 use hash_word::{HOMES, MOST_DEPTH};
@@ -117,6 +117,27 @@ pub fn entries_of(depth: u64) -> u64
     ensures most { result ≤ most_power }
 {
     1 << depth
+}
+
+/// The depth of the area above that of a depth; that of depth 0 has none above it.
+pub fn depth_above(depth: u64) -> u64
+    ensures { result ≡ depth_above depth }
+{
+    depth.saturating_sub(1)
+}
+
+/// The entry of the area above that has the hashes of this one, and of one more.
+pub fn entry_above(i: u64) -> u64
+    ensures { result ≡ entry_above i }
+{
+    i / 2
+}
+
+/// Which half of the hashes of that one an entry has: 0 or 1.
+pub fn half_of_entry(i: u64) -> u64
+    ensures { result ≡ half_of_entry i }
+{
+    i % 2
 }
 
 /// How an image is laid out: three numbers, all in range.

@@ -1,11 +1,11 @@
 -- What the holder of a guarded segment has to know to split it: to empty a slot, to link it, to begin the split, to copy records, to make
 -- the side live, to double the directory and to store entries, to clear what moved, to end the split and to open the segment again.
-use Rattle.std.specs.Prelude.{◌≡◌, ◌≢◌, ℕ, suc, ◌+◌, ◌/◌, ◌<◌, ◌≤◌, ◌⊎◌, [], ◌∷◌}
+use Rattle.std.specs.Prelude.{◌≡◌, ◌≢◌, ℕ, suc, ◌+◌, ◌<◌, ◌≤◌, ◌⊎◌, [], ◌∷◌}
 use Rattle.trace.specs.Events.{Words}
 use Rattle.hash_word.specs.Hash.{Covers, IsUnderPrefix}
 use Rattle.bucket_meta.specs.Bucket.{mark_place, rest_place, lock_bit, record_slots, allocated, member}
 use Rattle.segment_head.specs.HeadWord.{version_in, state_in, depth_in, pattern_in, free, fresh, normal, splitting, HasLiveState, link_to, no_link, LinksWithin}
-use Rattle.image_layout.specs.Places.{Shape, block, root_word, entries_of, entry_at, bucket_at, key_at, value_at, homes, buckets}
+use Rattle.image_layout.specs.Places.{Shape, block, root_word, entries_of, entry_above, entry_at, bucket_at, key_at, value_at, homes, buckets}
 use Rattle.segment_head.specs.Prefixes.{pattern_of_zero_side}
 use Rattle.segment_head.specs.SplitHeads.{side_depth_in, side_pattern_in}
 use Rattle.sound_image.specs.Records.{key_hash, HasExactNotes}
@@ -123,7 +123,7 @@ pub record MayDirect (site : Ground) (v : View) : Type 0 where
   -- the root, one deeper, where all entries of both areas are known and settled, and the deeper one is filled
   pub root : (g : ℕ) (word : Words) → IsSettledHolder site.shape v → Has Directory v.areas → KnowsWord v root_word g → g < site.shape.depth
       → ((i : ℕ) → i < entries_of g → KnowsWord v (entry_at g i) (word (entry_at g i))) → ((i : ℕ) → i < entries_of (suc g) → KnowsWord v (entry_at (suc g) i) (word (entry_at (suc g) i)))
-      → ((i : ℕ) → i < entries_of (suc g) → word (entry_at (suc g) i) ≡ word (entry_at g (i / 2))) → MayAt site (sets root_word (suc g)) v
+      → ((i : ℕ) → i < entries_of (suc g) → word (entry_at (suc g) i) ≡ word (entry_at g (entry_above i))) → MayAt site (sets root_word (suc g)) v
   -- an entry that is to name a segment which owns the region, of this depth and pattern, in which all hashes of the entry lie
   pub enter : (g i n d p : ℕ) → IsSettledHolder site.shape v → Has Directory v.areas → KnowsWord v root_word g → g ≤ site.shape.depth → d ≤ g → i < entries_of g → IsUnderPrefix g d p i → Has (Owns n d p) v.facts
       → MayAt site (sets (entry_at g i) n) v
