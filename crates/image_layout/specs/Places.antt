@@ -1,7 +1,7 @@
 -- Where the parts of an image stand, by word number. An image is a list of 64-bit words.
 use Rattle.std.specs.Prelude.{ℕ, ◌+◌, ◌-◌, ◌*◌, ◌/◌, ◌%◌, ◌^◌, ◌≤◌}
 pub use Rattle.hash_word.specs.Hash.{homes, most_depth}
-use Rattle.bucket_meta.specs.Bucket.{record_slots, key_behind, value_behind, second_stash_index, stash_indices}
+use Rattle.bucket_meta.specs.Bucket.{mark_place, rest_place, record_slots, key_behind, value_behind, second_stash_index, stash_indices}
 
 -- how many slots for segments an image may have at most, and the greatest kind of hash
 abbrev pub most_segments : ℕ
@@ -84,6 +84,20 @@ note_words_of_home = 2
 -- how many words of a segment have notes: these of each home
 abbrev pub note_words : ℕ
 note_words = note_words_of_home * homes
+
+-- the home of the one of this number among them, and its number in that home
+abbrev pub home_of_note : ℕ → ℕ
+home_of_note n = n / note_words_of_home
+
+abbrev pub place_of_note : ℕ → ℕ
+place_of_note n = mark_place + (rest_place - mark_place) * (n % note_words_of_home)
+
+-- which of them is the metadata word of home c, and which the last word before its records
+abbrev pub mark_note : ℕ → ℕ
+mark_note c = note_words_of_home * c
+
+abbrev pub rest_note : ℕ → ℕ
+rest_note c = note_words_of_home * c + 1
 
 -- how many blocks of a slot are its header, in front of its buckets
 abbrev pub header_blocks : ℕ

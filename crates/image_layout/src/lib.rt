@@ -16,5 +16,6 @@ pub use shape::{
     GeoFault, Geometry, HEADER, HEADER_BLOCKS, IDENTITY_KIND, LAST_OF_BUCKETS, LINK, MOST_KIND,
     MOST_SEGMENTS, MOST_WORDS, NOTE_WORDS, NOTE_WORDS_OF_HOME, POWER_OFF, POWER_ON, ROOT_WORD,
     SECOND_STASH, SEGMENT_SLOTS, SEGMENT_WORDS, SLOTS_OF_KEY, STASH_BUCKETS, STATE_WORD,
-    WORDS_OF_BUCKETS, depth_above, entries_of, entry_above, half_of_entry,
+    WORDS_OF_BUCKETS, depth_above, entries_of, entry_above, half_of_entry, home_of_note,
+    place_of_note,
 };

@@ -1,10 +1,13 @@
 //! How an image is laid out.
 
 ghost use Rattle.std.specs.Prelude.{◌≡◌, ◌<◌, ◌≤◌, ◌+◌, ◌*◌, ◌%◌, ◌^◌, IfOk, IfErr};
+ghost use Rattle.bucket_meta.specs.Bucket.{first_key};
 ghost use Rattle.image_layout.specs.Volatile.{counter_word, power_word, allocation_guard, directory_guard, segment_guard, all_words_of, power_from, allocation_from, directory_from, guards_from};
-ghost use Rattle.image_layout.specs.Places.{IsShape, first_segment, words_of, entry_at, head_at, header_word, link_word, bucket_at, block, homes, stash_buckets, buckets, segment_words, most_power, first_segment_of_largest, most_words, most_segments, most_depth, most_kind, entries_of, depth_above, entry_above, half_of_entry};
+ghost use Rattle.image_layout.specs.Places.{IsShape, first_segment, words_of, entry_at, head_at, header_word, link_word, home_of_note, place_of_note, bucket_at, block, homes, stash_buckets, buckets, segment_words, most_power, first_segment_of_largest, most_words, most_segments, most_depth, most_kind, entries_of, depth_above, entry_above, half_of_entry};
 
-use bucket_meta::words::{BUCKET_WORDS, SECOND_STASH_INDEX, SLOTS, STASH_INDICES};
+use bucket_meta::words::{
+    BUCKET_WORDS, MARK_PLACE, REST_PLACE, SECOND_STASH_INDEX, SLOTS, STASH_INDICES,
+};
 use hash_word::{HOMES, MOST_DEPTH};
 use std::error::Error;
 use std::fmt;
@@ -52,6 +55,8 @@ pub const BLOCK_WORDS: u16 = BLOCK as u16;
 pub const NOTE_WORDS_OF_HOME: u8 = 2;
 /// How many words of a segment have notes: these of each home.
 pub const NOTE_WORDS: u8 = NOTE_WORDS_OF_HOME * HOMES;
+/// How far behind the metadata word the other of these stands.
+const REST_BEHIND_MARK: u8 = (REST_PLACE - MARK_PLACE) as u8;
 /// How many record slots a segment has, in all its buckets.
 pub const SEGMENT_SLOTS: u64 = BUCKETS as u64 * SLOTS as u64;
 /// The most slots for segments that an image may have.
@@ -138,6 +143,21 @@ pub fn half_of_entry(i: u64) -> u64
     ensures { result ≡ half_of_entry i }
 {
     i % 2
+}
+
+/// The home of the one of this number among the words that have notes.
+pub fn home_of_note(number: u8) -> u8
+    ensures { result ≡ home_of_note number }
+{
+    number / NOTE_WORDS_OF_HOME
+}
+
+/// Its number in that home.
+pub fn place_of_note(number: u8) -> u8
+    ensures is { result ≡ place_of_note number }
+    ensures within { result < first_key }
+{
+    MARK_PLACE as u8 + REST_BEHIND_MARK * (number % NOTE_WORDS_OF_HOME)
 }
 
 /// How an image is laid out: three numbers, all in range.

@@ -3,7 +3,7 @@ use Rattle.std.proofs.Common.{◌≡◌, ◌≢◌, ℕ, ◌+◌, ◌*◌, ◌/�
 use Rattle.std.specs.Prelude.{◌==◌, ◌&&◌, if◌then◌else◌, slice_index, nat_lt}
 use Rattle.std.proofs.lemmas.Bool.{cases_eq, cases_lt, eqb-true, eq-eqb, ne_eqb, lt-ltb, le-ltb, ltb-true, ltb-false, not-false, and_right}
 use Rattle.segment_head.specs.SplitHeads.{finished_head}
-use Rattle.image_layout.specs.Places.{bucket_at, homes, buckets, block}
+use Rattle.image_layout.specs.Places.{bucket_at, homes, buckets, block, place_of_note}
 use Rattle.bucket_words.specs.Core.{core_of}
 use Rattle.bucket_words.proofs.segments.Cores.{core_in}
 use Rattle.world.specs.Ground.{Ground, IsGround}
@@ -59,10 +59,12 @@ module _ (op : RestOp) where
       ap (λ t. if t then slice_index op.cleared (note_home (2 * c + 1)) else kept_word op.whole (note_home (2 * c + 1)) 3) (is_odd c) ∙ ap (kept_third op.whole) (odd_home c low)
 
   even_word : (c : ℕ) → c < homes → note_word op (2 * c) ≡ lock_of op.whole c + 1
-  even_word c low = ap (λ t. lock_of op.whole (note_home (2 * c)) + (if t then 1 else 3)) (is_even c) ∙ ap (λ h. lock_of op.whole h + 1) (even_home c low)
+  even_word c low =
+      ap (λ h. lock_of op.whole h + place_of_note (2 * c)) (even_home c low) ∙ ap (λ n. lock_of op.whole c + n) (let even : place_of_note (2 * c) ≡ 1 = omega arith in even)
 
   odd_word : (c : ℕ) → c < homes → note_word op (2 * c + 1) ≡ lock_of op.whole c + 3
-  odd_word c low = ap (λ t. lock_of op.whole (note_home (2 * c + 1)) + (if t then 1 else 3)) (is_odd c) ∙ ap (λ h. lock_of op.whole h + 3) (odd_home c low)
+  odd_word c low =
+      ap (λ h. lock_of op.whole h + place_of_note (2 * c + 1)) (odd_home c low) ∙ ap (λ n. lock_of op.whole c + n) (let odd : place_of_note (2 * c + 1) ≡ 3 = omega arith in odd)
 
   -- ---- words 1 and 3 of each bucket, of which those before one have their notes
   abbrev first_by : ℕ → Bool → Bool → ℕ

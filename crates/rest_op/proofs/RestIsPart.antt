@@ -9,7 +9,7 @@ use Rattle.op_core.specs.declared.want.Ans.{Ans}
 use Rattle.segment_head.specs.HeadWord.{depth_in, pattern_in, version_in, normal}
 use Rattle.segment_head.specs.SplitHeads.{finished_head}
 use Rattle.segment_head.proofs.Headers.{header_below}
-use Rattle.image_layout.specs.Places.{Shape, first_segment, head_at, bucket_at, words_of, homes, buckets, block, segment_words}
+use Rattle.image_layout.specs.Places.{Shape, first_segment, head_at, bucket_at, words_of, homes, buckets, block, segment_words, place_of_note}
 use Rattle.image_layout.specs.Volatile.{all_words_of, counter_word}
 use Rattle.map_model.specs.declared.call.Call.{Call}
 use Rattle.way.specs.Ways.{head_word}
@@ -48,7 +48,7 @@ use Rattle.enclose_op.proofs.Giving.{give_some, give_answer, give_puts, give_mak
 use Rattle.rest_op.specs.declared.op.RestOp.{RestOp}
 use Rattle.rest_op.specs.declared.op.RestStep.{RestStep}
 use Rattle.rest_op.specs.declared.op.RestStep.TheVariants.{Clear, Head, HeadFlush, HeadFence, Note, Open, Give, Ended}
-use Rattle.rest_op.specs.Steps.{due, clear_from, is_cleared, clearing_by, noting, note_from, note_home, note_place, note_word, note_value, given_by, wanted_in, next_in, wanted, at_step, begun_in, end_at}
+use Rattle.rest_op.specs.Steps.{due, clear_from, is_cleared, clearing_by, noting, note_from, note_home, note_word, note_value, given_by, wanted_in, next_in, wanted, at_step, begun_in, end_at}
 use Rattle.rest_op.specs.Reckoned.{IsReckoned}
 use Rattle.rest_op.specs.Stands.{value_of, cleared_before, kind_at, HasAll, IsClearing, SuitsStep}
 use Rattle.rest_op.specs.RestPart.{outcome_at, rest_part, BeginsAsPart, BeginsUndecided, EndsAsSplit}
@@ -253,17 +253,13 @@ module _ (site : Ground) (good : IsGround site) (op : RestOp) (l : IsLocated sit
       (λ line has. let q = c.lines line has in flush_in line (subst (λ m. 8 * m + 8 ≤ words_of site.shape) (sym q.2) (line_low q.0 q.1)))
       (none_in wants.Fence refl (λ n same. absurd (cc)))
 
-  place_low : (n : ℕ) → note_place n < block
-  place_low n = by (n % 2 == 0)
-    where
-      by : (t : Bool) → (if t then 1 else 3) < 32
-      by true = omega arith
-      by false = omega arith
+  place_low : (n : ℕ) → place_of_note n < block
+  place_low n = omega arith
 
   note_low : (n : ℕ) → note_word op n < words_of site.shape
   note_low n =
       let near : note_home n < buckets = omega arith in
-      subst (λ i. i + note_place n < words_of site.shape) (sym (lock_is site op.whole l (note_home n) near)) (bucket_low (note_home n) (note_place n) near (place_low n))
+      subst (λ i. i + place_of_note n < words_of site.shape) (sym (lock_is site op.whole l (note_home n) near)) (bucket_low (note_home n) (place_of_note n) near (place_low n))
 
   within_at : (s : RestStep) → SuitsStep site op s v → IsWithin site.shape (wanted_in op s)
   within_at (Clear b rounds) s = clear_within b rounds s.0

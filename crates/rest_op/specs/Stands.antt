@@ -1,9 +1,9 @@
 -- How the rest of a split fits the world: the kind of each event, and how the view of its caller stands in each step.
-use Rattle.std.specs.Prelude.{◌≡◌, ◌≢◌, ℕ, ◌+◌, ◌*◌, ◌<◌, ◌≤◌, ◌==◌, ◌&&◌, nat_lt, None, [], ◌∷◌, slice_index, if◌then◌else◌}
+use Rattle.std.specs.Prelude.{◌≡◌, ◌≢◌, ℕ, ◌+◌, ◌<◌, ◌≤◌, ◌==◌, ◌&&◌, nat_lt, None, [], ◌∷◌, slice_index, if◌then◌else◌}
 use Rattle.trace.specs.Events.{line_of}
 use Rattle.bucket_meta.specs.Bucket.{mark_place, rest_place, given_back}
 use Rattle.segment_head.specs.HeadWord.{version_in, depth_in, pattern_in, splitting}
-use Rattle.image_layout.specs.Places.{root_word, bucket_at, homes, buckets, block, note_words_of_home, note_words}
+use Rattle.image_layout.specs.Places.{root_word, bucket_at, homes, buckets, block, note_words, mark_note, rest_note}
 use Rattle.segment_head.specs.SplitHeads.{finished_head}
 use Rattle.frame_facts.specs.Facts.{Lacks, Deep}
 use Rattle.way.specs.Ways.{head_word}
@@ -51,10 +51,10 @@ cleared_before op b c = if nat_lt c b then slice_index op.cleared c else kept_wo
 
 -- words 1 and 3 of each bucket, of which those before one have their notes
 abbrev pub first_before : RestOp → ℕ → ℕ → ℕ
-first_before op n c = if nat_lt c homes && nat_lt (note_words_of_home * c) n then slice_index op.notes.first c else slice_index op.cleared c
+first_before op n c = if nat_lt c homes && nat_lt (mark_note c) n then slice_index op.notes.first c else slice_index op.cleared c
 
 abbrev pub third_before : RestOp → ℕ → ℕ → ℕ
-third_before op n c = if nat_lt c homes && nat_lt (note_words_of_home * c + 1) n then slice_index op.notes.third c else kept_third op.whole c
+third_before op n c = if nat_lt c homes && nat_lt (rest_note c) n then slice_index op.notes.third c else kept_third op.whole c
 
 -- ---- THE VIEW
 module _ (site : Ground) (e : Enclosed) where

@@ -1,9 +1,9 @@
 -- What the rest of a split wants in each step, and what an answer makes of it; and how it ends.
-use Rattle.std.specs.Prelude.{ℕ, ◌+◌, ◌-◌, ◌/◌, ◌%◌, ◌==◌, not, nat_lt, Bool, true, false, Option, None, Some, List, slice_index, if◌then◌else◌}
+use Rattle.std.specs.Prelude.{ℕ, ◌+◌, ◌-◌, ◌%◌, ◌==◌, not, nat_lt, Bool, true, false, Option, None, Some, List, slice_index, if◌then◌else◌}
 use Rattle.trace.specs.Events.{line_of}
 use Rattle.bucket_meta.specs.Bucket.{mark_place, rest_place}
 use Rattle.segment_head.specs.SplitHeads.{finished_head}
-use Rattle.image_layout.specs.Places.{homes, buckets, note_words_of_home, note_words}
+use Rattle.image_layout.specs.Places.{homes, buckets, note_words_of_home, note_words, home_of_note, place_of_note}
 use Rattle.way.specs.Ways.{head_word}
 use Rattle.op_core.specs.declared.want.Want.{Want}
 use Rattle.op_core.specs.declared.want.Want.TheVariants as want
@@ -25,12 +25,9 @@ use Rattle.rest_op.specs.declared.op.RestStep.TheVariants.{Clear, Head, HeadFlus
 use Rattle.rest_op.specs.declared.op.RestOp.{RestOp}
 use Rattle.rounds.specs.Seeking.{seek}
 
--- the home of a word of the notes, and its number in the bucket
+-- the home of a word of the notes, for any number
 abbrev pub note_home : ℕ → ℕ
-note_home n = n / note_words_of_home % homes
-
-abbrev pub note_place : ℕ → ℕ
-note_place n = if n % note_words_of_home == 0 then mark_place else rest_place
+note_home n = home_of_note n % homes
 
 module _ (op : RestOp) where
   -- ---- what is cleared
@@ -77,7 +74,7 @@ module _ (op : RestOp) where
 
   -- where it stands
   abbrev pub note_word : ℕ → ℕ
-  note_word n = lock_of op.whole (note_home n) + note_place n
+  note_word n = lock_of op.whole (note_home n) + place_of_note n
 
 -- where all notes are stored, the segment is opened
 abbrev pub noting : ℕ → RestStep

@@ -1,12 +1,12 @@
 //! The machine, its steps, and how it ends.
 
 ghost use Rattle.std.specs.Prelude.{◌≡◌, ◌<◌, ◌≤◌};
-ghost use Rattle.image_layout.specs.Places.{buckets, note_words};
-ghost use Rattle.rest_op.specs.Steps.{is_cleared, clear_from, note_old, note_value, is_noted, note_from, note_word, due, clearing, noting, locks_from, given_to, cleared, begun, begun_in, wanted, taken, end_of};
+ghost use Rattle.image_layout.specs.Places.{homes, buckets, note_words};
+ghost use Rattle.rest_op.specs.Steps.{is_cleared, clear_from, note_home, note_old, note_value, is_noted, note_from, note_word, due, clearing, noting, locks_from, given_to, cleared, begun, begun_in, wanted, taken, end_of};
 
 use bucket_meta::words::{BUCKET_WORDS, MARK_PLACE, REST_PLACE};
 use enclose_op::{Enclosed, Give, given};
-use image_layout::{BUCKETS, HOMES, NOTE_WORDS, NOTE_WORDS_OF_HOME};
+use image_layout::{BUCKETS, HOMES, NOTE_WORDS, NOTE_WORDS_OF_HOME, home_of_note, place_of_note};
 use op_core::{Ans, Machine, Want};
 use rounds::Rounds;
 use segment_head::split::finished_head;
@@ -55,6 +55,14 @@ pub struct RestOp {
     pub notes: Notes,
     /// Where it stands.
     pub step: RestStep,
+}
+
+/// The home of a word of the notes, for any number.
+fn note_home(number: u8) -> u8
+    ensures is { result ≡ note_home number }
+    ensures within { result < homes }
+{
+    home_of_note(number) % HOMES
 }
 
 /// One that has stored nothing yet, with these words.
@@ -142,7 +150,7 @@ impl RestOp {
     fn note_value(&self, number: u8) -> u64
         ensures { result ≡ note_value self.now number }
     {
-        let at = usize::from(number / NOTE_WORDS_OF_HOME % HOMES);
+        let at = usize::from(note_home(number));
         if number % NOTE_WORDS_OF_HOME == 0 {
             self.notes.first[at]
         } else {
@@ -154,11 +162,11 @@ impl RestOp {
     fn note_old(&self, number: u8) -> u64
         ensures { result ≡ note_old self.now number }
     {
-        let at = usize::from(number / NOTE_WORDS_OF_HOME % HOMES);
+        let home = note_home(number);
         if number % NOTE_WORDS_OF_HOME == 0 {
-            self.cleared[at]
+            self.cleared[usize::from(home)]
         } else {
-            self.whole.buckets[BUCKET_WORDS * at + REST_PLACE]
+            self.whole.buckets[BUCKET_WORDS * usize::from(home) + REST_PLACE]
         }
     }
 
@@ -186,12 +194,7 @@ impl RestOp {
     fn note_word(&self, number: u8) -> u64
         ensures { result ≡ note_word self.now number }
     {
-        self.whole.lock(number / NOTE_WORDS_OF_HOME % HOMES)
-            + if number % NOTE_WORDS_OF_HOME == 0 {
-                MARK_PLACE as u64
-            } else {
-                REST_PLACE as u64
-            }
+        self.whole.lock(note_home(number)) + u64::from(place_of_note(number))
     }
 
     /// The step in which a word of the notes is stored; where all are, the segment is opened.
