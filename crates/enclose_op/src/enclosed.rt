@@ -25,7 +25,7 @@ pub struct Enclosed {
     pub head: u64,
     /// The free value that each lock word had.
     pub locks: [u64; BUCKETS as usize],
-    /// The words of its buckets: word `n` of bucket `b` is number `32 * b + n`; the lock words are left out, and are 0.
+    /// The words of its buckets, numbered as `word_among_buckets` says; the lock words are left out, and are 0.
     pub buckets: [u64; WORDS_OF_BUCKETS as usize],
 }
 

@@ -103,6 +103,10 @@ rest_note c = note_words_of_home * c + 1
 abbrev pub header_blocks : ℕ
 header_blocks = 1
 
+-- how many words these have
+abbrev pub header_words : ℕ
+header_words = block * header_blocks
+
 -- how many blocks a slot has: its header and its buckets
 abbrev pub slot_blocks : ℕ
 slot_blocks = header_blocks + buckets
@@ -118,6 +122,32 @@ words_of_buckets = block * buckets
 -- the last one of them, counted from the first, which is 0
 abbrev pub last_of_buckets : ℕ
 last_of_buckets = words_of_buckets - 1
+
+-- the first word of bucket b among them, and word n of it
+abbrev pub first_among_buckets : ℕ → ℕ
+first_among_buckets b = block * b
+
+abbrev pub word_among_buckets : ℕ → ℕ → ℕ
+word_among_buckets b n = first_among_buckets b + n
+
+-- the first word of bucket b among the words of its slot, where the buckets stand behind the header
+abbrev pub bucket_place : ℕ → ℕ
+bucket_place b = header_words + first_among_buckets b
+
+-- the bucket in which a word of a slot stands, by its number there, 0 for a word of the header; and the first bucket behind the word: the header is one
+-- block, so it is as many as the blocks before the word
+abbrev pub bucket_of : ℕ → ℕ
+bucket_of number = number / block - header_blocks
+
+abbrev pub bucket_behind : ℕ → ℕ
+bucket_behind number = 1 - header_blocks + number / block
+
+-- the number that this word has among the words of the buckets, and that of the metadata word of its bucket; of a word of the header 0
+abbrev pub among_buckets : ℕ → ℕ
+among_buckets number = number - header_words
+
+abbrev pub mark_among_buckets : ℕ → ℕ
+mark_among_buckets number = number - number % block - (header_words - mark_place)
 
 -- the three numbers that say how an image is laid out
 pub record Shape : Type 0 where
@@ -198,9 +228,9 @@ words_of shape = head_at shape shape.segments
 abbrev pub most_words : ℕ
 most_words = 35258400
 
--- the first word of bucket b of segment s; the stash buckets stand behind the homes
+-- the first word of bucket b of segment s; the stash buckets stand behind the homes; of these brackets, by which proofs go on
 abbrev pub bucket_at : Shape → ℕ → ℕ → ℕ
-bucket_at shape s b = head_at shape s + block + block * b
+bucket_at shape s b = head_at shape s + header_words + first_among_buckets b
 
 -- the key and the value of record slot r in a bucket
 abbrev pub key_at : Shape → ℕ → ℕ → ℕ → ℕ

@@ -3,7 +3,7 @@
 ghost use Rattle.std.specs.Prelude.{◌≡◌, ◌<◌, ◌≤◌, ◌+◌, ◌*◌, ◌%◌, ◌^◌, IfOk, IfErr};
 ghost use Rattle.bucket_meta.specs.Bucket.{first_key};
 ghost use Rattle.image_layout.specs.Volatile.{counter_word, power_word, allocation_guard, directory_guard, segment_guard, all_words_of, power_from, allocation_from, directory_from, guards_from};
-ghost use Rattle.image_layout.specs.Places.{IsShape, first_segment, words_of, entry_at, head_at, header_word, link_word, home_of_note, place_of_note, bucket_at, block, homes, stash_buckets, buckets, segment_words, most_power, first_segment_of_largest, most_words, most_segments, most_depth, most_kind, entries_of, depth_above, entry_above, half_of_entry};
+ghost use Rattle.image_layout.specs.Places.{IsShape, first_segment, words_of, entry_at, head_at, header_word, link_word, home_of_note, place_of_note, bucket_at, bucket_place, first_among_buckets, word_among_buckets, bucket_of, bucket_behind, among_buckets, mark_among_buckets, block, homes, stash_buckets, buckets, segment_words, most_power, first_segment_of_largest, most_words, most_segments, most_depth, most_kind, entries_of, depth_above, entry_above, half_of_entry};
 
 use bucket_meta::words::{
     BUCKET_WORDS, MARK_PLACE, REST_PLACE, SECOND_STASH_INDEX, SLOTS, STASH_INDICES,
@@ -42,11 +42,13 @@ pub const HEADER: u64 = 1;
 /// Which of them is the word of its link.
 pub const LINK: u64 = 2;
 /// How many blocks of a slot for a segment are its header, in front of its buckets.
-pub const HEADER_BLOCKS: u16 = 1;
+const HEADER_BLOCKS: u16 = 1;
+/// How many words these have.
+pub const HEADER_WORDS: u16 = BLOCK_WORDS * HEADER_BLOCKS;
 /// How many words a segment has: a header and its buckets.
 pub const SEGMENT_WORDS: u64 = BLOCK * (HEADER_BLOCKS as u64 + BUCKETS as u64);
 /// How many words the buckets of a segment have together.
-pub const WORDS_OF_BUCKETS: u64 = SEGMENT_WORDS - BLOCK;
+pub const WORDS_OF_BUCKETS: u64 = BLOCK * BUCKETS as u64;
 /// The last one of these words, counted from the first, which is 0.
 pub const LAST_OF_BUCKETS: u16 = WORDS_OF_BUCKETS as u16 - 1;
 /// How many words a header and a bucket have, where the words of a segment are numbered.
@@ -143,6 +145,55 @@ pub fn half_of_entry(i: u64) -> u64
     ensures { result ≡ half_of_entry i }
 {
     i % 2
+}
+
+/// The first word of bucket `b` among the words of all buckets of a segment.
+pub fn first_among_buckets(b: u8) -> u16
+    ensures { result ≡ first_among_buckets b }
+{
+    BLOCK_WORDS * u16::from(b)
+}
+
+/// Word `n` of bucket `b` among the words of all buckets of a segment.
+pub fn word_among_buckets(b: u8, n: u8) -> u16
+    ensures { result ≡ word_among_buckets b n }
+{
+    first_among_buckets(b) + u16::from(n)
+}
+
+/// The first word of bucket `b` among the words of its slot, where the buckets stand behind the header.
+pub fn bucket_place(b: u8) -> u16
+    ensures { result ≡ bucket_place b }
+{
+    HEADER_WORDS + first_among_buckets(b)
+}
+
+/// The bucket in which a word of a slot stands, by its number there; 0 for a word of the header.
+pub fn bucket_of(number: u16) -> u16
+    ensures { result ≡ bucket_of number }
+{
+    (number / BLOCK_WORDS).saturating_sub(HEADER_BLOCKS)
+}
+
+/// The first bucket behind that word: as many as the blocks before it, since the header is one block.
+pub fn bucket_behind(number: u16) -> u16
+    ensures { result ≡ bucket_behind number }
+{
+    1 - HEADER_BLOCKS + number / BLOCK_WORDS
+}
+
+/// The number that this word has among the words of the buckets; that of the first one for a word of the header.
+pub fn among_buckets(number: u16) -> u16
+    ensures { result ≡ among_buckets number }
+{
+    number.saturating_sub(HEADER_WORDS)
+}
+
+/// The number that the metadata word of its bucket has among them; that of the first word for a word of the header.
+pub fn mark_among_buckets(number: u16) -> u16
+    ensures { result ≡ mark_among_buckets number }
+{
+    (number - number % BLOCK_WORDS).saturating_sub(HEADER_WORDS - MARK_PLACE as u16)
 }
 
 /// The home of the one of this number among the words that have notes.
@@ -304,7 +355,7 @@ impl Geometry {
         ensures within { result + block ≤ words_of self.now }
         ensures most { result + block ≤ most_words }
     {
-        self.head_at(slot) + BLOCK + BLOCK * u64::from(b)
+        self.head_at(slot) + u64::from(HEADER_WORDS) + u64::from(first_among_buckets(b))
     }
 
     /// The first of the 32 words of stash bucket `k`, 0 or 1, of the segment in this slot.

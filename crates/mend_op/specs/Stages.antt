@@ -1,7 +1,7 @@
 -- The three stages in which words are stored: which words each may change, one after another, and what they are to be.
-use Rattle.std.specs.Prelude.{ℕ, ◌+◌, ◌-◌, ◌*◌, ◌/◌, ◌%◌, List}
-use Rattle.bucket_meta.specs.Bucket.{mark_place, rest_place}
-use Rattle.image_layout.specs.Places.{Shape, buckets, block, note_words_of_home, note_words, words_of_buckets}
+use Rattle.std.specs.Prelude.{ℕ, ◌+◌, ◌*◌, ◌/◌, ◌%◌, List}
+use Rattle.bucket_meta.specs.Bucket.{mark_place}
+use Rattle.image_layout.specs.Places.{Shape, buckets, note_words, home_of_note, place_of_note, words_of_buckets, word_among_buckets}
 use Rattle.whole_segment.specs.Words.{words_by}
 use Rattle.mend_op.specs.declared.stage.Stage.{Stage}
 use Rattle.mend_op.specs.declared.stage.Stage.TheVariants.{Clear, Mend, Note}
@@ -20,9 +20,9 @@ most Note = note_words
 -- which word of the buckets is the one of this number among them. In the second stage the remainder is the number of the word itself in its bucket:
 -- a sum with `lock_place` would be another term
 abbrev pub place : Stage → ℕ → ℕ
-place Clear n = block * n + mark_place
-place Mend n = block * (n / mended_words_of_bucket) + n % mended_words_of_bucket
-place Note n = block * (n / note_words_of_home) + mark_place + (rest_place - mark_place) * (n % note_words_of_home)
+place Clear n = word_among_buckets n mark_place
+place Mend n = word_among_buckets (n / mended_words_of_bucket) (n % mended_words_of_bucket)
+place Note n = word_among_buckets (home_of_note n) (place_of_note n)
 
 -- the word that it makes, by all words before it and the header
 abbrev pub made_word : Stage → Shape → ℕ → List ℕ → ℕ → ℕ

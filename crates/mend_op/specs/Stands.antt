@@ -1,11 +1,11 @@
 -- How a mending fits the world: the kind of each event, and how the view of its caller stands in each step.
-use Rattle.std.specs.Prelude.{◌≡◌, ◌≢◌, ℕ, ◌+◌, ◌*◌, ◌^◌, ◌<◌, ◌≤◌, ◌⊎◌, Option, None, Some, List, [], ◌∷◌, slice_index}
+use Rattle.std.specs.Prelude.{◌≡◌, ◌≢◌, ℕ, ◌+◌, ◌^◌, ◌<◌, ◌≤◌, ◌⊎◌, Option, None, Some, List, [], ◌∷◌, slice_index}
 use Rattle.trace.specs.Events.{line_of}
 use Rattle.hash_word.specs.Hash.{Covers, hash_bits}
 use Rattle.bucket_meta.specs.Bucket.{lock_bit}
 use Rattle.segment_head.specs.HeadWord.{version_in, state_in, depth_in, pattern_in, normal, splitting}
 use Rattle.segment_head.specs.SplitHeads.{finished_head}
-use Rattle.image_layout.specs.Places.{root_word, bucket_at, buckets, block, note_words, words_of_buckets}
+use Rattle.image_layout.specs.Places.{root_word, bucket_at, buckets, note_words, words_of_buckets, first_among_buckets}
 use Rattle.sound_image.specs.Records.{key_hash}
 use Rattle.whole_segment.specs.Records.{Stands}
 use Rattle.whole_segment.specs.Mending.{IsLookedFor}
@@ -69,7 +69,7 @@ module _ (site : Ground) (guarded : Guarded) where
   pub record AreMended (words : List ℕ) : Type 0 where
     pub own : (b r k : ℕ) → Stands (first_of words) (key_of words) b r k → Covers (depth_in guarded.head) (pattern_in guarded.head) (key_hash site.shape k)
     pub once : (b r c t k : ℕ) → Stands (first_of words) (key_of words) b r k → Stands (first_of words) (key_of words) c t k → (c ≡ b) × (t ≡ r)
-    pub free : (b : ℕ) → b < buckets → lock_bit (slice_index words (block * b)) ≡ 0
+    pub free : (b : ℕ) → b < buckets → lock_bit (slice_index words (first_among_buckets b)) ≡ 0
 
   -- ---- THE VIEW
   -- words of the slot alone are known

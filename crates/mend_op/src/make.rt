@@ -1,40 +1,40 @@
 //! What each stage makes of the words of the buckets.
 
-ghost use Rattle.std.specs.Prelude.{◌≡◌, ◌≢◌, ◌≤◌, ◌<◌, ◌+◌, ◌*◌, ℕ, length, slice_index};
-ghost use Rattle.image_layout.specs.Places.{buckets, block};
+ghost use Rattle.std.specs.Prelude.{◌≡◌, ◌≢◌, ◌≤◌, ◌<◌, ℕ, length, slice_index};
+ghost use Rattle.image_layout.specs.Places.{buckets, block, first_among_buckets, word_among_buckets};
 ghost use Rattle.mend_op.specs.Words.{mended_lock};
 ghost use Rattle.mend_op.specs.Stages.{made};
 
 use crate::heads::own_depth;
 use crate::stage::Stage;
-use bucket_meta::words::{BUCKET_WORDS, MARK_PLACE, REST_PLACE, without_lock};
-use image_layout::{BUCKETS, Geometry, WORDS_OF_BUCKETS};
+use bucket_meta::words::{MARK_PLACE, REST_PLACE, without_lock};
+use image_layout::{BUCKETS, Geometry, WORDS_OF_BUCKETS, first_among_buckets};
 use segment_head::split::{one_pattern_field, side_depth};
 use segment_head::word::pattern_of;
 use whole_segment::{Loaded, rebuilt_notes};
 
-/// The words of the buckets of a segment: word `n` of bucket `b` is number `32 * b + n`.
+/// The words of the buckets of a segment, numbered as `word_among_buckets` says.
 pub(crate) type Words = [u64; WORDS_OF_BUCKETS as usize];
 
 /// Puts the words of this number of the first buckets.
 fn put(words: &mut Words, number: usize, values: &[u64])
     requires number { number < block }
     requires few { length values.now ≤ buckets }
-    ensures here { (b : ℕ) → b < length values.now → slice_index words.new (block * b + number) ≡ slice_index values.now b }
-    ensures others { (i : ℕ) → ((b : ℕ) → b < length values.now → i ≢ block * b + number) → slice_index words.new i ≡ slice_index words.old i }
+    ensures here { (b : ℕ) → b < length values.now → slice_index words.new (word_among_buckets b number) ≡ slice_index values.now b }
+    ensures others { (i : ℕ) → ((b : ℕ) → b < length values.now → i ≢ word_among_buckets b number) → slice_index words.new i ≡ slice_index words.old i }
 {
     for (bucket, value) in values.iter().enumerate() {
-        words[BUCKET_WORDS * bucket + number] = *value;
+        words[usize::from(first_among_buckets(bucket as u8)) + number] = *value;
     }
 }
 
 /// Frees the lock words.
 fn free_locks(words: &mut Words)
-    ensures here { (b : ℕ) → b < buckets → slice_index words.new (block * b) ≡ mended_lock (slice_index words.old (block * b)) }
-    ensures others { (i : ℕ) → ((b : ℕ) → b < buckets → i ≢ block * b) → slice_index words.new i ≡ slice_index words.old i }
+    ensures here { (b : ℕ) → b < buckets → slice_index words.new (first_among_buckets b) ≡ mended_lock (slice_index words.old (first_among_buckets b)) }
+    ensures others { (i : ℕ) → ((b : ℕ) → b < buckets → i ≢ first_among_buckets b) → slice_index words.new i ≡ slice_index words.old i }
 {
-    for bucket in 0..usize::from(BUCKETS) {
-        let lock = BUCKET_WORDS * bucket;
+    for bucket in 0..BUCKETS {
+        let lock = usize::from(first_among_buckets(bucket));
         words[lock] = without_lock(words[lock]);
     }
 }

@@ -56,7 +56,7 @@ pub enum MendStep {
 pub struct MendOp {
     /// The segment, with its header as it stands.
     pub guarded: Guarded,
-    /// The words of its buckets as they stand: word `n` of bucket `b` is number `32 * b + n`.
+    /// The words of its buckets as they stand, numbered as `word_among_buckets` says.
     pub words: [u64; WORDS_OF_BUCKETS as usize],
     /// What they are to be when the stage is over.
     pub next: [u64; WORDS_OF_BUCKETS as usize],

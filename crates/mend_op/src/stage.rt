@@ -4,17 +4,11 @@ ghost use Rattle.std.specs.Prelude.{◌≡◌, ◌<◌};
 ghost use Rattle.image_layout.specs.Places.{words_of_buckets};
 ghost use Rattle.mend_op.specs.Stages.{most, place};
 
-use bucket_meta::words::{MARK_PLACE, REST_PLACE};
-use image_layout::{BLOCK_WORDS, BUCKETS, NOTE_WORDS};
-
-/// How many words of a home have notes.
-const NOTE_WORDS_OF_HOME: u16 = image_layout::NOTE_WORDS_OF_HOME as u16;
+use bucket_meta::words::MARK_PLACE;
+use image_layout::{BUCKETS, NOTE_WORDS, home_of_note, place_of_note, word_among_buckets};
 
 /// How many words of a bucket the second stage may change: those from its first, which is its lock word, to its metadata word.
 const MENDED_WORDS_OF_BUCKET: u8 = MARK_PLACE as u8 + 1;
-
-/// How far behind the metadata word the last word before the records stands.
-const REST_BEHIND_MARK: u16 = (REST_PLACE - MARK_PLACE) as u16;
 
 /// What is stored, and in which words.
 #[derive(Clone, Copy)]
@@ -39,24 +33,19 @@ impl Stage {
         }
     }
 
-    /// Which word of the buckets is the one of this number among them: word `n` of bucket `b` is number `BLOCK_WORDS * b + n`.
+    /// Which word of the buckets is the one of this number among them.
     pub(crate) fn place(self, number: u8) -> u16
         ensures is { result ≡ place self number }
         ensures within { number < most self → result < words_of_buckets }
     {
-        let number = u16::from(number);
         match self {
-            Stage::Clear => BLOCK_WORDS * number + MARK_PLACE as u16,
+            Stage::Clear => word_among_buckets(number, MARK_PLACE as u8),
             // The remainder is the number of the word itself in its bucket.
-            Stage::Mend => {
-                BLOCK_WORDS * (number / u16::from(MENDED_WORDS_OF_BUCKET))
-                    + number % u16::from(MENDED_WORDS_OF_BUCKET)
-            }
-            Stage::Note => {
-                BLOCK_WORDS * (number / NOTE_WORDS_OF_HOME)
-                    + MARK_PLACE as u16
-                    + REST_BEHIND_MARK * (number % NOTE_WORDS_OF_HOME)
-            }
+            Stage::Mend => word_among_buckets(
+                number / MENDED_WORDS_OF_BUCKET,
+                number % MENDED_WORDS_OF_BUCKET,
+            ),
+            Stage::Note => word_among_buckets(home_of_note(number), place_of_note(number)),
         }
     }
 }

@@ -4,9 +4,12 @@ ghost use Rattle.std.specs.Prelude.{◌≡◌, ◌<◌, ◌≤◌};
 ghost use Rattle.image_layout.specs.Places.{homes, buckets, note_words};
 ghost use Rattle.rest_op.specs.Steps.{is_cleared, clear_from, note_home, note_old, note_value, is_noted, note_from, note_word, due, clearing, noting, locks_from, given_to, cleared, begun, begun_in, wanted, taken, end_of};
 
-use bucket_meta::words::{BUCKET_WORDS, MARK_PLACE, REST_PLACE};
+use bucket_meta::words::{MARK_PLACE, REST_PLACE};
 use enclose_op::{Enclosed, Give, given};
-use image_layout::{BUCKETS, HOMES, NOTE_WORDS, NOTE_WORDS_OF_HOME, home_of_note, place_of_note};
+use image_layout::{
+    BUCKETS, HOMES, NOTE_WORDS, NOTE_WORDS_OF_HOME, first_among_buckets, home_of_note,
+    place_of_note,
+};
 use op_core::{Ans, Machine, Want};
 use rounds::Rounds;
 use segment_head::split::finished_head;
@@ -90,7 +93,7 @@ impl RestOp {
         ensures { result ≡ is_cleared self.now bucket }
     {
         self.cleared[usize::from(bucket)]
-            != self.whole.buckets[BUCKET_WORDS * usize::from(bucket) + MARK_PLACE]
+            != self.whole.buckets[usize::from(first_among_buckets(bucket)) + MARK_PLACE]
     }
 
     /// The first such bucket from a number on; the number of all buckets where there is none.
@@ -166,7 +169,7 @@ impl RestOp {
         if number % NOTE_WORDS_OF_HOME == 0 {
             self.cleared[usize::from(home)]
         } else {
-            self.whole.buckets[BUCKET_WORDS * usize::from(home) + REST_PLACE]
+            self.whole.buckets[usize::from(first_among_buckets(home)) + REST_PLACE]
         }
     }
 

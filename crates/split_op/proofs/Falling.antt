@@ -1,8 +1,8 @@
 -- Each event leaves fewer, and lines that are flushed are counted until the fence.
-use Rattle.std.proofs.Common.{◌≡◌, ◌≢◌, ℕ, suc, ◌+◌, ◌-◌, ◌*◌, ◌/◌, ◌%◌, ◌<◌, ◌≤◌, ◌⊎◌, Bool, true, false, Option, None, Some, List, length, slice_index, inl, inr, refl, sym, ap, ◌∙◌, subst, arith}
+use Rattle.std.proofs.Common.{◌≡◌, ◌≢◌, ℕ, suc, ◌+◌, ◌-◌, ◌*◌, ◌%◌, ◌<◌, ◌≤◌, ◌⊎◌, Bool, true, false, Option, None, Some, List, length, slice_index, inl, inr, refl, sym, ap, ◌∙◌, subst, arith}
 use Rattle.std.specs.Prelude.{nat_lt, ◌==◌, ◌&&◌, not, min, if◌then◌else◌}
 use Rattle.whole_segment.specs.Rounds.{most_lines}
-use Rattle.image_layout.specs.Places.{Shape, segment_words, buckets, most_segments}
+use Rattle.image_layout.specs.Places.{Shape, segment_words, bucket_behind, buckets, most_segments}
 use Rattle.std.proofs.lemmas.Bool.{ltb-true, cond_both}
 use Rattle.std.proofs.lemmas.Option.{none-some}
 use Rattle.op_core.specs.declared.want.Want.{Want}
@@ -39,14 +39,14 @@ use Rattle.split_op.proofs.sides.Seeking.{copied_behind}
 
 -- ---- a batch goes on
 -- the word that is emptied behind one is a later one
-first_behind : (locks : List ℕ) (b : ℕ) → 32 * b + 32 ≤ first_of locks b ⊎ (first_of locks b ≡ segment_words)
-first_behind locks b = cond_both (nat_lt b buckets) _ segment_words (λ (n : ℕ). (32 * b + 32 ≤ n) ⊎ (n ≡ segment_words))
-    (λ _. cond_both (slice_index locks b % 2 == 0) (32 * b + 33) (32 * b + 32) (λ (n : ℕ). (32 * b + 32 ≤ n) ⊎ (n ≡ segment_words)) (λ _. inl (omega arith)) (λ _. inl (omega arith)))
+first_behind : (locks : List ℕ) (b : ℕ) → 32 + 32 * b ≤ first_of locks b ⊎ (first_of locks b ≡ segment_words)
+first_behind locks b = cond_both (nat_lt b buckets) _ segment_words (λ (n : ℕ). (32 + 32 * b ≤ n) ⊎ (n ≡ segment_words))
+    (λ _. cond_both (slice_index locks b % 2 == 0) (32 + 32 * b + 1) (32 + 32 * b) (λ (n : ℕ). (32 + 32 * b ≤ n) ⊎ (n ≡ segment_words)) (λ _. inl (omega arith)) (λ _. inl (omega arith)))
     (λ _. inr refl)
 
 pub empty_behind : (locks : List ℕ) (i : ℕ) → i < segment_words → i < after_empty locks i
-empty_behind locks i low = cond_both (not (nat_lt i 32) && nat_lt (i % 32) 3) (i + 1) (first_of locks (i / 32)) (λ (n : ℕ). i < n) (λ _. omega arith)
-    (λ _. elim (first_behind locks (i / 32)) [ inl far ↦ omega (arith, far) | inr all ↦ omega (arith, all, low) ])
+empty_behind locks i low = cond_both (not (nat_lt i 32) && nat_lt (i % 32) 3) (i + 1) (first_of locks (bucket_behind i)) (λ (n : ℕ). i < n) (λ _. omega arith)
+    (λ _. elim (first_behind locks (bucket_behind i)) [ inl far ↦ omega (arith, far) | inr all ↦ omega (arith, all, low) ])
 
 -- a store of a batch leaves one less, and as much behind it
 record IsLess (batch next : Batch) : Type 0 where

@@ -3,7 +3,7 @@ use Rattle.std.proofs.Common.{◌≡◌, ℕ, ◌+◌, ◌-◌, ◌*◌, ◌/◌
 use Rattle.std.specs.Prelude.{nat_lt, ◌||◌, ◌&&◌, not, ◌==◌, min, if◌then◌else◌}
 use Rattle.std.proofs.lemmas.Bool.{cases_lt, cases_Bool, lt-ltb, le-ltb, eqb-true}
 use Rattle.bucket_meta.specs.Bucket.{without_lock}
-use Rattle.image_layout.specs.Places.{Shape, root_word, head_at, bucket_at, buckets, segment_words, most_segments}
+use Rattle.image_layout.specs.Places.{Shape, root_word, head_at, bucket_at, bucket_behind, buckets, segment_words, most_segments}
 use Rattle.frame_facts.specs.DeadSlots.{IsInSlot}
 use Rattle.world.proofs.fitting.OneHolder.{one_slot}
 use Rattle.way.specs.Ways.{slot_word}
@@ -81,35 +81,35 @@ IsFirst p = (p ≡ 2) ⊎ ((32 ≤ p) × (p < segment_words) × (p % 32 < 4))
 
 module _ (locks : List ℕ) (k : ℕ) where
   -- behind the link and behind the metadata of a bucket it is the first one of the next bucket
-  first_cases : (b : ℕ) → ((b < 66) × (slice_index locks b % 2 ≡ 0) × (first_of locks b ≡ 32 * b + 33)) ⊎ ((b < 66) × (first_of locks b ≡ 32 * b + 32)) ⊎ ((66 ≤ b) × (first_of locks b ≡ segment_words))
+  first_cases : (b : ℕ) → ((b < 66) × (slice_index locks b % 2 ≡ 0) × (first_of locks b ≡ 32 + 32 * b + 1)) ⊎ ((b < 66) × (first_of locks b ≡ 32 + 32 * b)) ⊎ ((66 ≤ b) × (first_of locks b ≡ segment_words))
   first_cases b = elim (cases_lt b buckets) [
     | inl low ↦ elim (cases_Bool (slice_index locks b % 2 == 0)) [
-      | inl even ↦ inl (low, eqb-true (slice_index locks b % 2) 0 even, near low ∙ ap (λ (t : Bool). if t then 32 * b + 33 else 32 * b + 32) even)
-      | inr odd ↦ inr (inl (low, near low ∙ ap (λ (t : Bool). if t then 32 * b + 33 else 32 * b + 32) odd))
+      | inl even ↦ inl (low, eqb-true (slice_index locks b % 2) 0 even, near low ∙ ap (λ (t : Bool). if t then 32 + 32 * b + 1 else 32 + 32 * b) even)
+      | inr odd ↦ inr (inl (low, near low ∙ ap (λ (t : Bool). if t then 32 + 32 * b + 1 else 32 + 32 * b) odd))
     ]
-    | inr high ↦ inr (inr (high, ap (λ (t : Bool). if t then (if slice_index locks b % 2 == 0 then 32 * b + 33 else 32 * b + 32) else segment_words) (le-ltb b buckets high)))
+    | inr high ↦ inr (inr (high, ap (λ (t : Bool). if t then (if slice_index locks b % 2 == 0 then 32 + 32 * b + 1 else 32 + 32 * b) else segment_words) (le-ltb b buckets high)))
   ]
     where
-      near : b < 66 → first_of locks b ≡ (if slice_index locks b % 2 == 0 then 32 * b + 33 else 32 * b + 32)
-      near low = ap (λ (t : Bool). if t then (if slice_index locks b % 2 == 0 then 32 * b + 33 else 32 * b + 32) else segment_words) (lt-ltb b buckets low)
+      near : b < 66 → first_of locks b ≡ (if slice_index locks b % 2 == 0 then 32 + 32 * b + 1 else 32 + 32 * b)
+      near low = ap (λ (t : Bool). if t then (if slice_index locks b % 2 == 0 then 32 + 32 * b + 1 else 32 + 32 * b) else segment_words) (lt-ltb b buckets low)
 
-  after_cases : IsFirst k → ((32 ≤ k) × (k % 32 < 3) × (after_empty locks k ≡ k + 1)) ⊎ (((k ≡ 2) ⊎ ((32 ≤ k) × (k % 32 ≡ 3))) × (after_empty locks k ≡ first_of locks (k / 32)))
-  after_cases (inl two) = inr (inl two, ap (λ (t : Bool). if not t && nat_lt (k % 32) 3 then k + 1 else first_of locks (k / 32)) (lt-ltb k 32 (omega (arith, two))))
+  after_cases : IsFirst k → ((32 ≤ k) × (k % 32 < 3) × (after_empty locks k ≡ k + 1)) ⊎ (((k ≡ 2) ⊎ ((32 ≤ k) × (k % 32 ≡ 3))) × (after_empty locks k ≡ first_of locks (bucket_behind k)))
+  after_cases (inl two) = inr (inl two, ap (λ (t : Bool). if not t && nat_lt (k % 32) 3 then k + 1 else first_of locks (bucket_behind k)) (lt-ltb k 32 (omega (arith, two))))
   after_cases (inr first) =
       let from = first.0 in
       let small = first.2 in
-      let high : after_empty locks k ≡ (if nat_lt (k % 32) 3 then k + 1 else first_of locks (k / 32)) =
-      ap (λ (t : Bool). if not t && nat_lt (k % 32) 3 then k + 1 else first_of locks (k / 32)) (le-ltb k 32 from) in
+      let high : after_empty locks k ≡ (if nat_lt (k % 32) 3 then k + 1 else first_of locks (bucket_behind k)) =
+      ap (λ (t : Bool). if not t && nat_lt (k % 32) 3 then k + 1 else first_of locks (bucket_behind k)) (le-ltb k 32 from) in
       elim (cases_lt (k % 32) 3) [
-        | inl low ↦ inl (from, low, high ∙ ap (λ (t : Bool). if t then k + 1 else first_of locks (k / 32)) (lt-ltb (k % 32) 3 low))
-        | inr last ↦ inr (inr (from, omega (arith, small, last)), high ∙ ap (λ (t : Bool). if t then k + 1 else first_of locks (k / 32)) (le-ltb (k % 32) 3 last))
+        | inl low ↦ inl (from, low, high ∙ ap (λ (t : Bool). if t then k + 1 else first_of locks (bucket_behind k)) (lt-ltb (k % 32) 3 low))
+        | inr last ↦ inr (inr (from, omega (arith, small, last)), high ∙ ap (λ (t : Bool). if t then k + 1 else first_of locks (bucket_behind k)) (le-ltb (k % 32) 3 last))
       ]
 
   -- it is emptied too, or all are
   pub after_first : k < segment_words → IsFirst k → IsFirst (after_empty locks k) ⊎ (segment_words ≤ after_empty locks k)
   after_first low is = elim (after_cases is) [
     | inl one ↦ (let from = one.0 in let small = one.1 in let next = one.2 in inl (inr (omega (arith, from, next), omega (arith, low, small, next), omega (arith, small, next))))
-    | inr more ↦ (let next = more.1 in elim (first_cases (k / 32)) [
+    | inr more ↦ (let next = more.1 in elim (first_cases (bucket_behind k)) [
       | inl even ↦ (let near = even.0 in let at = even.2 in inl (inr (omega (arith, next, at), omega (arith, next, at, near), omega (arith, next, at))))
       | inr (inl odd) ↦ (let near = odd.0 in let at = odd.1 in inl (inr (omega (arith, next, at), omega (arith, next, at, near), omega (arith, next, at))))
       | inr (inr none) ↦ (let at = none.1 in inr (omega (arith, next, at)))
@@ -120,26 +120,26 @@ module _ (locks : List ℕ) (k : ℕ) where
   pub passed_over : k < segment_words → IsFirst k → (p : ℕ) → IsFirst p → k < p → p < after_empty locks k → (b : ℕ) × (b < buckets) × (p ≡ 32 + 32 * b) × (slice_index locks b % 2 ≡ 0)
   passed_over low is p first from to = elim (after_cases is) [
     | inl one ↦ absurd (let next = one.2 in omega (arith, next, from, to))
-    | inr more ↦ (let next = more.1 in elim (first_cases (k / 32)) [
-      | inl even ↦ (let near = even.0 in let at = even.2 in (k / 32, near, at_lock more.0 first (omega (arith, next, at, to)), even.1))
+    | inr more ↦ (let next = more.1 in elim (first_cases (bucket_behind k)) [
+      | inl even ↦ (let near = even.0 in let at = even.2 in (bucket_behind k, near, at_lock more.0 first (omega (arith, next, at, to)), even.1))
       | inr (inl odd) ↦ absurd (let at = odd.1 in no_lock more.0 first (omega (arith, next, at, to)))
       | inr (inr none) ↦ absurd (let high = none.0 in last_none more.0 first high)
     ])
   ]
     where
-      at_lock : (k ≡ 2) ⊎ ((32 ≤ k) × (k % 32 ≡ 3)) → IsFirst p → p < 32 * (k / 32) + 33 → p ≡ 32 + 32 * (k / 32)
+      at_lock : (k ≡ 2) ⊎ ((32 ≤ k) × (k % 32 ≡ 3)) → IsFirst p → p < 32 * bucket_behind k + 33 → p ≡ 32 + 32 * bucket_behind k
       at_lock (inl two) (inl small) high = omega (arith, two, small, from)
       at_lock (inl two) (inr first) high = let start = first.0 in omega (arith, two, start, high)
       at_lock (inr last) (inl small) high = let start = last.0 in omega (arith, small, from, start)
       at_lock (inr last) (inr first) high = let three = last.1 in let four = first.2 in omega (arith, three, four, from, high)
 
-      no_lock : (k ≡ 2) ⊎ ((32 ≤ k) × (k % 32 ≡ 3)) → IsFirst p → p < 32 * (k / 32) + 32 → ⊥
+      no_lock : (k ≡ 2) ⊎ ((32 ≤ k) × (k % 32 ≡ 3)) → IsFirst p → p < 32 * bucket_behind k + 32 → ⊥
       no_lock (inl two) (inl small) high = omega (arith, two, small, from)
       no_lock (inl two) (inr first) high = let start = first.0 in omega (arith, two, start, high)
       no_lock (inr last) (inl small) high = let start = last.0 in omega (arith, small, from, start)
       no_lock (inr last) (inr first) high = let three = last.1 in let four = first.2 in omega (arith, three, four, from, high)
 
-      last_none : (k ≡ 2) ⊎ ((32 ≤ k) × (k % 32 ≡ 3)) → IsFirst p → 66 ≤ k / 32 → ⊥
+      last_none : (k ≡ 2) ⊎ ((32 ≤ k) × (k % 32 ≡ 3)) → IsFirst p → 66 ≤ bucket_behind k → ⊥
       last_none (inl two) f high = omega (arith, two, high)
       last_none (inr last) (inl small) high = let start = last.0 in omega (arith, small, from, start)
       last_none (inr last) (inr first) high = let three = last.1 in let four = first.2 in let end = first.1 in omega (arith, three, four, end, from, high)

@@ -1,11 +1,11 @@
 -- How a split fits the world: the kind of each event, and how the view of its caller stands in each step: what it holds and knows.
-use Rattle.std.specs.Prelude.{◌≡◌, ◌≢◌, ℕ, zero, suc, ◌+◌, ◌-◌, ◌*◌, ◌%◌, ◌^◌, ◌<◌, ◌≤◌, ◌⊎◌, ⊤, Bool, true, false, Option, None, Some, List, [], ◌∷◌, length, slice_index}
+use Rattle.std.specs.Prelude.{◌≡◌, ◌≢◌, ℕ, zero, suc, ◌+◌, ◌%◌, ◌^◌, ◌<◌, ◌≤◌, ◌⊎◌, ⊤, Bool, true, false, Option, None, Some, List, [], ◌∷◌, length, slice_index}
 use Rattle.trace.specs.Events.{HasLine}
 use Rattle.op_core.specs.declared.want.Want.{Want}
 use Rattle.op_core.specs.declared.want.Want.TheVariants.{Store}
 use Rattle.bucket_meta.specs.Bucket.{mark_place, first_key}
 use Rattle.segment_head.specs.HeadWord.{state_in, free, link_to}
-use Rattle.image_layout.specs.Places.{root_word, words_of, head_at, header_number, link_number, bucket_at, buckets, block, segment_words, words_of_buckets}
+use Rattle.image_layout.specs.Places.{root_word, words_of, head_at, header_number, link_number, bucket_at, bucket_place, among_buckets, buckets, block, header_words, segment_words, words_of_buckets}
 use Rattle.map_model.specs.declared.call.Call.{Call}
 use Rattle.map_model.specs.declared.entry.Reply.TheVariants.{Full}
 use Rattle.map_model.specs.Changes.{call_of}
@@ -56,7 +56,7 @@ module _ (op : SplitOp) where
 
   -- the word of the lock of a bucket of the side
   abbrev pub look_word : ℕ → ℕ
-  look_word b = slot_word op.copied.whole.site.geometry op.copied.side (block + block * (b % buckets))
+  look_word b = slot_word op.copied.whole.site.geometry op.copied.side (bucket_place (b % buckets))
 
   -- with the first of these loads the segment is whole
   abbrev pub look_kind : ℕ → StepKind
@@ -159,7 +159,7 @@ module _ (site : Ground) (here : Site) (call : Call) where
     pub areas : v.areas ≡ look_areas c b
     pub header : Has (header_word site.shape c.whole.segment, c.whole.head) v.known
     pub side_header : KnowsFreeHeader c v
-    pub looked : (d : ℕ) → d < b → Has (side_at c (block + block * d), slice_index locks d) v.known
+    pub looked : (d : ℕ) → d < b → Has (side_at c (bucket_place d), slice_index locks d) v.known
     pub settled : IsSettled v
     pub only : KnowsOnlyOfBoth site c v
 
@@ -209,19 +209,19 @@ module _ (site : Ground) (here : Site) (call : Call) where
 
     -- a word of the slot that is emptied, by its number: the link, and the words of each bucket before its first key
     abbrev pub IsEmptied : ℕ → Type 0
-    IsEmptied number = (number ≡ link_number) ⊎ ((block ≤ number) × (number < segment_words) × (number % block < first_key))
+    IsEmptied number = (number ≡ link_number) ⊎ ((header_words ≤ number) × (number < segment_words) × (number % block < first_key))
 
     -- THE WORDS BEFORE ONE are emptied, and the lock words from there on are as they were loaded
     pub record IsEmptying (number : ℕ) (v : View) : Type 0 where
       pub next : IsEmptied number ⊎ (segment_words ≤ number)
       pub below : (p : ℕ) → IsEmptied p → p < number → Has (side_at c p, empty_value locks p) v.known
-      pub above : (b : ℕ) → b < buckets → number ≤ block + block * b → Has (side_at c (block + block * b), slice_index locks b) v.known
+      pub above : (b : ℕ) → b < buckets → number ≤ bucket_place b → Has (side_at c (bucket_place b), slice_index locks b) v.known
 
     -- THE WORDS BEFORE ONE are copied, and the others that were emptied are so
     pub record IsCopying (number : ℕ) (v : View) : Type 0 where
-      pub next : ((block ≤ number) × (number < segment_words) × (is_copied c.words number ≡ true)) ⊎ (segment_words ≤ number)
-      pub below : (p : ℕ) → block ≤ p → p < segment_words → p < number → is_copied c.words p ≡ true → Has (side_at c p, slice_index c.words (p - block)) v.known
-      pub rest : (p : ℕ) → block ≤ p → p < segment_words → p % block < first_key → (p < number → is_copied c.words p ≡ false) → Has (side_at c p, empty_value locks p) v.known
+      pub next : ((header_words ≤ number) × (number < segment_words) × (is_copied c.words number ≡ true)) ⊎ (segment_words ≤ number)
+      pub below : (p : ℕ) → header_words ≤ p → p < segment_words → p < number → is_copied c.words p ≡ true → Has (side_at c p, slice_index c.words (among_buckets p)) v.known
+      pub rest : (p : ℕ) → header_words ≤ p → p < segment_words → p % block < first_key → (p < number → is_copied c.words p ≡ false) → Has (side_at c p, empty_value locks p) v.known
 
     abbrev pub KnowsSideWords : Batch → View → Type 0
     KnowsSideWords (Empty number) v = IsEmptying number v

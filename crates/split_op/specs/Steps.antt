@@ -1,7 +1,7 @@
 -- What a split wants in each step, and what an answer makes of it.
-use Rattle.std.specs.Prelude.{ℕ, ◌+◌, ◌-◌, ◌*◌, ◌%◌, nat_lt, ◌==◌, false, min, Option, None, Some, List, replicate, slice_set, if◌then◌else◌}
+use Rattle.std.specs.Prelude.{ℕ, ◌+◌, ◌-◌, ◌%◌, nat_lt, ◌==◌, false, min, Option, None, Some, List, replicate, slice_set, if◌then◌else◌}
 use Rattle.segment_head.specs.HeadWord.{state_in, free}
-use Rattle.image_layout.specs.Places.{Shape, header_number, link_number, buckets, most_segments, block}
+use Rattle.image_layout.specs.Places.{Shape, header_number, link_number, buckets, most_segments, header_words, bucket_place}
 use Rattle.image_layout.specs.Volatile.{counter_word, allocation_guard, free_guard}
 use Rattle.op_core.specs.declared.want.Want.{Want}
 use Rattle.op_core.specs.declared.want.Want.TheVariants as want
@@ -78,7 +78,7 @@ stored op batch rounds = put_to op (batch_after op batch rounds) (rounds_taken r
 
 -- the copies begin
 abbrev pub copying : SplitOp → SplitStep
-copying op = put_to op (Copy (copied_from op.copied.words block)) round.begun
+copying op = put_to op (Copy (copied_from op.copied.words header_words)) round.begun
 
 -- ---- the machine
 -- THE EVENT that it wants
@@ -87,7 +87,7 @@ wanted_in op Take = want.Exchange (allocation_guard op.copied.whole.site.geometr
 wanted_in op (Search slot) = want.Load (slot_word op.copied.whole.site.geometry slot header_number)
 wanted_in op Count = want.Load (counter_word op.copied.whole.site.geometry)
 wanted_in op (Return count) = want.Store (allocation_guard op.copied.whole.site.geometry) free_guard
-wanted_in op (Look bucket) = want.Load (slot_word op.copied.whole.site.geometry op.copied.side (block + block * (bucket % buckets)))
+wanted_in op (Look bucket) = want.Load (slot_word op.copied.whole.site.geometry op.copied.side (bucket_place (bucket % buckets)))
 wanted_in op (Put batch rounds) = event_wanted rounds (due op.copied op.locks batch)
 wanted_in op Release = want.Store (allocation_guard op.copied.whole.site.geometry) free_guard
 wanted_in op (Back give end) = give_wanted op.copied.whole give

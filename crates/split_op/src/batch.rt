@@ -9,14 +9,17 @@ use crate::copied::Copied;
 use crate::seek::copied_from;
 use bucket_meta::words::{self, is_locked, without_lock};
 use enclose_op::Enclosed;
-use image_layout::{BLOCK_WORDS, BUCKETS, HEADER, HEADER_BLOCKS, LINK, SEGMENT_WORDS};
+use image_layout::{
+    BLOCK_WORDS, BUCKETS, HEADER, HEADER_WORDS, LINK, SEGMENT_WORDS, among_buckets, bucket_behind,
+    bucket_of, bucket_place,
+};
 use segment_head::link::link_to;
 use segment_head::split::{one_side_head, with_state};
 use segment_head::word::{FRESH, SPLITTING};
 use way::slot_word;
 
 /// What is stored. Words of a slot are numbered from its first header word on: number 1 is its header, number 2 its link, and number
-/// `32 + 32 * b` the lock word of bucket `b`.
+/// `bucket_place(b)` the lock word of bucket `b`.
 #[derive(Clone, Copy)]
 pub enum Batch {
     /// The link, the locks and the metadata of the slot are emptied, and this word is the next.
@@ -69,10 +72,10 @@ fn empty_value(locks: &[u64; BUCKETS as usize], number: u16) -> u64
     requires { number < segment_words }
     ensures { result ≡ empty_value locks.now number }
 {
-    if number < BLOCK_WORDS || number % BLOCK_WORDS > LOCK_PLACE {
+    if number < HEADER_WORDS || number % BLOCK_WORDS > LOCK_PLACE {
         0
     } else {
-        without_lock(locks[usize::from(number / BLOCK_WORDS - HEADER_BLOCKS)])
+        without_lock(locks[usize::from(bucket_of(number))])
     }
 }
 
@@ -83,9 +86,9 @@ fn first_of(locks: &[u64; BUCKETS as usize], bucket: u16) -> u16
     if bucket >= u16::from(BUCKETS) {
         SLOT_WORDS
     } else if is_locked(locks[usize::from(bucket)]) {
-        BLOCK_WORDS * bucket + BLOCK_WORDS
+        bucket_place(bucket as u8)
     } else {
-        BLOCK_WORDS * bucket + BLOCK_WORDS + MARK_PLACE
+        bucket_place(bucket as u8) + MARK_PLACE
     }
 }
 
@@ -94,10 +97,10 @@ fn after_empty(locks: &[u64; BUCKETS as usize], number: u16) -> u16
     requires { number < segment_words }
     ensures { result ≡ after_empty locks.now number }
 {
-    if number >= BLOCK_WORDS && number % BLOCK_WORDS < REST_PLACE {
+    if number >= HEADER_WORDS && number % BLOCK_WORDS < REST_PLACE {
         number + 1
     } else {
-        first_of(locks, number / BLOCK_WORDS)
+        first_of(locks, bucket_behind(number))
     }
 }
 
@@ -127,7 +130,7 @@ pub fn due(copied: &Copied, locks: &[u64; BUCKETS as usize], batch: Batch) -> Op
         )),
         Batch::Copy(number) if number < SLOT_WORDS => Some((
             slot_word(geometry, copied.side, number),
-            copied.words[usize::from(number.saturating_sub(BLOCK_WORDS))],
+            copied.words[usize::from(among_buckets(number))],
         )),
         _ => None,
     }

@@ -12,7 +12,7 @@ pub struct Copied {
     pub whole: Enclosed,
     /// The slot of the side.
     pub side: u64,
-    /// The words of the side's buckets: word `n` of bucket `b` is number `32 * b + n`. Lock words are left out, and what stands in a
+    /// The words of the side's buckets, numbered as `word_among_buckets` says. Lock words are left out, and what stands in a
     /// record slot that is not taken was not stored.
     pub words: [u64; WORDS_OF_BUCKETS as usize],
 }

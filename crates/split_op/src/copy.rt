@@ -4,11 +4,11 @@ ghost use Rattle.std.specs.Prelude.{◌≡◌};
 ghost use Rattle.split_op.specs.Sides.{HasMarks, low_fingers, high_fingers, IsThinned, side_words};
 
 use bucket_meta::words::{
-    BUCKET_WORDS, FINGERS_OF_WORD, FINGERS_PLACE, MARK_PLACE, REST_PLACE, SLOTS, is_taken,
-    slot_fingers_part, with_finger,
+    FINGERS_OF_WORD, FINGERS_PLACE, MARK_PLACE, REST_PLACE, SLOTS, is_taken, slot_fingers_part,
+    with_finger,
 };
 use enclose_op::Enclosed;
-use image_layout::{BUCKETS, HOMES, WORDS_OF_BUCKETS};
+use image_layout::{BUCKETS, HOMES, WORDS_OF_BUCKETS, first_among_buckets};
 use whole_segment::{Loaded, Notes, rebuilt_notes};
 
 /// The words of the buckets with this metadata: of the homes with notes, and of the stash buckets without, whose word 3 has the
@@ -22,15 +22,14 @@ fn with_marks(
 {
     let mut words = *kept;
     for bucket in 0..BUCKETS {
-        let at = usize::from(bucket);
+        let number = usize::from(bucket);
+        let at = usize::from(first_among_buckets(bucket));
         if bucket < HOMES {
-            words[BUCKET_WORDS * at + MARK_PLACE] = notes.first[at];
-            words[BUCKET_WORDS * at + REST_PLACE] = notes.third[at];
+            words[at + MARK_PLACE] = notes.first[number];
+            words[at + REST_PLACE] = notes.third[number];
         } else {
-            words[BUCKET_WORDS * at + MARK_PLACE] = half.first[at];
-            words[BUCKET_WORDS * at + REST_PLACE] = slot_fingers_part(
-                kept[BUCKET_WORDS * at + REST_PLACE],
-            );
+            words[at + MARK_PLACE] = half.first[number];
+            words[at + REST_PLACE] = slot_fingers_part(kept[at + REST_PLACE]);
         }
     }
     words
@@ -68,7 +67,7 @@ fn thinned(words: &[u64; WORDS_OF_BUCKETS as usize]) -> [u64; WORDS_OF_BUCKETS a
 {
     let mut thin = *words;
     for bucket in 0..BUCKETS {
-        let at = BUCKET_WORDS * usize::from(bucket);
+        let at = usize::from(first_among_buckets(bucket));
         thin[at + FINGERS_PLACE] = low_fingers(words[at + MARK_PLACE], words[at + FINGERS_PLACE]);
         thin[at + REST_PLACE] = high_fingers(words[at + MARK_PLACE], words[at + REST_PLACE]);
     }

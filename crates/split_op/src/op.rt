@@ -10,7 +10,7 @@ use crate::copy::side_words;
 use crate::step::{SplitEnd, SplitStep};
 use crate::taking::go_on;
 use enclose_op::Enclosed;
-use image_layout::{BLOCK_WORDS, BUCKETS, FREE_GUARD};
+use image_layout::{BUCKETS, FREE_GUARD, bucket_place};
 use op_core::{Ans, Machine, Want};
 use way::slot_word;
 
@@ -80,7 +80,7 @@ fn want_of(op: &SplitOp) -> Want
         SplitStep::Look(bucket) => Want::Load(slot_word(
             geometry,
             op.copied.side,
-            BLOCK_WORDS + BLOCK_WORDS * u16::from(*bucket % BUCKETS),
+            bucket_place(*bucket % BUCKETS),
         )),
         SplitStep::Put(batch, rounds) => rounds.event(due(&op.copied, &op.locks, *batch)),
         SplitStep::Back(give, _) => op.copied.whole.give(*give),

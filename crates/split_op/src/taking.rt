@@ -8,7 +8,7 @@ use crate::op::SplitOp;
 use crate::seek::copied_from;
 use crate::step::{SplitEnd, SplitStep};
 use enclose_op::{Give, give_from, given};
-use image_layout::{BLOCK_WORDS, BUCKETS, Geometry, MOST_SEGMENTS};
+use image_layout::{BUCKETS, Geometry, HEADER_WORDS, MOST_SEGMENTS};
 use op_core::{Ans, Why};
 use rounds::Rounds;
 use segment_head::word::{FREE, state_of};
@@ -116,7 +116,7 @@ pub fn go_on(op: &mut SplitOp, ans: Ans)
         (SplitStep::Look(bucket), Ans::Value(lock)) => looked(op, bucket, lock),
         (SplitStep::Put(batch, rounds), Ans::Passed) => op.step = stored(op, batch, rounds),
         (SplitStep::Release, Ans::Passed) => {
-            let batch = Batch::Copy(copied_from(&op.copied.words, BLOCK_WORDS));
+            let batch = Batch::Copy(copied_from(&op.copied.words, HEADER_WORDS));
             op.step = put_to(op, batch, Rounds::begun());
         }
         (SplitStep::Back(give, end), Ans::Passed) => op.step = given_to(given(give), end),

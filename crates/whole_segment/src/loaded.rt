@@ -6,9 +6,9 @@ ghost use Rattle.hash_word.specs.Hash.{hash_bits, Covers};
 ghost use Rattle.image_layout.specs.Places.{buckets};
 ghost use Rattle.sound_image.specs.Records.{key_hash};
 
-use bucket_meta::words::{BUCKET_WORDS, MARK_PLACE, REST_PLACE, SLOTS, is_taken, key_place};
+use bucket_meta::words::{MARK_PLACE, REST_PLACE, SLOTS, is_taken, key_place};
 use hash_word::covers;
-use image_layout::{BUCKETS, Geometry, SEGMENT_SLOTS, WORDS_OF_BUCKETS};
+use image_layout::{BUCKETS, Geometry, SEGMENT_SLOTS, WORDS_OF_BUCKETS, first_among_buckets};
 use way::key_hash;
 use word_bits::mask;
 
@@ -86,18 +86,18 @@ impl Loaded {
         ensures third { self.new.third ≡ self.old.third }
     {
         for slot in 0..SLOTS {
-            let at = BUCKET_WORDS * usize::from(bucket) + key_place(slot);
+            let at = usize::from(first_among_buckets(bucket)) + key_place(slot);
             self.set_key(bucket, slot, words[at]);
         }
     }
 
-    /// What is loaded where these are the words of its buckets: word `n` of bucket `b` is number `32 * b + n`.
+    /// What is loaded where these are the words of its buckets, numbered as [`first_among_buckets`] says.
     pub fn of_words(words: &[u64; WORDS_OF_BUCKETS as usize]) -> Loaded
         ensures { HasWords words.now result }
     {
         let mut loaded = Loaded::blank();
         for bucket in 0..BUCKETS {
-            let at = BUCKET_WORDS * usize::from(bucket);
+            let at = usize::from(first_among_buckets(bucket));
             loaded.set_first(bucket, words[at + MARK_PLACE]);
             loaded.set_third(bucket, words[at + REST_PLACE]);
             loaded.put_keys(words, bucket);
