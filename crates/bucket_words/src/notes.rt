@@ -6,7 +6,7 @@ ghost use Rattle.hash_word.specs.Hash.{home_of, finger_of, probing_of};
 ghost use Rattle.bucket_meta.specs.Bucket.{mark_place, overflow_count, record_slots, first_key};
 ghost use Rattle.bucket_meta.specs.Marks.{KeepsUpper};
 ghost use Rattle.bucket_meta.specs.Notes.{OverflowNote, AreExact};
-ghost use Rattle.image_layout.specs.Places.{Shape, bucket_at, homes, stash_buckets, buckets};
+ghost use Rattle.image_layout.specs.Places.{Shape, bucket_at, homes, stash_bucket, stash_buckets, buckets};
 ghost use Rattle.segment_table.specs.Records.{key_hash, word_in, notes_of, stashed_of, HasExactNotes};
 ghost use Rattle.bucket_words.specs.Buckets.{IsTaken};
 ghost use Rattle.bucket_words.specs.Hits.{Hit, HasNoneIn};
@@ -31,19 +31,19 @@ pub fn notes_stay()
 /// note, the key does not stand there.
 pub fn exact_notes_tell_of_the_stash()
     ensures { (shape : Shape) (word : Words) (s c k : ℕ) → c < stash_buckets → HasExactNotes shape word s (home_of (key_hash shape k))
-        → IsUnnoted shape word s (home_of (key_hash shape k)) (finger_of (key_hash shape k)) c → HasNoneIn shape word s (homes + c) k }
+        → IsUnnoted shape word s (home_of (key_hash shape k)) (finger_of (key_hash shape k)) c → HasNoneIn shape word s (stash_bucket c) k }
 {}
 
 /// What a change of one slot makes of notes that are exact. Where a record comes to the stash, those of its home are exact with a
 /// note of it; where one leaves, they are those of its stash records with it. Every other home has in the stash what it had, and
 /// so has each where the slot is none of the stash.
 pub fn stash_records_are_noted()
-    ensures comes { (shape : Shape) (word other : Words) (s c r k : ℕ) → c < stash_buckets → r < record_slots → ChangesSlot shape word other s (homes + c) r k
-        → (IsTaken word (bucket_at shape s (homes + c)) r → ⊥) → Hit shape other s (homes + c) r k
+    ensures comes { (shape : Shape) (word other : Words) (s c r k : ℕ) → c < stash_buckets → r < record_slots → ChangesSlot shape word other s (stash_bucket c) r k
+        → (IsTaken word (bucket_at shape s (stash_bucket c)) r → ⊥) → Hit shape other s (stash_bucket c) r k
         → (notes : List OverflowNote) (count : ℕ) → AreExact notes count (stashed_of shape word s (home_of (key_hash shape k)))
         → AreExact ((finger_of (key_hash shape k), c) ∷ notes) count (stashed_of shape other s (home_of (key_hash shape k))) }
-    ensures leaves { (shape : Shape) (word other : Words) (s c r k : ℕ) → c < stash_buckets → r < record_slots → ChangesSlot shape word other s (homes + c) r k
-        → Hit shape word s (homes + c) r k → (IsTaken other (bucket_at shape s (homes + c)) r → ⊥)
+    ensures leaves { (shape : Shape) (word other : Words) (s c r k : ℕ) → c < stash_buckets → r < record_slots → ChangesSlot shape word other s (stash_bucket c) r k
+        → Hit shape word s (stash_bucket c) r k → (IsTaken other (bucket_at shape s (stash_bucket c)) r → ⊥)
         → (notes : List OverflowNote) (count : ℕ) → AreExact notes count (stashed_of shape word s (home_of (key_hash shape k)))
         → AreExact notes count ((finger_of (key_hash shape k), c) ∷ stashed_of shape other s (home_of (key_hash shape k))) }
     ensures others { (shape : Shape) (word other : Words) (s b r k : ℕ) → ChangesSlot shape word other s b r k

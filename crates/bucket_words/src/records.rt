@@ -6,7 +6,7 @@ ghost use Rattle.trace.specs.Events.{Words, with_word};
 ghost use Rattle.bucket_meta.specs.Bucket.{mark_place, fingers_place, rest_place, allocated, member, finger, record_slots};
 ghost use Rattle.bucket_meta.specs.Marks.{SameButSlot};
 ghost use Rattle.hash_word.specs.Hash.{home_of, probing_of};
-ghost use Rattle.image_layout.specs.Places.{Shape, IsShape, bucket_at, key_at, value_at, words_of, block, homes, stash_buckets, buckets};
+ghost use Rattle.image_layout.specs.Places.{Shape, IsShape, bucket_at, key_at, value_at, words_of, block, stash_bucket, stash_buckets, buckets};
 ghost use Rattle.image_layout.specs.Standing.{StandsAt};
 ghost use Rattle.segment_table.specs.Rules.{RecordsStandRight, KeysHaveOneValue};
 ghost use Rattle.segment_table.specs.Records.{key_hash, HasAt};
@@ -153,6 +153,6 @@ pub fn places_of_a_key_decide()
         → owner_of shape word (key_hash shape k) ≡ Some s → owner_of shape other (key_hash shape k) ≡ Some s
         → SameCoresIn shape word other s (home_of (key_hash shape k)) → SameCoresIn shape word other s (probing_of (home_of (key_hash shape k)))
         → ((c : ℕ) → c < stash_buckets
-        → SameCoresIn shape word other s (homes + c) ⊎ (HasNoneIn shape word s (homes + c) k × HasNoneIn shape other s (homes + c) k))
+        → SameCoresIn shape word other s (stash_bucket c) ⊎ (HasNoneIn shape word s (stash_bucket c) k × HasNoneIn shape other s (stash_bucket c) k))
         → find shape other k ≡ find shape word k }
 {}

@@ -57,9 +57,13 @@ front_depth = 3
 abbrev pub stash_buckets : ℕ
 stash_buckets = stash_indices
 
--- the number of the second one; that of the first is homes
+-- the number of stash bucket c among all buckets, where the stash stands behind the homes
+abbrev pub stash_bucket : ℕ → ℕ
+stash_bucket c = homes + c
+
+-- that of the second one; that of the first is homes
 abbrev pub second_stash : ℕ
-second_stash = homes + second_stash_index
+second_stash = stash_bucket second_stash_index
 
 -- how many buckets a segment has
 abbrev pub buckets : ℕ

@@ -1,10 +1,10 @@
 -- In which bucket of a segment a record of a key may stand, and what its homes have in the stash.
-use Rattle.std.specs.Prelude.{◌≡◌, ℕ, zero, suc, ◌+◌, ◌≤◌, ◌==◌, ◌&&◌, ◌⊎◌, List, [], ◌∷◌, ◌++◌, if◌then◌else◌}
+use Rattle.std.specs.Prelude.{◌≡◌, ℕ, zero, suc, ◌≤◌, ◌==◌, ◌&&◌, ◌⊎◌, List, [], ◌∷◌, ◌++◌, if◌then◌else◌}
 use Rattle.std.specs.List.{flat_map}
 use Rattle.hash_word.specs.Hash.{home_of, finger_of, probing_of}
 use Rattle.bucket_meta.specs.Bucket.{allocated, overflow_count, record_slots, home_side, probing_side, first_stash_index, second_stash_index}
 use Rattle.bucket_meta.specs.Notes.{OverflowNote, numbers_below, notes_by, AreExact}
-use Rattle.image_layout.specs.Places.{Shape, homes, second_stash}
+use Rattle.image_layout.specs.Places.{Shape, homes, stash_bucket, second_stash}
 use Rattle.image_layout.specs.Keys.{key_hash}
 
 -- THE BUCKETS OF A KEY of this home, in the order in which it is looked for: home, probing bucket, first and second stash bucket
@@ -28,7 +28,7 @@ stash_piece b c bit hash = if (bit == 1) && (home_of hash == b) then (finger_of 
 module _ (first : ℕ → ℕ) (key : ℕ → ℕ → ℕ) (hash : ℕ → ℕ) where
   -- the records of home b in stash bucket c, and in both
   abbrev pub stashed_in : ℕ → ℕ → List OverflowNote
-  stashed_in b c = flat_map (λ r. stash_piece b c (allocated r (first (homes + c))) (hash (key (homes + c) r))) (numbers_below record_slots)
+  stashed_in b c = flat_map (λ r. stash_piece b c (allocated r (first (stash_bucket c))) (hash (key (stash_bucket c) r))) (numbers_below record_slots)
 
   abbrev pub stashed_of : ℕ → List OverflowNote
   stashed_of b = stashed_in b first_stash_index ++ stashed_in b second_stash_index

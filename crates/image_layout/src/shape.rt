@@ -3,7 +3,7 @@
 ghost use Rattle.std.specs.Prelude.{◌≡◌, ◌<◌, ◌≤◌, ◌+◌, ◌*◌, ◌%◌, ◌^◌, IfOk, IfErr};
 ghost use Rattle.bucket_meta.specs.Bucket.{first_key};
 ghost use Rattle.image_layout.specs.Volatile.{counter_word, power_word, allocation_guard, directory_guard, segment_guard, all_words_of, power_from, allocation_from, directory_from, guards_from};
-ghost use Rattle.image_layout.specs.Places.{IsShape, first_segment, words_of, entry_at, head_at, header_word, link_word, home_of_note, place_of_note, bucket_at, bucket_place, first_among_buckets, word_among_buckets, bucket_of, bucket_behind, among_buckets, mark_among_buckets, block, homes, stash_buckets, buckets, segment_words, most_power, first_segment_of_largest, most_words, most_segments, most_depth, most_kind, entries_of, depth_above, entry_above, half_of_entry};
+ghost use Rattle.image_layout.specs.Places.{IsShape, first_segment, words_of, entry_at, head_at, header_word, link_word, home_of_note, place_of_note, bucket_at, bucket_place, first_among_buckets, word_among_buckets, bucket_of, bucket_behind, among_buckets, mark_among_buckets, block, stash_bucket, stash_buckets, buckets, segment_words, most_power, first_segment_of_largest, most_words, most_segments, most_depth, most_kind, entries_of, depth_above, entry_above, half_of_entry};
 
 use bucket_meta::words::{
     BUCKET_WORDS, MARK_PLACE, REST_PLACE, SECOND_STASH_INDEX, SLOTS, STASH_INDICES,
@@ -145,6 +145,15 @@ pub fn half_of_entry(i: u64) -> u64
     ensures { result ≡ half_of_entry i }
 {
     i % 2
+}
+
+/// The number of stash bucket `k`, 0 or 1, among all buckets: the stash stands behind the homes.
+pub fn stash_bucket(k: u8) -> u8
+    requires { k < stash_buckets }
+    ensures is { result ≡ stash_bucket k }
+    ensures within { result < buckets }
+{
+    HOMES + k
 }
 
 /// The first word of bucket `b` among the words of all buckets of a segment.
@@ -362,12 +371,12 @@ impl Geometry {
     pub fn stash_at(&self, slot: u64, k: u8) -> u64
         requires slot { slot < self.now.segments }
         requires stash { k < stash_buckets }
-        ensures is { result ≡ bucket_at self.now slot (homes + k) }
+        ensures is { result ≡ bucket_at self.now slot (stash_bucket k) }
         ensures aligned { result % block ≡ 0 }
         ensures within { result + block ≤ words_of self.now }
         ensures most { result + block ≤ most_words }
     {
-        self.bucket_at(slot, HOMES + k)
+        self.bucket_at(slot, stash_bucket(k))
     }
 
     /// The word of the commit counter, the first behind those of the image.

@@ -1,10 +1,10 @@
 -- Notes and stash records that are counted: all, or those that are the one that is sought.
-use Rattle.std.specs.Prelude.{◌≡◌, ℕ, ◌+◌, ◌<◌, ◌≤◌, ◌==◌, ◌&&◌, Bool, true, Option, None, Some, List, length, filter}
+use Rattle.std.specs.Prelude.{◌≡◌, ℕ, ◌<◌, ◌≤◌, ◌==◌, ◌&&◌, Bool, true, Option, None, Some, List, length, filter}
 use Rattle.std.specs.List.{flat_map}
 use Rattle.hash_word.specs.Hash.{home_of}
 use Rattle.bucket_meta.specs.Bucket.{allocated, mark_place, rest_place, note_used, note_member, note_index, note_finger}
 use Rattle.bucket_meta.specs.Notes.{OverflowNote, numbers_below, how_often, IsNoteOn, note_piece}
-use Rattle.image_layout.specs.Places.{Shape, homes}
+use Rattle.image_layout.specs.Places.{Shape, stash_bucket}
 use Rattle.image_layout.specs.Standing.{stash_piece}
 use Rattle.sound_image.specs.Segments.{ImageWords}
 use Rattle.sound_image.specs.Records.{word_in, slot_hash, notes_of, stashed_of}
@@ -35,7 +35,7 @@ module _ (shape : Shape) (word : ImageWords) where
 
   -- the record in a slot of stash bucket k, if there is one of home b
   abbrev pub piece_in : ℕ → ℕ → ℕ → ℕ → List OverflowNote
-  piece_in s b k r = stash_piece b k (allocated r (word_in shape word s (homes + k) mark_place)) (slot_hash shape word s (homes + k) r)
+  piece_in s b k r = stash_piece b k (allocated r (word_in shape word s (stash_bucket k) mark_place)) (slot_hash shape word s (stash_bucket k) r)
 
   -- those in its slots below a limit
   abbrev pub stashed_below : ℕ → ℕ → ℕ → ℕ → List OverflowNote

@@ -13,7 +13,7 @@ use bucket_meta::words::{
     self, FIRST_STASH_INDEX, MARK_PLACE, NOTE_SLOTS, REST_PLACE, SECOND_STASH_INDEX, SLOTS,
     has_no_note, is_note_on, note_finger_of, note_index_of, overflow_count_of,
 };
-use image_layout::{Geometry, HOMES, SECOND_STASH};
+use image_layout::{Geometry, HOMES, SECOND_STASH, stash_bucket};
 
 /// The side of the notes that a bucket keeps of its own home.
 const HOME_SIDE: u64 = words::HOME_SIDE as u64;
@@ -120,7 +120,7 @@ fn count_slot(
 {
     let record_slot = RecordSlot {
         segment: s,
-        bucket: HOMES + k,
+        bucket: stash_bucket(k),
         slot,
     };
     if !is_stashed(geometry, words, b, record_slot) {
@@ -149,7 +149,7 @@ fn count_in(
     ensures is { result ≡ how_many sought (stashed_below geometry.now (slice_index words.now) s b k record_slots) }
     ensures most { result ≤ record_slots }
 {
-    if is_empty(geometry, words, s, HOMES + k) {
+    if is_empty(geometry, words, s, stash_bucket(k)) {
         return 0;
     }
     let mut count = 0;

@@ -12,7 +12,7 @@ use Rattle.bucket_meta.specs.Slots.{IsFull}
 use Rattle.bucket_meta.specs.Visits.{must_visit}
 use Rattle.trace.specs.Events.{Words}
 use Rattle.segment_head.specs.HeadWord.{version_in, state_in, depth_in, is_live, free, splitting}
-use Rattle.image_layout.specs.Places.{Shape, IsShape, root_word, header_word, bucket_at, homes, second_stash, stash_buckets}
+use Rattle.image_layout.specs.Places.{Shape, IsShape, root_word, header_word, bucket_at, homes, stash_bucket, second_stash, stash_buckets}
 use Rattle.image_layout.specs.Volatile.{counter_word, power_word, power_on}
 use Rattle.sound_image.specs.Records.{key_hash}
 use Rattle.way.specs.Ways.{entry_word, head_word, bucket_word, is_leading}
@@ -84,7 +84,7 @@ module _ (shape : Shape) (hash : ℕ) (loads : List (ℕ × ℕ)) (segment : ℕ
 
   -- the stash buckets before this one were full
   abbrev pub WereFullBefore : ℕ → Type 0
-  WereFullBefore index = (before : ℕ) → before < index → (meta : ℕ) × WasFull shape loads segment (homes + before) meta
+  WereFullBefore index = (before : ℕ) → before < index → (meta : ℕ) × WasFull shape loads segment (stash_bucket before) meta
 
   module _ (call : Call) where
     -- A STASH BUCKET is needed where the search has to visit it, and of an insert where nothing could be moved to make room, one after
@@ -92,7 +92,7 @@ module _ (shape : Shape) (hash : ℕ) (loads : List (ℕ × ℕ)) (segment : ℕ
     pub record NeedsStash (b : ℕ) : Type 0 where
       pub index : ℕ
       pub within : index < stash_buckets
-      pub at : b ≡ homes + index
+      pub at : b ≡ stash_bucket index
       pub cause : MustVisit index ⊎ (IsInsert call × NothingMoved × WereFullBefore index)
 
     -- A THIRD BUCKET is needed of an insert whose home and probing bucket were full: the next one, and the previous one where nothing

@@ -6,7 +6,7 @@ use Rattle.bucket_meta.specs.Marks.{KeepsUpper}
 use Rattle.bucket_meta.specs.Search.{lowest_with}
 use Rattle.hash_word.specs.Hash.{home_of, finger_of}
 use Rattle.trace.specs.Events.{Words, with_word}
-use Rattle.image_layout.specs.Places.{Shape, bucket_at, value_at, block, homes, stash_buckets, buckets}
+use Rattle.image_layout.specs.Places.{Shape, bucket_at, value_at, block, homes, stash_bucket, stash_buckets, buckets}
 use Rattle.sound_image.specs.Records.{key_hash, word_in, notes_of}
 use Rattle.map_model.specs.declared.call.Call.{Call}
 use Rattle.map_model.specs.Map.{key_of}
@@ -70,7 +70,7 @@ pub record StandsNowhere (shape : Shape) (hash segment : ℕ) (held : Held) (wor
 
 -- the lock of a stash bucket is not held
 abbrev pub IsLeft : Ground → View → ℕ → ℕ → Type 0
-IsLeft site v segment c = HasLock v.held (bucket_at site.shape segment (homes + c)) → ⊥
+IsLeft site v segment c = HasLock v.held (bucket_at site.shape segment (stash_bucket c)) → ⊥
 
 -- ---- the laws
 -- the words of a bucket stand where its lock word does, whatever the others are
@@ -107,9 +107,9 @@ pub record HoldersFind : Type 0 where
       → Has call v.planned → 0 < v.room → HasNoted v → DrawsWell site v call segment word
   -- each stash bucket is held and has nothing loose, or is not held, and then the notes name no record of the key there
   pub kept : (site : Ground) (here : Site) (hash segment : ℕ) (held : Held) (word : Words) (k : ℕ) (v : View) → HoldsBuckets site here hash segment held word k v → HasNoneLoose v
-      → (c : ℕ) → c < stash_buckets → IsKept site v (bucket_at site.shape segment (homes + c)) ⊎ IsLeft site v segment c
+      → (c : ℕ) → c < stash_buckets → IsKept site v (bucket_at site.shape segment (stash_bucket c)) ⊎ IsLeft site v segment c
   pub spared : (site : Ground) (here : Site) (hash segment : ℕ) (held : Held) (word : Words) (k : ℕ) (v : View) → HoldsBuckets site here hash segment held word k v → HasNoneLoose v
-      → SparesStash site.shape hash segment held word → (c : ℕ) → c < stash_buckets → IsKept site v (bucket_at site.shape segment (homes + c))
+      → SparesStash site.shape hash segment held word → (c : ℕ) → c < stash_buckets → IsKept site v (bucket_at site.shape segment (stash_bucket c))
       ⊎ (IsLeft site v segment c × IsUnnoted site.shape word segment (home_of (key_hash site.shape k)) (finger_of (key_hash site.shape k)) c)
   pub quiet : (v : View) → HasNoneLoose v → v.planned ≡ [] → v.moving ≡ [] → v.owed ≡ [] → IsQuiet v
 

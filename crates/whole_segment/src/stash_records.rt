@@ -8,7 +8,7 @@ ghost use Rattle.sound_image.specs.Records.{key_hash};
 use crate::Loaded;
 use bucket_meta::words::{FIRST_STASH_INDEX, SECOND_STASH_INDEX, SLOTS};
 use hash_word::{finger, home};
-use image_layout::{Geometry, HOMES, STASH_BUCKETS};
+use image_layout::{Geometry, STASH_BUCKETS, stash_bucket};
 
 /// How many records have room in the stash.
 const STASH_SLOTS: usize = STASH_BUCKETS as usize * SLOTS as usize;
@@ -34,7 +34,7 @@ impl Loaded {
         ensures is { result ≡ entry_of (key_in self.now) (key_hash geometry.now) index slot }
         ensures stashed { IsStashed result }
     {
-        let h = self.hash(geometry, HOMES + index, slot);
+        let h = self.hash(geometry, stash_bucket(index), slot);
         (home(h), finger(h), index)
     }
 }
@@ -75,7 +75,7 @@ impl StashRecords {
         ensures stashed { All IsStashed (records_of self.new) }
     {
         for slot in 0..SLOTS {
-            if loaded.is_taken(HOMES + index, slot) {
+            if loaded.is_taken(stash_bucket(index), slot) {
                 self.push(loaded.stash_record(geometry, index, slot));
             }
         }

@@ -1,7 +1,7 @@
 -- What each kind of step asks of the stepping view alone.
-use Rattle.std.specs.Prelude.{◌≡◌, ◌≢◌, ℕ, ◌+◌, ◌<◌, ◌≤◌, Bool, true, false, ⊤, Option, Some, List, [], ◌∷◌, ◌⊎◌}
+use Rattle.std.specs.Prelude.{◌≡◌, ◌≢◌, ℕ, ◌<◌, ◌≤◌, Bool, true, false, ⊤, Option, Some, List, [], ◌∷◌, ◌⊎◌}
 use Rattle.trace.specs.Events.{Words, with_word}
-use Rattle.image_layout.specs.Places.{Shape, entries_of, header_word, bucket_at, homes, stash_buckets, buckets}
+use Rattle.image_layout.specs.Places.{Shape, entries_of, header_word, bucket_at, homes, stash_bucket, stash_buckets, buckets}
 use Rattle.map_model.specs.declared.call.Call.{Call}
 use Rattle.map_model.specs.declared.call.Call.TheVariants.{Remove}
 use Rattle.map_model.specs.declared.entry.Reply.{Reply}
@@ -96,7 +96,7 @@ module _ (site : Ground) where
         → owner_of site.shape medium (key_hash site.shape k) ≡ Some s
     -- under the lock of a key's home, a record of it in the stash stands there in the newest words too
     pub stashed : (s c t k : ℕ) → c < stash_buckets → HasLock v.held (bucket_at site.shape s (home_of (key_hash site.shape k))) → IsUnplanned v k
-        → owner_of site.shape medium (key_hash site.shape k) ≡ Some s → Hit site.shape medium s (homes + c) t k → Hit site.shape words s (homes + c) t k
+        → owner_of site.shape medium (key_hash site.shape k) ≡ Some s → Hit site.shape medium s (stash_bucket c) t k → Hit site.shape words s (stash_bucket c) t k
 
   -- whatever the newest words are
   abbrev pub Always : View → (Words → Type 0) → Type 0
@@ -140,12 +140,12 @@ module _ (site : Ground) where
 
   -- a record leaves the stash only where it is named
   abbrev pub KeepsStash : View → ℕ → ℕ → (ℕ → ℕ → Type 0) → Type 0
-  KeepsStash v i x but = Always v (λ words. (s c t k : ℕ) → c < stash_buckets → Hit site.shape words s (homes + c) t k → Hit site.shape (with_word words i x) s (homes + c) t k ⊎ but k (bucket_at site.shape s (homes + c)))
+  KeepsStash v i x but = Always v (λ words. (s c t k : ℕ) → c < stash_buckets → Hit site.shape words s (stash_bucket c) t k → Hit site.shape (with_word words i x) s (stash_bucket c) t k ⊎ but k (bucket_at site.shape s (stash_bucket c)))
 
   -- a record comes to the stash of a medium only where it comes to that of the newest words
   abbrev pub AddsAlike : View → ℕ → ℕ → Type 0
-  AddsAlike v i x = AlwaysBeside v (λ words medium. (s c t k : ℕ) → c < stash_buckets → Hit site.shape (with_word medium i x) s (homes + c) t k
-      → Hit site.shape (with_word words i x) s (homes + c) t k ⊎ Hit site.shape medium s (homes + c) t k)
+  AddsAlike v i x = AlwaysBeside v (λ words medium. (s c t k : ℕ) → c < stash_buckets → Hit site.shape (with_word medium i x) s (stash_bucket c) t k
+      → Hit site.shape (with_word words i x) s (stash_bucket c) t k ⊎ Hit site.shape medium s (stash_bucket c) t k)
 
   -- a record of a key comes only to the segment that owns it, under the locks of its bucket and of the key's home
   abbrev pub AddsHeld : View → ℕ → ℕ → Type 0
@@ -187,7 +187,7 @@ module _ (site : Ground) where
 
   -- the lock of a stash bucket is not held, and the notes say that the key does not stand there
   abbrev pub IsUnvisited : View → ℕ → ℕ → ℕ → Type 0
-  IsUnvisited v s k c = (HasLock v.held (bucket_at site.shape s (homes + c)) → ⊥) × Always v (λ words. (t : ℕ) → Hit site.shape words s (homes + c) t k → ⊥)
+  IsUnvisited v s k c = (HasLock v.held (bucket_at site.shape s (stash_bucket c)) → ⊥) × Always v (λ words. (t : ℕ) → Hit site.shape words s (stash_bucket c) t k → ⊥)
 
   -- a reply that may stand whatever the key has, or that is right by what the holder of the key's lock knows
   abbrev pub IsKnownReply : View → Call → Reply → Type 0
@@ -262,6 +262,6 @@ module _ (site : Ground) where
   May (draws_place call) v = Has call v.planned × (0 < v.room) × ((s : ℕ) × HoldsHome v s (key_of call)
       × IsFirm v (bucket_at site.shape s (home_of (key_hash site.shape (key_of call))))
       × IsKept v (bucket_at site.shape s (probing_of (home_of (key_hash site.shape (key_of call)))))
-      × ((c : ℕ) → c < stash_buckets → IsKept v (bucket_at site.shape s (homes + c)) ⊎ IsUnvisited v s (key_of call) c)) × HasNoted v
+      × ((c : ℕ) → c < stash_buckets → IsKept v (bucket_at site.shape s (stash_bucket c)) ⊎ IsUnvisited v s (key_of call) c)) × HasNoted v
   May (unlocks lock next) v = (x : ℕ) × Has (lock, x) v.held × IsFirm v lock × (v.planned ≡ []) × (v.moving ≡ []) × (v.owed ≡ []) × (next ≡ unlocked x)
   May cuts_power v = ⊤

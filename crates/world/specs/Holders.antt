@@ -5,7 +5,7 @@ use Rattle.bucket_meta.specs.Notes.{AreExact}
 use Rattle.frame_facts.specs.Core.{core_of}
 use Rattle.hash_word.specs.Hash.{home_of, probing_of, finger_of}
 use Rattle.trace.specs.Events.{Words, with_word}
-use Rattle.image_layout.specs.Places.{Shape, bucket_at, value_at, block, homes, stash_buckets, buckets}
+use Rattle.image_layout.specs.Places.{Shape, bucket_at, value_at, block, homes, stash_bucket, stash_buckets, buckets}
 use Rattle.image_layout.specs.Standing.{StandsAt}
 use Rattle.sound_image.specs.Records.{key_hash, word_in, notes_in, notes_of}
 use Rattle.map_model.specs.declared.call.Call.TheVariants.{Insert, Update, Remove}
@@ -63,7 +63,7 @@ pub record FoundNone (site : Ground) (v : View) (word : Words) (s k : ℕ) : Typ
   pub probing : KnowsBucket site.shape v s (probing_of (home_of (key_hash site.shape k))) word
   pub not_home : (t : ℕ) → Hit site.shape word s (home_of (key_hash site.shape k)) t k → ⊥
   pub not_probing : (t : ℕ) → Hit site.shape word s (probing_of (home_of (key_hash site.shape k))) t k → ⊥
-  pub stash : (c : ℕ) → c < stash_buckets → (KnowsBucket site.shape v s (homes + c) word × ((t : ℕ) → Hit site.shape word s (homes + c) t k → ⊥))
+  pub stash : (c : ℕ) → c < stash_buckets → (KnowsBucket site.shape v s (stash_bucket c) word × ((t : ℕ) → Hit site.shape word s (stash_bucket c) t k → ⊥))
       ⊎ IsUnnoted site.shape word s (home_of (key_hash site.shape k)) (finger_of (key_hash site.shape k)) c
 
 -- the search for a key found it in slot r of bucket b
@@ -96,9 +96,9 @@ pub record MayPlace (site : Ground) (v : View) : Type 0 where
       → value_in word (bucket_at site.shape s b) r ≡ a → TakesSlot site.shape b r k (word (bucket_at site.shape s b + mark_place)) x
       → May site (publishes (bucket_at site.shape s b + mark_place) x (Insert k a)) v
   -- and in the stash, for which a note is owed
-  pub stash : (s c r k a x : ℕ) (word : Words) → FoundNone site v word s k → c < stash_buckets → KnowsBucket site.shape v s (homes + c) word → IsReadyAt site.shape word s (homes + c) r k
-      → value_in word (bucket_at site.shape s (homes + c)) r ≡ a → TakesSlot site.shape (homes + c) r k (word (bucket_at site.shape s (homes + c) + mark_place)) x
-      → May site (stashes (bucket_at site.shape s (homes + c) + mark_place) x (Insert k a) (record {
+  pub stash : (s c r k a x : ℕ) (word : Words) → FoundNone site v word s k → c < stash_buckets → KnowsBucket site.shape v s (stash_bucket c) word → IsReadyAt site.shape word s (stash_bucket c) r k
+      → value_in word (bucket_at site.shape s (stash_bucket c)) r ≡ a → TakesSlot site.shape (stash_bucket c) r k (word (bucket_at site.shape s (stash_bucket c) + mark_place)) x
+      → May site (stashes (bucket_at site.shape s (stash_bucket c) + mark_place) x (Insert k a) (record {
         segment = s;
         home = home_of (key_hash site.shape k);
         added = true;
@@ -116,9 +116,9 @@ pub record MayChange (site : Ground) (v : View) : Type 0 where
 
 -- a remove of a record in the stash, for which a note is owed
 pub record MayUnstash (site : Ground) (v : View) : Type 0 where
-  pub remove : (s c r k x : ℕ) (word : Words) → FoundAt site v word s (homes + c) r k → OwesNone site v s (home_of (key_hash site.shape k)) → c < stash_buckets
-      → FreesSlot r (word (bucket_at site.shape s (homes + c) + mark_place)) x
-      → May site (stashes (bucket_at site.shape s (homes + c) + mark_place) x (Remove k) (record {
+  pub remove : (s c r k x : ℕ) (word : Words) → FoundAt site v word s (stash_bucket c) r k → OwesNone site v s (home_of (key_hash site.shape k)) → c < stash_buckets
+      → FreesSlot r (word (bucket_at site.shape s (stash_bucket c) + mark_place)) x
+      → May site (stashes (bucket_at site.shape s (stash_bucket c) + mark_place) x (Remove k) (record {
         segment = s;
         home = home_of (key_hash site.shape k);
         added = false;
@@ -181,11 +181,11 @@ OwesAsKnown site v word s b = OwesNone site v s b
 pub record MayDraw (site : Ground) (v : View) : Type 0 where
   -- where the key stands in a bucket that is known
   pub shown : (call : Call) (s b r : ℕ) (word : Words) → DrawsWell site v call s word → KnowsBucket site.shape v s b word → Hit site.shape word s b r (key_of call) → v.moving ≡ []
-      → ((c : ℕ) → c < stash_buckets → IsKept site v (bucket_at site.shape s (homes + c)) ⊎ (HasLock v.held (bucket_at site.shape s (homes + c)) → ⊥)) → May site (draws_place call) v
+      → ((c : ℕ) → c < stash_buckets → IsKept site v (bucket_at site.shape s (stash_bucket c)) ⊎ (HasLock v.held (bucket_at site.shape s (stash_bucket c)) → ⊥)) → May site (draws_place call) v
   -- where the notes name no record of it in the stash buckets that are not held
   pub unnoted : (call : Call) (s : ℕ) (word : Words) → DrawsWell site v call s word → OwesAsKnown site v word s (home_of (key_hash site.shape (key_of call)))
-      → ((c : ℕ) → c < stash_buckets → IsKept site v (bucket_at site.shape s (homes + c))
-      ⊎ ((HasLock v.held (bucket_at site.shape s (homes + c)) → ⊥) × IsUnnoted site.shape word s (home_of (key_hash site.shape (key_of call))) (finger_of (key_hash site.shape (key_of call))) c))
+      → ((c : ℕ) → c < stash_buckets → IsKept site v (bucket_at site.shape s (stash_bucket c))
+      ⊎ ((HasLock v.held (bucket_at site.shape s (stash_bucket c)) → ⊥) × IsUnnoted site.shape word s (home_of (key_hash site.shape (key_of call))) (finger_of (key_hash site.shape (key_of call))) c))
       → May site (draws_place call) v
 
 -- the two stores by which a record is moved

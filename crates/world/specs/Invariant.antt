@@ -3,7 +3,7 @@
 use Rattle.std.specs.Prelude.{◌≡◌, ◌≢◌, ◌==◌, ℕ, ◌+◌, ◌*◌, ◌<◌, ◌≤◌, Some, List, ◌⊎◌, if◌then◌else◌}
 use Rattle.trace.specs.Events.{Words}
 use Rattle.segment_head.specs.HeadWord.{version_in, state_in, depth_in, free, normal}
-use Rattle.image_layout.specs.Places.{bucket_at, homes, stash_buckets}
+use Rattle.image_layout.specs.Places.{bucket_at, homes, stash_bucket, stash_buckets}
 use Rattle.image_layout.specs.Volatile.{free_guard}
 use Rattle.sound_image.specs.Records.{key_hash, HasExactNotes}
 use Rattle.frame_facts.specs.Standing.{IsTable}
@@ -74,7 +74,7 @@ module _ (site : Ground) (words : Words) (views : List View) where
   pub record Media (log : Log) : Type 0 where
     pub table : (medium : Words) → IsPossible site words views medium → IsTable site.shape medium
     pub stashed : (medium : Words) → IsPossible site words views medium → (s c t k : ℕ) → IsWatched s → c < stash_buckets → owner_of site.shape medium (key_hash site.shape k) ≡ Some s
-        → Hit site.shape medium s (homes + c) t k → Hit site.shape words s (homes + c) t k ⊎ IsRemoving views k (bucket_at site.shape s (homes + c))
+        → Hit site.shape medium s (stash_bucket c) t k → Hit site.shape words s (stash_bucket c) t k ⊎ IsRemoving views k (bucket_at site.shape s (stash_bucket c))
     pub stands : (medium : Words) → IsPossible site words views medium → (k : ℕ) → Stands site views log k (find site.shape medium k)
 
 -- how far the header of a live segment has come: first it gets rid of what a cut left of a split, then the image's version, and then it gets

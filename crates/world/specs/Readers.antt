@@ -1,8 +1,8 @@
 -- What a reader has to note of buckets to place an answer.
-use Rattle.std.specs.Prelude.{◌≡◌, ℕ, ◌+◌, ◌<◌, ◌⊎◌, None, Some, List}
+use Rattle.std.specs.Prelude.{◌≡◌, ℕ, ◌<◌, ◌⊎◌, None, Some, List}
 use Rattle.hash_word.specs.Hash.{home_of, probing_of, finger_of}
 use Rattle.trace.specs.Events.{Words}
-use Rattle.image_layout.specs.Places.{Shape, bucket_at, homes, stash_buckets}
+use Rattle.image_layout.specs.Places.{Shape, bucket_at, stash_bucket, stash_buckets}
 use Rattle.sound_image.specs.Records.{key_hash}
 use Rattle.frame_facts.specs.Buckets.{value_in}
 use Rattle.frame_facts.specs.Hits.{Hit}
@@ -35,7 +35,7 @@ pub record Looked (site : Ground) (notes : List Glance) (word : Words) (s k : �
 pub record MayAnswer (site : Ground) (v : View) : Type 0 where
   pub none : (s k : ℕ) (word : Words) → Looked site v.notes word s k
       → ((t : ℕ) → Hit site.shape word s (home_of (key_hash site.shape k)) t k → ⊥) → ((t : ℕ) → Hit site.shape word s (probing_of (home_of (key_hash site.shape k))) t k → ⊥)
-      → ((c : ℕ) → c < stash_buckets → (NotedBucket site.shape v.notes s (homes + c) word × ((t : ℕ) → Hit site.shape word s (homes + c) t k → ⊥))
+      → ((c : ℕ) → c < stash_buckets → (NotedBucket site.shape v.notes s (stash_bucket c) word × ((t : ℕ) → Hit site.shape word s (stash_bucket c) t k → ⊥))
       ⊎ IsUnnoted site.shape word s (home_of (key_hash site.shape k)) (finger_of (key_hash site.shape k)) c)
       → May site (places k None) v
   pub some : (s b r k : ℕ) (word : Words) → Looked site v.notes word s k → NotedBucket site.shape v.notes s b word → Hit site.shape word s b r k

@@ -1,5 +1,5 @@
 -- One slot more, or none.
-use Rattle.std.proofs.Common.{◌+◌, arith, refl, sym, slice_index}
+use Rattle.std.proofs.Common.{◌≡◌, ℕ, ◌+◌, arith, refl, sym, subst, slice_index}
 use Rattle.image_rules.specs.Noted.{matches, piece_in}
 use Rattle.hash_word.specs.Hash.{home_of, finger_of}
 use Rattle.bucket_meta.specs.Bucket.{allocated}
@@ -28,4 +28,4 @@ returns-then-is_empty-clause-is c =
     (λ r slot.
     counts_none (matches c.args.sought) (allocated r (word_in shape word c.args.s (64 + k) 1)) 1
     (home_of (slot_hash shape word c.args.s (64 + k) r)) c.args.b (finger_of (slot_hash shape word c.args.s (64 + k) r), k)
-    (λ both. c.if-is_empty.ensures refl r slot both.0)))
+    (λ both. c.if-is_empty.ensures refl r slot (subst (λ (n : ℕ). allocated r (word_in shape word c.args.s n 1) ≡ 1) (sym c.stash_bucket.ensures.is) both.0))))

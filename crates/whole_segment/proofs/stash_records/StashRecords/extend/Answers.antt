@@ -2,6 +2,7 @@
 use Rattle.std.proofs.Common.{◌≡◌, ℕ, ◌+◌, ◌*◌, ◌≤◌, List, [], ◌∷◌, ◌++◌, length, sym, ap, ◌∙◌, subst, arith, append_assoc, length-append}
 use Rattle.std.specs.Prelude.{All}
 use Rattle.std.proofs.lemmas.List.Elements.{All-append, All-cons, All-nil}
+use Rattle.bucket_meta.specs.Bucket.{allocated}
 use Rattle.sound_image.specs.Records.{key_hash}
 use Rattle.stash.specs.Segment.{Stashed, IsStashed}
 use Rattle.whole_segment.specs.Records.{first_in, key_in}
@@ -27,6 +28,8 @@ loop-slot-preserved c =
     let before = records_of c.loop-slot.self in
     let so_far = entries_below first key hash index slot in
     let now = c.loop-slot.invariant in
+    let of_bucket : ℕ → Type 0 = λ (b : ℕ). allocated slot (first b) ≡ 1 in
+    let bucket = c.stash_bucket.ensures.is in
     let P : StashRecords → Type 0 = λ gathered. record {
       more : records_of gathered ≡ began ++ entries_below first key hash index (slot + 1);
       most : length (records_of gathered) ≤ 14 * index + (slot + 1);
@@ -36,7 +39,7 @@ loop-slot-preserved c =
       | then-is_taken w ↦
           let e : Stashed = w.stash_record.result in
           let pushed : records_of w.push.new.self ≡ before ++ e ∷ [] = w.push.ensures in
-          let one = with_slot first key hash index slot (c.is_taken.ensures.0 w.if-is_taken.true) in
+          let one = with_slot first key hash index slot (subst of_bucket bucket (c.is_taken.ensures.0 w.if-is_taken.true)) in
           let Q : List Stashed → Type 0 = All IsStashed in
           subst P (sym w.self-is) (record {
             more = pushed ∙ (ap (λ xs. xs ++ e ∷ []) now.more ∙ (append_assoc began so_far (e ∷ [])
@@ -45,7 +48,7 @@ loop-slot-preserved c =
             stashed = subst Q (sym pushed) (All-append IsStashed before (e ∷ []) now.stashed (all_one e w.stash_record.ensures.stashed));
           })
       | else-is_taken w ↦
-          let none = without_slot first key hash index slot (λ taken. let yes = c.is_taken.ensures.1 taken in let not = w.if-is_taken.false in absurd (cc)) in
+          let none = without_slot first key hash index slot (λ taken. let yes = c.is_taken.ensures.1 (subst of_bucket (sym bucket) taken) in let not = w.if-is_taken.false in absurd (cc)) in
           subst P (sym w.self-is) (record {
             more = now.more ∙ ap (λ xs. began ++ xs) (sym none);
             most = omega (arith, now.most);
