@@ -69,9 +69,13 @@ second_stash = stash_bucket second_stash_index
 abbrev pub buckets : ℕ
 buckets = homes + stash_buckets
 
--- in how many buckets a key may stand: its home and its probing bucket, and the stash buckets
+-- in how many buckets beside the stash a key may stand: its home and its probing bucket
+abbrev pub homes_of_key : ℕ
+homes_of_key = 2
+
+-- in how many buckets it may stand: these, and the stash buckets
 abbrev pub buckets_of_key : ℕ
-buckets_of_key = 2 + stash_buckets
+buckets_of_key = homes_of_key + stash_buckets
 
 -- in how many record slots: those of these buckets
 abbrev pub slots_of_key : ℕ

@@ -31,8 +31,10 @@ pub const BLOCK: u64 = BUCKET_WORDS as u64;
 pub const STASH_BUCKETS: u8 = STASH_INDICES;
 /// The number of the second one; that of the first is [`HOMES`].
 pub const SECOND_STASH: u8 = HOMES + SECOND_STASH_INDEX;
-/// In how many buckets a key may stand: its home and its probing bucket, and the stash buckets.
-const BUCKETS_OF_KEY: u8 = 2 + STASH_BUCKETS;
+/// In how many buckets beside the stash a key may stand: its home and its probing bucket.
+const HOMES_OF_KEY: u8 = 2;
+/// In how many buckets it may stand: these, and the stash buckets.
+const BUCKETS_OF_KEY: u8 = HOMES_OF_KEY + STASH_BUCKETS;
 /// In how many record slots a key may stand: those of these buckets.
 pub const SLOTS_OF_KEY: u8 = BUCKETS_OF_KEY * SLOTS;
 /// How many buckets a segment has.
