@@ -1,5 +1,5 @@
 -- The words behind those of the image: no medium has them, and all are 0 when the power comes on.
-use Rattle.std.specs.Prelude.{ℕ, ◌+◌}
+use Rattle.std.specs.Prelude.{ℕ, ◌+◌, ◌^◌}
 use Rattle.image_layout.specs.Places.{Shape, words_of}
 
 -- the commit counter, to which a draw adds one
@@ -50,3 +50,7 @@ free_guard = 0
 -- how many words there are with those of the image
 abbrev pub all_words_of : Shape → ℕ
 all_words_of shape = words_of shape + guards_from + shape.segments
+
+-- and this is above their number: it has 32 bits
+abbrev pub words_bound : ℕ
+words_bound = 2 ^ 32

@@ -1,8 +1,8 @@
 //! How an image is laid out.
 
-ghost use Rattle.std.specs.Prelude.{◌≡◌, ◌<◌, ◌≤◌, ◌+◌, ◌*◌, ◌%◌, ◌^◌, IfOk, IfErr};
+ghost use Rattle.std.specs.Prelude.{◌≡◌, ◌<◌, ◌≤◌, ◌+◌, ◌*◌, ◌%◌, IfOk, IfErr};
 ghost use Rattle.bucket_meta.specs.Bucket.{first_key};
-ghost use Rattle.image_layout.specs.Volatile.{counter_word, power_word, allocation_guard, directory_guard, segment_guard, all_words_of, power_from, allocation_from, directory_from, guards_from};
+ghost use Rattle.image_layout.specs.Volatile.{counter_word, power_word, allocation_guard, directory_guard, segment_guard, all_words_of, power_from, allocation_from, directory_from, guards_from, words_bound};
 ghost use Rattle.image_layout.specs.Places.{IsShape, first_segment, words_of, entry_at, head_at, header_word, link_word, home_of_note, place_of_note, bucket_at, bucket_place, first_among_buckets, word_among_buckets, bucket_of, bucket_behind, among_buckets, mark_among_buckets, block, stash_bucket, stash_buckets, buckets, segment_words, most_power, first_segment_of_largest, most_words, most_segments, most_depth, most_kind, entries_of, depth_above, entry_above, half_of_entry};
 
 use bucket_meta::words::{
@@ -427,7 +427,7 @@ impl Geometry {
     /// of free slots and of the directory, and a guard for each slot for a segment.
     pub fn all_words(&self) -> usize
         ensures is { result ≡ all_words_of self.now }
-        ensures most { result < 2 ^ 32 }
+        ensures most { result < words_bound }
     {
         (self.words() + GUARDS_FROM + self.segments()) as usize
     }
