@@ -97,7 +97,7 @@ pub fn finger(h: u64) -> u8
     (h & FINGER_MASK) as u8
 }
 
-/// The version in a state word or a header word: its lowest byte.
+/// The version in a state word or a header word: its lowest byte, 1 to 255 in a sound one.
 pub fn version_of(word: u64) -> u8
     ensures { result ≡ version_in word }
 {

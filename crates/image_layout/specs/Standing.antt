@@ -7,7 +7,8 @@ use Rattle.bucket_meta.specs.Notes.{OverflowNote, numbers_below, notes_by, AreEx
 use Rattle.image_layout.specs.Places.{Shape, homes, stash_bucket, second_stash}
 use Rattle.image_layout.specs.Keys.{key_hash}
 
--- THE BUCKETS OF A KEY of this home, in the order in which it is looked for: home, probing bucket, first and second stash bucket
+-- THE BUCKETS OF A KEY of this home, in the order in which it is looked for: home, probing bucket, first and second stash bucket,
+-- which is also what any greater number gives
 abbrev pub looked_at : (home n : ℕ) → ℕ
 looked_at home zero = home
 looked_at home (suc zero) = probing_of home

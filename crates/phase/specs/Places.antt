@@ -9,7 +9,7 @@ use Rattle.phase.specs.declared.role.Role.{Role}
 use Rattle.phase.specs.declared.role.Role.TheVariants.{Second, Next, Previous}
 use Rattle.phase.specs.Asked.{index}
 
--- the number of the bucket, for a hash: where its key may stand, by the order in which it is looked for
+-- the number of the bucket, for a hash: of those where its key may stand by the order in which it is looked for, and the home's two neighbours
 abbrev pub bucket_of : ℕ → Role → ℕ
 bucket_of hash Next = next_of (home_of hash)
 bucket_of hash Previous = previous_of (home_of hash)
