@@ -1,6 +1,6 @@
 -- What the parts of a flush and of a fence make of the device's lists. No public clause says these.
-use Rattle.std.specs.Prelude.{Bool, ℕ, ◌+◌, ◌*◌, ◌≤◌, ◌≡◌, ◌==◌, ◌&&◌, not, if◌then◌else◌, List, [], ◌∷◌, ◌++◌, length, take, drop, filter}
-use Rattle.trace.specs.Events.{line_words}
+use Rattle.std.specs.Prelude.{Bool, ℕ, ◌+◌, ◌≤◌, ◌≡◌, ◌==◌, ◌&&◌, not, if◌then◌else◌, List, [], ◌∷◌, ◌++◌, length, take, drop, filter}
+use Rattle.trace.specs.Events.{line_words, first_of_line}
 use Rattle.image_layout.specs.Places.{Shape}
 use Rattle.pm_trace.specs.declared.flushes.Flush.{Flush}
 use Rattle.pm_trace.specs.Memory.{IsLine}
@@ -15,7 +15,7 @@ added new flushes = filter (λ f. not (is_of new.caller new.line f)) flushes ++ 
 
 -- the words of a line replaced
 abbrev pub with_line : List ℕ → ℕ → List ℕ → List ℕ
-with_line words line values = take (line_words * line) words ++ values ++ drop (line_words * line + line_words) words
+with_line words line values = take (first_of_line line) words ++ values ++ drop (first_of_line line + line_words) words
 
 -- the words with what a caller's flushes hold
 abbrev pub settled_by : ℕ → List Flush → List ℕ → List ℕ

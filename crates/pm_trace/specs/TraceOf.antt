@@ -1,8 +1,8 @@
 -- What a device is to the list of what callers did to it.
-use Rattle.std.specs.Prelude.{◌≡◌, ℕ, ◌+◌, ◌*◌, ◌<◌, ◌≤◌, ◌∷◌, List, length, slice_index, All, Any, AllPairs, Contains}
+use Rattle.std.specs.Prelude.{◌≡◌, ℕ, ◌+◌, ◌<◌, ◌≤◌, ◌∷◌, List, length, slice_index, All, Any, AllPairs, Contains}
 use Rattle.image_layout.specs.Places.{words_of}
 use Rattle.trace.specs.Media.{IsPossible}
-use Rattle.trace.specs.Events.{Words, Event, Trace, value, line_words}
+use Rattle.trace.specs.Events.{Words, Event, Trace, value, line_words, first_of_line}
 use Rattle.trace.specs.Events.Event.{fenced}
 use Rattle.trace.specs.Settling.{IsSettledValue}
 use Rattle.trace.specs.Progress.{pending, latest_of}
@@ -15,7 +15,7 @@ moment_of es f = latest_of f.line (pending f.caller es)
 
 -- a flush holds the values that its line would have settled if its caller fenced now
 abbrev pub HoldsSettled : Words → Trace → Flush → Type 0
-HoldsSettled start es f = (k : ℕ) → k < line_words → IsSettledValue start (fenced f.caller ∷ es) (line_words * f.line + k) (slice_index f.words k)
+HoldsSettled start es f = (k : ℕ) → k < line_words → IsSettledValue start (fenced f.caller ∷ es) (first_of_line f.line + k) (slice_index f.words k)
 
 -- these events, from these words on, led to this memory
 pub record IsTraceOf (start : Words) (es : Trace) (memory : Memory) : Type 0 where

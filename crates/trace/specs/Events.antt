@@ -17,9 +17,13 @@ most_unfenced = 8
 abbrev pub line_of : ℕ → ℕ
 line_of i = i / line_words
 
+-- the first word of a line
+abbrev pub first_of_line : ℕ → ℕ
+first_of_line line = line_words * line
+
 -- a memory of so many words has the whole of this line
 abbrev pub HasLine : ℕ → ℕ → Type 0
-HasLine words line = line_words * line + line_words ≤ words
+HasLine words line = first_of_line line + line_words ≤ words
 
 -- what one caller did in one step
 pub data Event : Type 0 where
