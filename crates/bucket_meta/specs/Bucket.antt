@@ -68,17 +68,21 @@ key_behind at r = at + first_key + record_words * r
 abbrev pub value_behind : ℕ → ℕ → ℕ
 value_behind at r = at + first_value + record_words * r
 
+-- how many lock words a version has: a free one, and a locked one above it
+abbrev pub locks_of_version : ℕ
+locks_of_version = 2
+
 -- 1 where the bucket is locked: the lowest bit of its lock word
 abbrev pub lock_bit : ℕ → ℕ
-lock_bit w0 = w0 % 2
+lock_bit w0 = w0 % locks_of_version
 
 -- the version of a lock word, in all the bits above the lock
 abbrev pub lock_version : ℕ → ℕ
-lock_version w0 = w0 / 2
+lock_version w0 = w0 / locks_of_version
 
 -- the lock word that is free with a version
 abbrev pub free_lock : ℕ → ℕ
-free_lock version = 2 * version
+free_lock version = locks_of_version * version
 
 -- the lock word that is locked, of the free one with the same version
 abbrev pub locked : ℕ → ℕ
@@ -89,7 +93,7 @@ abbrev pub unlocked : ℕ → ℕ
 unlocked held = held + 1
 
 abbrev pub given_back : ℕ → ℕ
-given_back free = free + 2
+given_back free = free + locks_of_version
 
 -- the lock word that is free with the version of a lock word, be that locked or free
 abbrev pub without_lock : ℕ → ℕ
