@@ -2,10 +2,10 @@
 
 ghost use Rattle.std.specs.Prelude.{◌≡◌, ℕ, ◌^◌, ◌<◌, ◌≤◌, slice_index};
 ghost use Rattle.hash_word.specs.Hash.{fingerprint_bits};
-ghost use Rattle.bucket_meta.specs.MetaWords.{WordsGiveMeta, MetaGivesWords};
+ghost use Rattle.bucket_meta.specs.MetaWords.{meta_word, WordsGiveMeta, MetaGivesWords};
 ghost use Rattle.bucket_meta.specs.Marks.{inserted_mark, member_mark, removed_mark, with_finger, TakesSlot, TakesSlotAsMember, FreesSlot, SetsFinger, SameNotes, KeepsUpper};
 ghost use Rattle.bucket_meta.specs.NoteWords.{freed_mark, freed_fingers, FreesPlace};
-ghost use Rattle.bucket_meta.specs.Bucket.{fingers_of_word, note_slots, record_slots, spare_part};
+ghost use Rattle.bucket_meta.specs.Bucket.{mark_place, fingers_of_word, note_slots, record_slots, spare_part};
 
 use crate::Meta;
 use crate::words::META_WORDS;
@@ -29,7 +29,7 @@ pub fn read_of_written(meta: &Meta) -> Meta
 
 /// The words that a `Meta` writes which was read of words are those words.
 pub fn written_of_read(words: [u64; META_WORDS]) -> [u64; META_WORDS]
-    requires { spare_part (slice_index words 0) ≡ 0 }
+    requires { spare_part (meta_word words mark_place) ≡ 0 }
     ensures { result ≡ words }
 {
     Meta::read(words).write()

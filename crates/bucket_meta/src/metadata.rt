@@ -3,7 +3,7 @@
 ghost use Rattle.std.specs.Prelude.{◌≡◌, ◌≢◌, ℕ, ◌+◌, ◌*◌, ◌^◌, ◌<◌, ◌≤◌, ◌↔◌, IfSome, IsNone, length, slice_index, slice_set, count_ones, if◌then◌else◌};
 ghost use Rattle.word_bits.specs.Bits.{bits, bit};
 ghost use Rattle.hash_word.specs.Hash.{fingerprint_bits};
-ghost use Rattle.bucket_meta.specs.Bucket.{record_slots, note_slots, fingers_of_word, count_bits, spare_part};
+ghost use Rattle.bucket_meta.specs.Bucket.{mark_place, fingers_place, rest_place, record_slots, note_slots, fingers_of_word, count_bits, spare_part};
 
 use crate::words::{
     COUNT_BITS, COUNT_FROM, FINGERS_OF_WORD, LAST_FINGER_FROM, META_WORDS, NOTE_INDEX_FROM,
@@ -76,11 +76,11 @@ fn without_slot(slots: u16, slot: u8) -> u16
 
 impl Meta {
     ghost use Rattle.bucket_meta.specs.Slots.{IsFull, SameElsewhere, SameOverflow};
-    ghost use Rattle.bucket_meta.specs.MetaWords.{IsMetaOf};
+    ghost use Rattle.bucket_meta.specs.MetaWords.{meta_word, IsMetaOf};
 
     /// The fields of words 1, 2 and 3 of a bucket.
     pub fn read(words: [u64; META_WORDS]) -> Meta
-        ensures { IsMetaOf result (slice_index words 0) (slice_index words 1) (slice_index words 2) }
+        ensures { IsMetaOf result (meta_word words mark_place) (meta_word words fingers_place) (meta_word words rest_place) }
     {
         let [w1, w2, w3] = words;
         let [f0, f1, f2, f3, f4, f5, f6, f7] = w2.to_le_bytes();
@@ -104,8 +104,8 @@ impl Meta {
 
     /// Words 1, 2 and 3 of a bucket with these fields. Bits 61 to 63 of word 1 are 0.
     pub fn write(&self) -> [u64; META_WORDS]
-        ensures fields { IsMetaOf self.now (slice_index result 0) (slice_index result 1) (slice_index result 2) }
-        ensures zero { spare_part (slice_index result 0) ≡ 0 }
+        ensures fields { IsMetaOf self.now (meta_word result mark_place) (meta_word result fingers_place) (meta_word result rest_place) }
+        ensures zero { spare_part (meta_word result mark_place) ≡ 0 }
     {
         let [f0, f1, f2, f3, f4, f5, f6, f7, f8, f9, f10, f11, f12, f13] = self.fps;
         let [o0, o1, o2, o3] = self.ofps;
