@@ -244,7 +244,7 @@ abbrev pub slot_fingers_part : ℕ → ℕ
 slot_fingers_part w3 = w3 % 2 ^ note_fingers_from
 
 abbrev pub note_fingers_part : ℕ → ℕ
-note_fingers_part w3 = w3 / 2 ^ note_fingers_from % 2 ^ note_fingers_bits
+note_fingers_part w3 = bits note_fingers_from note_fingers_bits w3
 
 -- words 1 and 3 of a bucket, x1 and x3, say of its record slots what w1 and w3 say
 pub record KeepsRecords (w1 w3 x1 x3 : ℕ) : Type 0 where

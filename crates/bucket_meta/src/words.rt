@@ -10,7 +10,7 @@ ghost use Rattle.bucket_meta.specs.Visits.{is_note, is_named, must_visit};
 ghost use Rattle.bucket_meta.specs.NoteWords.{note_place, finger_bits, freed_mark, freed_fingers, lowered_count, is_unused, unused_place, with_bit, with_note_finger, noted_mark, noted_fingers, raised_count};
 
 use hash_word::{FINGER_MASK, FINGERPRINT_BITS};
-use word_bits::{bits_of, is_set, mask};
+use word_bits::{WORD_BITS, bits_of, is_set, mask};
 
 /// How many words a bucket has.
 pub const BUCKET_WORDS: usize = 32;
@@ -76,7 +76,7 @@ pub const UPPER_FINGERS_FROM: u32 = COUNT_FROM + COUNT_BITS;
 pub(crate) const LAST_FINGER_FROM: u32 = UPPER_FINGERS_FROM + FINGERPRINT_BITS;
 
 /// How many fingerprints a word has room for.
-pub const FINGERS_OF_WORD: u8 = (u64::BITS / FINGERPRINT_BITS) as u8;
+pub const FINGERS_OF_WORD: u8 = (WORD_BITS / FINGERPRINT_BITS) as u8;
 
 /// How many fingerprints of record slots stand in the last word before the records: those that the word before it has no room for.
 pub const REST_FINGERS: u8 = SLOTS - FINGERS_OF_WORD;
@@ -88,7 +88,7 @@ pub const NOTE_FINGERS_FROM: u32 = FINGERPRINT_BITS * REST_FINGERS as u32;
 const LOCKS_OF_VERSION: u64 = 2;
 
 /// How many bits of a lock word its version has: all but the lowest, which is the lock.
-const LOCK_VERSION_BITS: u32 = u64::BITS - 1;
+const LOCK_VERSION_BITS: u32 = WORD_BITS - 1;
 
 /// The last version that a lock may have.
 const LAST_LOCK_VERSION: u64 = (1 << LOCK_VERSION_BITS) - 1;

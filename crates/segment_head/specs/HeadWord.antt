@@ -1,5 +1,6 @@
 -- The fields of the header word of a segment.
-use Rattle.std.specs.Prelude.{◌≡◌, ◌⊎◌, ℕ, zero, suc, Bool, Option, None, Some, ◌==◌, ◌||◌, ◌+◌, ◌*◌, ◌/◌, ◌%◌, ◌^◌, ◌≤◌}
+use Rattle.std.specs.Prelude.{◌≡◌, ◌⊎◌, ℕ, zero, suc, Bool, Option, None, Some, ◌==◌, ◌||◌, ◌+◌, ◌*◌, ◌/◌, ◌^◌, ◌≤◌}
+use Rattle.word_bits.specs.Bits.{bits}
 use Rattle.hash_word.specs.Hash.{version_bits}
 pub use Rattle.hash_word.specs.Hash.{version_in}
 
@@ -30,11 +31,11 @@ pattern_from = spare_from + spare_bits
 
 -- bits 8 to 15: the state
 abbrev pub state_in : ℕ → ℕ
-state_in h1 = h1 / 2 ^ state_from % 2 ^ state_bits
+state_in h1 = bits state_from state_bits h1
 
 -- bits 16 to 23: the local depth
 abbrev pub depth_in : ℕ → ℕ
-depth_in h1 = h1 / 2 ^ depth_from % 2 ^ depth_bits
+depth_in h1 = bits depth_from depth_bits h1
 
 -- bits 32 to 63: the pattern
 abbrev pub pattern_in : ℕ → ℕ

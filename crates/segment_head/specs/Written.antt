@@ -1,12 +1,13 @@
 -- Words that this crate writes, and that such a word and its head determine each other.
-use Rattle.std.specs.Prelude.{◌≡◌, ℕ, ◌/◌, ◌%◌, ◌^◌}
+use Rattle.std.specs.Prelude.{◌≡◌, ℕ}
+use Rattle.word_bits.specs.Bits.{bits}
 use Rattle.segment_head.specs.declared.Head.{Head}
 use Rattle.segment_head.specs.HeadWord.{spare_from, spare_bits}
 use Rattle.segment_head.specs.Head.{IsHeadOf}
 
 -- bits 24 to 31, which no field has
 abbrev pub spare_in : ℕ → ℕ
-spare_in h1 = h1 / 2 ^ spare_from % 2 ^ spare_bits
+spare_in h1 = bits spare_from spare_bits h1
 
 -- heads that are those of the same word are the same head
 abbrev pub WordGivesHead : Type 0
