@@ -2,6 +2,7 @@ pub mod Places
 pub mod Faults
 pub mod Parts
 pub mod Largest
+pub mod Ranges
 pub mod Keys
 pub mod Standing
 pub mod Volatile

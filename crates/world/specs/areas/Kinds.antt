@@ -1,12 +1,13 @@
 -- The kinds of step at the structure: guards, headers, links, the root, entries, and the words of slots that nobody else touches. For
 -- each: which event it is, and what the stepping view becomes. No kind of calls is among them.
-use Rattle.std.specs.Prelude.{◌==◌, ◌&&◌, ◌||◌, not, ℕ, suc, ◌+◌, ◌<◌, nat_lt, nat_le, Bool, true, false, List, [], ◌∷◌, ◌++◌, filter, ⊤}
+use Rattle.std.specs.Prelude.{◌==◌, ◌&&◌, ◌||◌, not, ℕ, suc, ◌<◌, nat_lt, nat_le, Bool, true, false, List, [], ◌∷◌, ◌++◌, filter, ⊤}
 use Rattle.op_core.specs.declared.want.Want.{Want}
 use Rattle.op_core.specs.declared.want.Want.TheVariants.{Load, Store, Exchange, Fence}
 use Rattle.hash_word.specs.Hash.{first_hash_of}
 use Rattle.segment_head.specs.HeadWord.{version_in, state_in, depth_in, pattern_in, free, fresh, is_live, no_link}
 use Rattle.segment_head.specs.Prefixes.{pattern_of_one_side, is_side_prefix}
-use Rattle.image_layout.specs.Places.{Shape, block, root_word, first_segment, entry_at, head_at, segment_words}
+use Rattle.image_layout.specs.Places.{Shape, block, root_word, first_segment, entry_at}
+pub use Rattle.image_layout.specs.Ranges.{is_in_slot}
 use Rattle.image_layout.specs.Volatile.{allocation_guard, directory_guard, segment_guard, free_guard}
 use Rattle.frame_facts.specs.Facts.{Fact, Lives, Current, Rooted, Owns, Lacks, Deep, Begins, Used, Taken}
 use Rattle.world.specs.Views.{View}
@@ -102,9 +103,6 @@ wanted_at shape (opens s lock next) = Store lock next
 
 -- ---- what becomes of the lists of a view
 -- the pairs of words that do not lie in a slot, and of those that are no word of the directory
-abbrev pub is_in_slot : Shape → ℕ → ℕ → Bool
-is_in_slot shape s i = nat_le (head_at shape s) i && nat_lt i (head_at shape s + segment_words)
-
 abbrev pub out_of_slot : Shape → ℕ → List (ℕ × ℕ) → List (ℕ × ℕ)
 out_of_slot shape s pairs = filter (λ p. not (is_in_slot shape s p.0)) pairs
 

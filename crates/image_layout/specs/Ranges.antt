@@ -1,0 +1,11 @@
+-- Which words lie in a slot: as a proposition, and as a test.
+use Rattle.std.specs.Prelude.{ℕ, ◌+◌, ◌<◌, ◌≤◌, Bool, ◌&&◌, nat_le, nat_lt}
+use Rattle.image_layout.specs.Places.{Shape, head_at, segment_words}
+
+-- word i is one of slot n
+pub record IsInSlot (shape : Shape) (n i : ℕ) : Type 0 where
+  pub from : head_at shape n ≤ i
+  pub to : i < head_at shape n + segment_words
+
+abbrev pub is_in_slot : Shape → ℕ → ℕ → Bool
+is_in_slot shape n i = nat_le (head_at shape n) i && nat_lt i (head_at shape n + segment_words)
