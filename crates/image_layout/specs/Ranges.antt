@@ -1,6 +1,6 @@
--- Which words lie in a slot: as a proposition, and as a test.
-use Rattle.std.specs.Prelude.{ℕ, ◌+◌, ◌<◌, ◌≤◌, Bool, ◌&&◌, nat_le, nat_lt}
-use Rattle.image_layout.specs.Places.{Shape, head_at, segment_words}
+-- Which words lie in a slot and in the directory: each as a proposition, and as a test.
+use Rattle.std.specs.Prelude.{◌≡◌, ℕ, ◌+◌, ◌<◌, ◌≤◌, ◌⊎◌, Bool, ◌==◌, ◌&&◌, ◌||◌, nat_le, nat_lt}
+use Rattle.image_layout.specs.Places.{Shape, block, root_word, first_segment, head_at, segment_words}
 
 -- word i is one of slot n
 pub record IsInSlot (shape : Shape) (n i : ℕ) : Type 0 where
@@ -9,3 +9,10 @@ pub record IsInSlot (shape : Shape) (n i : ℕ) : Type 0 where
 
 abbrev pub is_in_slot : Shape → ℕ → ℕ → Bool
 is_in_slot shape n i = nat_le (head_at shape n) i && nat_lt i (head_at shape n + segment_words)
+
+-- a word is the root, or lies where entries stand
+abbrev pub IsDirectoryWord : Shape → ℕ → Type 0
+IsDirectoryWord shape i = (i ≡ root_word) ⊎ ((block ≤ i) × (i < first_segment shape))
+
+abbrev pub is_directory_word : Shape → ℕ → Bool
+is_directory_word shape i = (i == root_word) || (nat_le block i && nat_lt i (first_segment shape))

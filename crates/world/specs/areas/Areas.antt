@@ -1,8 +1,9 @@
 -- What a caller holds beside the locks of buckets: guards, and slots that nobody else touches. No area depends on the words: what
 -- the words are for a view to have it, `Fits` says.
-use Rattle.std.specs.Prelude.{◌≡◌, ◌==◌, not, ℕ, ◌<◌, ◌≤◌, ◌⊎◌, Bool, true, false, List, filter}
-use Rattle.image_layout.specs.Places.{Shape, block, root_word, first_segment}
+use Rattle.std.specs.Prelude.{◌≡◌, ◌==◌, not, ℕ, ◌⊎◌, Bool, true, false, List, filter}
+use Rattle.image_layout.specs.Places.{Shape}
 pub use Rattle.image_layout.specs.Places.{header_word, link_word}
+pub use Rattle.image_layout.specs.Ranges.{IsDirectoryWord}
 use Rattle.frame_facts.specs.DeadSlots.{IsInSlot}
 
 pub data Area : Type 0 where
@@ -20,10 +21,6 @@ pub data Area : Type 0 where
   Allocation : Area
   -- the guard of the directory: the root and all entries
   Directory : Area
-
--- a word is the root, or lies where entries stand
-abbrev pub IsDirectoryWord : Shape → ℕ → Type 0
-IsDirectoryWord shape i = (i ≡ root_word) ⊎ ((block ≤ i) × (i < first_segment shape))
 
 -- THE WORDS OF AN AREA, which nobody else may store to
 abbrev pub InArea : Shape → Area → ℕ → Type 0

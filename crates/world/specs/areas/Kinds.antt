@@ -1,13 +1,14 @@
 -- The kinds of step at the structure: guards, headers, links, the root, entries, and the words of slots that nobody else touches. For
 -- each: which event it is, and what the stepping view becomes. No kind of calls is among them.
-use Rattle.std.specs.Prelude.{◌==◌, ◌&&◌, ◌||◌, not, ℕ, suc, ◌<◌, nat_lt, nat_le, Bool, true, false, List, [], ◌∷◌, ◌++◌, filter, ⊤}
+use Rattle.std.specs.Prelude.{◌==◌, ◌&&◌, not, ℕ, suc, ◌<◌, Bool, true, false, List, [], ◌∷◌, ◌++◌, filter, ⊤}
 use Rattle.op_core.specs.declared.want.Want.{Want}
 use Rattle.op_core.specs.declared.want.Want.TheVariants.{Load, Store, Exchange, Fence}
 use Rattle.hash_word.specs.Hash.{first_hash_of}
 use Rattle.segment_head.specs.HeadWord.{version_in, state_in, depth_in, pattern_in, free, fresh, is_live, no_link}
 use Rattle.segment_head.specs.Prefixes.{pattern_of_one_side, is_side_prefix}
-use Rattle.image_layout.specs.Places.{Shape, block, root_word, first_segment, entry_at}
+use Rattle.image_layout.specs.Places.{Shape, entry_at}
 pub use Rattle.image_layout.specs.Ranges.{is_in_slot}
+use Rattle.image_layout.specs.Ranges.{is_directory_word}
 use Rattle.image_layout.specs.Volatile.{allocation_guard, directory_guard, segment_guard, free_guard}
 use Rattle.frame_facts.specs.Facts.{Fact, Lives, Current, Rooted, Owns, Lacks, Deep, Begins, Used, Taken}
 use Rattle.world.specs.Views.{View}
@@ -107,7 +108,7 @@ abbrev pub out_of_slot : Shape → ℕ → List (ℕ × ℕ) → List (ℕ × �
 out_of_slot shape s pairs = filter (λ p. not (is_in_slot shape s p.0)) pairs
 
 abbrev pub out_of_directory : Shape → List (ℕ × ℕ) → List (ℕ × ℕ)
-out_of_directory shape pairs = filter (λ p. not ((p.0 == root_word) || (nat_le block p.0 && nat_lt p.0 (first_segment shape)))) pairs
+out_of_directory shape pairs = filter (λ p. not (is_directory_word shape p.0)) pairs
 
 -- the words that are known no more when a guard is given back: those of its segment's slot, those of slots found free, the directory's
 abbrev pub known_without : Shape → Guard → List Area → List (ℕ × ℕ) → List (ℕ × ℕ)
