@@ -1,9 +1,10 @@
 -- What a holder of locks knows, said over one function of all words, which stands in proofs alone: which words it knows, and which
 -- may be loose.
-use Rattle.std.specs.Prelude.{◌≡◌, ℕ, ◌+◌, ◌%◌, ◌-◌, ◌<◌, ◌≤◌, ◌&&◌, nat_lt, List, ◌⊎◌, slice_index, if◌then◌else◌}
+use Rattle.std.specs.Prelude.{◌≡◌, ℕ, ◌+◌, ◌%◌, ◌-◌, ◌<◌, ◌≤◌, List, ◌⊎◌, slice_index, if◌then◌else◌}
 use Rattle.bucket_meta.specs.Bucket.{mark_place, rest_place}
 use Rattle.trace.specs.Events.{Words, with_word}
 use Rattle.image_layout.specs.Places.{Shape, block, bucket_at}
+use Rattle.image_layout.specs.Ranges.{is_under}
 use Rattle.map_model.specs.declared.call.Call.{Call}
 use Rattle.world.specs.Ground.{Ground, IsUnder}
 use Rattle.world.specs.Views.{Move, Owed, View, Has, HasLock, IsLoose}
@@ -36,7 +37,7 @@ IsWhole lock words v = (j : ℕ) → mark_place ≤ j → j < block → Has (loc
 
 -- the words with those of a loaded bucket
 abbrev pub with_loaded : ℕ → List ℕ → Words → Words
-with_loaded lock words word i = if nat_lt lock i && nat_lt i (lock + block) then slice_index words (i - lock) else word i
+with_loaded lock words word i = if is_under lock i then slice_index words (i - lock) else word i
 
 -- ---- the laws
 -- a holder may load a bucket word by word, and knows each then; when all are loaded the bucket is known whole, and what was known

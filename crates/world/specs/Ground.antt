@@ -1,8 +1,9 @@
 -- What is fixed from the end of a restart to the close: how the image is laid out, the words of its structure, what each key had at the start, and how many callers there are.
-use Rattle.std.specs.Prelude.{◌≡◌, ◌≢◌, ℕ, ◌+◌, ◌^◌, ◌<◌, Option}
+use Rattle.std.specs.Prelude.{◌≡◌, ◌≢◌, ℕ, ◌^◌, ◌<◌, Option}
 use Rattle.trace.specs.Events.{Words}
 pub use Rattle.bucket_meta.specs.Bucket.{spent_lock}
 use Rattle.image_layout.specs.Places.{Shape, IsShape, root_word, state_word, bucket_at, buckets, block}
+pub use Rattle.image_layout.specs.Ranges.{IsUnder}
 use Rattle.image_layout.specs.StateWord.{version_in}
 use Rattle.frame_facts.specs.Claims.{HasSoundFrame}
 use Rattle.sound_image.specs.Segments.{frame_of}
@@ -58,7 +59,3 @@ IsSpentLock shape words lock = IsLiveLock shape words lock × (words lock ≡ sp
 -- some lock word is
 abbrev pub HasSpentLock : Shape → Words → Type 0
 HasSpentLock shape words = (lock : ℕ) × IsSpentLock shape words lock
-
--- word i is one of the 31 words behind a lock word, which the lock guards
-abbrev pub IsUnder : ℕ → ℕ → Type 0
-IsUnder lock i = (lock < i) × (i < lock + block)

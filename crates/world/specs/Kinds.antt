@@ -1,12 +1,13 @@
 -- The kinds of step: why an event is made, with its numbers. For each: which event it is, and what the stepping view becomes.
-use Rattle.std.specs.Prelude.{◌==◌, ◌&&◌, ℕ, suc, ◌+◌, nat_lt, Bool, true, false, Option, None, Some, List, [], ◌∷◌, ◌++◌, length, if◌then◌else◌}
+use Rattle.std.specs.Prelude.{◌==◌, ◌&&◌, ℕ, suc, nat_lt, Bool, true, false, Option, None, Some, List, [], ◌∷◌, ◌++◌, length, if◌then◌else◌}
 use Rattle.op_core.specs.declared.want.Want.{Want}
 use Rattle.op_core.specs.declared.want.Want.TheVariants.{Load, Store, Exchange, Flush, Fence, Draw, Power}
 use Rattle.trace.specs.Events.{line_of}
 use Rattle.bucket_meta.specs.Bucket.{lock_bit, locked}
 pub use Rattle.hash_word.specs.Hash.{first_hash_of}
 use Rattle.segment_head.specs.HeadWord.{version_in, depth_in, pattern_in, is_live}
-use Rattle.image_layout.specs.Places.{Shape, block, root_word, entry_at, header_word}
+use Rattle.image_layout.specs.Places.{Shape, root_word, entry_at, header_word}
+use Rattle.image_layout.specs.Ranges.{is_under}
 use Rattle.image_layout.specs.Volatile.{counter_word, power_word, power_off}
 use Rattle.map_model.specs.declared.call.Call.{Call}
 use Rattle.map_model.specs.declared.call.Call.TheVariants.{Get}
@@ -112,7 +113,7 @@ without i (p ∷ ps) = if p.0 == i then without i ps else p ∷ without i ps
 -- the pairs of words that do not lie under a lock
 abbrev pub not_under : ℕ → List (ℕ × ℕ) → List (ℕ × ℕ)
 not_under lock [] = []
-not_under lock (p ∷ ps) = if nat_lt lock p.0 && nat_lt p.0 (lock + block) then not_under lock ps else p ∷ not_under lock ps
+not_under lock (p ∷ ps) = if is_under lock p.0 then not_under lock ps else p ∷ not_under lock ps
 
 -- the pairs of words of a line, and the others
 abbrev pub on_line : ℕ → List (ℕ × ℕ) → List (ℕ × ℕ)
