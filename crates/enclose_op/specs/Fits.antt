@@ -3,7 +3,7 @@ use Rattle.std.specs.Prelude.{◌≡◌, ◌≢◌, ℕ, ◌+◌, ◌-◌, ◌*�
 use Rattle.hash_word.specs.Hash.{home_of}
 use Rattle.bucket_meta.specs.Bucket.{lock_place, mark_place, given_back}
 use Rattle.segment_head.specs.HeadWord.{depth_in}
-use Rattle.image_layout.specs.Places.{root_word, bucket_at, buckets, block, words_of_buckets, last_of_buckets}
+use Rattle.image_layout.specs.Places.{root_word, bucket_at, buckets, last_bucket, block, words_of_buckets, last_of_buckets}
 use Rattle.way.specs.Ways.{head_word, bucket_word}
 use Rattle.whole_segment.specs.Room.{has_no_room}
 use Rattle.map_model.specs.declared.call.Call.{Call}
@@ -64,12 +64,12 @@ outcome_at step = None
 
 -- ---- at most so many events are left
 abbrev pub give_left : Giving → ℕ
-give_left (giving.Lock b to) = 2 + (buckets - 1 - b)
+give_left (giving.Lock b to) = 2 + (last_bucket - b)
 give_left giving.Guard = 1
 
 abbrev pub left_at : EncloseStep → ℕ
 left_at Guard = 2313
-left_at (Lock b take) = 2180 + 2 * (buckets - 1 - b) + take_left take
+left_at (Lock b take) = 2180 + 2 * (last_bucket - b) + take_left take
 left_at Head = 2180
 left_at (Fill at) = 69 + (last_of_buckets - at)
 left_at (CountSpent b) = 68

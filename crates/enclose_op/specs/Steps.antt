@@ -1,9 +1,9 @@
 -- What an enclosing wants in each step, and what an answer makes of it; and how it ends.
-use Rattle.std.specs.Prelude.{ℕ, ◌+◌, ◌%◌, ◌==◌, ◌&&◌, nat_lt, Bool, true, false, Option, None, Some, replicate, slice_set, if◌then◌else◌, ◌-◌}
+use Rattle.std.specs.Prelude.{ℕ, ◌+◌, ◌%◌, ◌==◌, ◌&&◌, nat_lt, Bool, true, false, Option, None, Some, replicate, slice_set, if◌then◌else◌}
 use Rattle.hash_word.specs.Hash.{home_of}
 use Rattle.bucket_meta.specs.Bucket.{lock_place, mark_place}
 use Rattle.segment_head.specs.HeadWord.{version_in, depth_in}
-use Rattle.image_layout.specs.Places.{buckets, block, words_of_buckets, last_of_buckets}
+use Rattle.image_layout.specs.Places.{buckets, last_bucket, block, words_of_buckets, last_of_buckets}
 use Rattle.image_layout.specs.Volatile.{counter_word, free_guard}
 use Rattle.sound_image.specs.Records.{key_hash}
 use Rattle.way.specs.Ways.{head_word, bucket_word, is_leading}
@@ -50,7 +50,7 @@ given_to give end = given_by (given give) end
 
 -- ---- a lock
 abbrev pub next_lock : ℕ → EncloseStep
-next_lock b = if nat_lt b (buckets - 1) then Lock (b + 1) Look else Head
+next_lock b = if nat_lt b last_bucket then Lock (b + 1) Look else Head
 
 abbrev pub with_lock : Enclosed → ℕ → ℕ → Enclosed
 with_lock e b free = record e { locks = slice_set e.locks b free }

@@ -9,7 +9,9 @@ ghost use Rattle.enclose_op.specs.Steps.{begun, giving, next_lock, locked_to, is
 use crate::enclosed::Enclosed;
 use crate::give::{Give, give_from, given};
 use bucket_meta::words::{self, MARK_PLACE};
-use image_layout::{BLOCK_WORDS, BUCKETS, FREE_GUARD, LAST_OF_BUCKETS, WORDS_OF_BUCKETS};
+use image_layout::{
+    BLOCK_WORDS, BUCKETS, FREE_GUARD, LAST_BUCKET, LAST_OF_BUCKETS, WORDS_OF_BUCKETS,
+};
 use map_model::{Change, Reply};
 use op_core::{Ans, Machine, Want, Why};
 use phase::{Take, Taken, take_next, take_want};
@@ -85,7 +87,7 @@ fn giving(to: u8, end: NotEnclosed) -> EncloseStep
 fn next_lock(bucket: u8) -> EncloseStep
     ensures { result ≡ next_lock bucket }
 {
-    if bucket < BUCKETS - 1 {
+    if bucket < LAST_BUCKET {
         EncloseStep::Lock(bucket + 1, Take::Look)
     } else {
         EncloseStep::Head

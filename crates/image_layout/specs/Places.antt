@@ -69,6 +69,10 @@ second_stash = stash_bucket second_stash_index
 abbrev pub buckets : ℕ
 buckets = homes + stash_buckets
 
+-- the last one of them, counted from the first, which is 0
+abbrev pub last_bucket : ℕ
+last_bucket = buckets - 1
+
 -- in how many buckets beside the stash a key may stand: its home and its probing bucket
 abbrev pub homes_of_key : ℕ
 homes_of_key = 2

@@ -39,6 +39,8 @@ const BUCKETS_OF_KEY: u8 = HOMES_OF_KEY + STASH_BUCKETS;
 pub const SLOTS_OF_KEY: u8 = BUCKETS_OF_KEY * SLOTS;
 /// How many buckets a segment has.
 pub const BUCKETS: u8 = HOMES + STASH_BUCKETS;
+/// The last one of them, counted from the first, which is 0.
+pub const LAST_BUCKET: u8 = BUCKETS - 1;
 /// Which of the words of a slot for a segment is its header word, counted from the first, which is 0.
 pub const HEADER: u64 = 1;
 /// Which of them is the word of its link.

@@ -2,7 +2,7 @@
 use Rattle.std.specs.Prelude.{◌≡◌, ◌≢◌, ℕ, ◌+◌, ◌-◌, ◌<◌, ◌≤◌, Bool, true, false, None, Some, List, [], ◌∷◌}
 use Rattle.op_core.specs.declared.want.Want.TheVariants.{Done}
 use Rattle.whole_segment.specs.Rounds.{most_lines}
-use Rattle.image_layout.specs.Places.{Shape, segment_words, buckets}
+use Rattle.image_layout.specs.Places.{Shape, segment_words, last_bucket}
 use Rattle.op_core.specs.declared.want.Ans.{Ans}
 use Rattle.trace.specs.Events.{Words}
 use Rattle.map_model.specs.declared.call.Call.{Call}
@@ -68,7 +68,7 @@ left_at shape Take = events_in shape
 left_at shape (Search slot) = 12935 + (last_slot shape - slot)
 left_at shape Count = 69
 left_at shape (Return count) = 68
-left_at shape (Look b) = 12869 + (buckets - 1 - b)
+left_at shape (Look b) = 12869 + (last_bucket - b)
 left_at shape (Put batch rounds) = put_left batch rounds
 left_at shape Release = 6433
 left_at shape (Back give end) = give_left give

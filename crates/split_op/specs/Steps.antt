@@ -1,7 +1,7 @@
 -- What a split wants in each step, and what an answer makes of it.
 use Rattle.std.specs.Prelude.{ℕ, ◌+◌, ◌-◌, ◌%◌, nat_lt, ◌==◌, false, min, Option, None, Some, List, replicate, slice_set, if◌then◌else◌}
 use Rattle.segment_head.specs.HeadWord.{state_in, free}
-use Rattle.image_layout.specs.Places.{Shape, header_number, link_number, buckets, most_segments, header_words, bucket_place}
+use Rattle.image_layout.specs.Places.{Shape, header_number, link_number, buckets, last_bucket, most_segments, header_words, bucket_place}
 use Rattle.image_layout.specs.Volatile.{counter_word, allocation_guard, free_guard}
 use Rattle.op_core.specs.declared.want.Want.{Want}
 use Rattle.op_core.specs.declared.want.Want.TheVariants as want
@@ -51,7 +51,7 @@ searched op slot head =
 -- behind that of a lock word of the slot
 abbrev pub looked : SplitOp → ℕ → ℕ → SplitOp
 looked op bucket lock =
-    record op { locks = slice_set op.locks (bucket % buckets) lock; step = if nat_lt bucket (buckets - 1) then Look (bucket + 1) else Put (Empty link_number) round.begun }
+    record op { locks = slice_set op.locks (bucket % buckets) lock; step = if nat_lt bucket last_bucket then Look (bucket + 1) else Put (Empty link_number) round.begun }
 
 -- once all of a batch is stored and settled
 abbrev pub finished : Batch → SplitStep

@@ -8,7 +8,7 @@ use crate::op::SplitOp;
 use crate::seek::copied_from;
 use crate::step::{SplitEnd, SplitStep};
 use enclose_op::{Give, give_from, given};
-use image_layout::{BUCKETS, Geometry, HEADER_WORDS, MOST_SEGMENTS};
+use image_layout::{BUCKETS, Geometry, HEADER_WORDS, LAST_BUCKET, MOST_SEGMENTS};
 use op_core::{Ans, Why};
 use rounds::Rounds;
 use segment_head::word::{FREE, state_of};
@@ -46,7 +46,7 @@ fn looked(op: &mut SplitOp, bucket: u8, lock: u64)
     ensures { op.new ≡ looked op.old bucket lock }
 {
     op.locks[usize::from(bucket % BUCKETS)] = lock;
-    if bucket < BUCKETS - 1 {
+    if bucket < LAST_BUCKET {
         op.step = SplitStep::Look(bucket + 1);
     } else {
         op.step = SplitStep::Put(Batch::Empty(LINK_NUMBER), Rounds::begun());
