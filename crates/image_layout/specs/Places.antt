@@ -36,6 +36,10 @@ kind_in w = w / 2 ^ kind_from
 abbrev pub block : ℕ
 block = 32
 
+-- the last word of a bucket, counted from its lock word, which is 0
+abbrev pub last_word : ℕ
+last_word = block - 1
+
 -- how many words of the front, its first ones, say magic, format and shape
 abbrev pub front_words : ℕ
 front_words = 4

@@ -4,7 +4,7 @@ use Rattle.hash_word.specs.Hash.{index_of}
 use Rattle.bucket_meta.specs.Bucket.{mark_place}
 use Rattle.trace.specs.Events.{Words}
 use Rattle.segment_head.specs.HeadWord.{version_in, is_live}
-use Rattle.image_layout.specs.Places.{Shape, IsShape, root_word, header_word, block}
+use Rattle.image_layout.specs.Places.{Shape, IsShape, root_word, header_word, block, last_word}
 use Rattle.world.specs.Facts.{Fact, Current, Rooted}
 use Rattle.way.specs.Ways.{entry_word, is_leading}
 use Rattle.world.specs.declared.site.Site.{Site}
@@ -133,14 +133,14 @@ module _ (lock : ℕ) where
     pub same : (i : ℕ) → mark_place ≤ i → i < load.next → Has (lock + i, slice_index load.words i) pairs
     pub whole : length load.words ≡ block
     pub from : mark_place ≤ load.next
-    pub last : load.next ≤ block - 1
+    pub last : load.next ≤ last_word
 
   abbrev pub HasLoaded : List (ℕ × ℕ) → Loaded → Type 0
   HasLoaded pairs (loaded.On load) = IsLoading pairs load
   HasLoaded pairs (loaded.All words) = (i : ℕ) → mark_place ≤ i → i < block → Has (lock + i, slice_index words i) pairs
 
 abbrev pub load_left : Load → ℕ
-load_left load = 1 + (block - 1 - load.next)
+load_left load = 1 + (last_word - load.next)
 
 abbrev pub loaded_left : Loaded → ℕ
 loaded_left (loaded.On load) = load_left load

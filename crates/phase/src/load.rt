@@ -12,6 +12,9 @@ use op_core::Want;
 /// How many words a bucket has.
 const WORDS: u8 = BUCKET_WORDS as u8;
 
+/// The last of them, counted from the lock word, which is 0.
+const LAST_WORD: u8 = WORDS - 1;
+
 /// The words of a bucket that were loaded so far, each at its number, and the number of the next one, 1 to 31.
 #[derive(Clone, Copy)]
 pub struct Load {
@@ -54,7 +57,7 @@ pub fn load_want(lock: u64, load: &Load) -> Want
 pub fn load_put(load: &mut Load, seen: u64) -> bool
     ensures { load_taken load.old seen ≡ (if result then On load.new else All load.new.words) }
 {
-    let more = load.next < WORDS - 1;
+    let more = load.next < LAST_WORD;
     if load.next < WORDS {
         load.words[usize::from(load.next)] = seen;
     }
