@@ -38,9 +38,9 @@ fingers_place = 2
 abbrev pub rest_place : ℕ
 rest_place = 3
 
--- the word in which the key of its first record slot stands: before it stand the lock word and the three metadata words
+-- the word in which the key of its first record slot stands, behind the last metadata word
 abbrev pub first_key : ℕ
-first_key = 4
+first_key = rest_place + 1
 
 -- the word of the value of that slot, behind its key
 abbrev pub first_value : ℕ

@@ -109,7 +109,7 @@ pub const FINGERS_PLACE: usize = 2;
 pub const REST_PLACE: usize = 3;
 
 /// The word of a bucket in which the key of its first record slot stands: before it stand the lock word and the three metadata words.
-pub const FIRST_KEY: usize = 4;
+pub const FIRST_KEY: usize = REST_PLACE + 1;
 
 /// The word of the value of that slot, behind its key.
 pub const FIRST_VALUE: usize = FIRST_KEY + 1;

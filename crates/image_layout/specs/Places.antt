@@ -40,11 +40,7 @@ block = 32
 abbrev pub last_word : ℕ
 last_word = block - 1
 
--- how many words of the front, its first ones, say magic, format and shape
-abbrev pub front_words : ℕ
-front_words = 4
-
--- which of them says the magic, which the format and the kind of hash, which the slots for segments, and which the greatest depth
+-- which word of the front says the magic, which the format and the kind of hash, which the slots for segments, and which the greatest depth
 abbrev pub front_magic : ℕ
 front_magic = 0
 
@@ -56,6 +52,10 @@ front_segments = 2
 
 abbrev pub front_depth : ℕ
 front_depth = 3
+
+-- how many words of the front, its first ones, say magic, format and shape: those up to this one
+abbrev pub front_words : ℕ
+front_words = front_depth + 1
 
 -- how many stash buckets a segment has: those that a note may name
 abbrev pub stash_buckets : ℕ

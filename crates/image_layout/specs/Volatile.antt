@@ -37,7 +37,7 @@ directory_guard shape = words_of shape + directory_from
 
 -- how many words stand between those of the image and the guards of segments: these four
 abbrev pub guards_from : ℕ
-guards_from = 4
+guards_from = directory_from + 1
 
 -- the guard of the segment in a slot
 abbrev pub segment_guard : Shape → ℕ → ℕ

@@ -83,7 +83,7 @@ const ALLOCATION: u64 = 2;
 /// How many words behind it the guard of the directory stands.
 const DIRECTORY: u64 = 3;
 /// How many words stand between those of the image and the guards of segments.
-const GUARDS_FROM: u64 = 4;
+const GUARDS_FROM: u64 = DIRECTORY + 1;
 /// The power word while the power is on; with any other word it is off.
 pub const POWER_ON: u64 = 0;
 /// The power word that a cut of the power stores.
