@@ -1,9 +1,9 @@
 -- How the view of its caller stands in each step of an enclosing: what it holds and knows.
-use Rattle.std.specs.Prelude.{◌≡◌, ◌≢◌, ℕ, ◌+◌, ◌-◌, ◌*◌, ◌%◌, ◌^◌, ◌<◌, ◌≤◌, true, Option, None, Some, [], ◌∷◌, slice_index}
+use Rattle.std.specs.Prelude.{◌≡◌, ◌≢◌, ℕ, ◌+◌, ◌-◌, ◌*◌, ◌^◌, ◌<◌, ◌≤◌, true, Option, None, Some, [], ◌∷◌, slice_index}
 use Rattle.hash_word.specs.Hash.{home_of}
 use Rattle.bucket_meta.specs.Bucket.{lock_place, mark_place, given_back}
 use Rattle.segment_head.specs.HeadWord.{depth_in}
-use Rattle.image_layout.specs.Places.{root_word, bucket_at, buckets, last_bucket, block, words_of_buckets, last_of_buckets}
+use Rattle.image_layout.specs.Places.{root_word, bucket_at, buckets, last_bucket, place_in_bucket, words_of_buckets, last_of_buckets}
 use Rattle.way.specs.Ways.{head_word, bucket_word}
 use Rattle.whole_segment.specs.Room.{has_no_room}
 use Rattle.map_model.specs.declared.call.Call.{Call}
@@ -106,8 +106,8 @@ module _ (site : Ground) (e : Enclosed) where
   pub record IsFilling (at : ℕ) (v : View) : Type 0 where
     pub from : mark_place ≤ at
     pub last : at < words_of_buckets
-    pub no_lock : at % block ≢ lock_place
-    pub same : (j : ℕ) → j < at → j % block ≢ lock_place → Has (bucket_at site.shape e.segment 0 + j, slice_index e.buckets j) v.known
+    pub no_lock : place_in_bucket at ≢ lock_place
+    pub same : (j : ℕ) → j < at → place_in_bucket j ≢ lock_place → Has (bucket_at site.shape e.segment 0 + j, slice_index e.buckets j) v.known
 
   -- all locks are held, and the header is known
   pub record IsHeaded (v : View) : Type 0 where

@@ -1,9 +1,9 @@
 -- What an enclosing wants in each step, and what an answer makes of it; and how it ends.
-use Rattle.std.specs.Prelude.{ℕ, ◌+◌, ◌%◌, ◌==◌, ◌&&◌, nat_lt, Bool, true, false, Option, None, Some, replicate, slice_set, if◌then◌else◌}
+use Rattle.std.specs.Prelude.{ℕ, ◌+◌, ◌==◌, ◌&&◌, nat_lt, Bool, true, false, Option, None, Some, replicate, slice_set, if◌then◌else◌}
 use Rattle.hash_word.specs.Hash.{home_of}
 use Rattle.bucket_meta.specs.Bucket.{lock_place, mark_place}
 use Rattle.segment_head.specs.HeadWord.{version_in, depth_in}
-use Rattle.image_layout.specs.Places.{buckets, last_bucket, block, words_of_buckets, last_of_buckets}
+use Rattle.image_layout.specs.Places.{buckets, last_bucket, place_in_bucket, words_of_buckets, last_of_buckets}
 use Rattle.image_layout.specs.Volatile.{counter_word, free_guard}
 use Rattle.sound_image.specs.Records.{key_hash}
 use Rattle.way.specs.Ways.{head_word, bucket_word, is_leading}
@@ -76,7 +76,7 @@ headed e head = go (with_head e head) (if is_followed e head then Fill mark_plac
 -- ---- the words
 -- the number of the word after one: lock words are left out
 abbrev pub word_after : ℕ → ℕ
-word_after at = if (at + 1) % block == lock_place then at + (1 + mark_place) else at + 1
+word_after at = if place_in_bucket (at + 1) == lock_place then at + (1 + mark_place) else at + 1
 
 -- where there is no room, the segment is too deep to be split, or it is handed on
 abbrev pub decided : Enclosed → EncloseStep

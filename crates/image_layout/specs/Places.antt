@@ -146,6 +146,14 @@ first_among_buckets b = block * b
 abbrev pub word_among_buckets : ℕ → ℕ → ℕ
 word_among_buckets b n = first_among_buckets b + n
 
+-- the bucket in which word i of them stands, and which word of its bucket it is; the second also of a word by its number in its slot, since a header is
+-- one block
+abbrev pub bucket_among : ℕ → ℕ
+bucket_among i = i / block
+
+abbrev pub place_in_bucket : ℕ → ℕ
+place_in_bucket i = i % block
+
 -- the first word of bucket b among the words of its slot, where the buckets stand behind the header
 abbrev pub bucket_place : ℕ → ℕ
 bucket_place b = header_words + first_among_buckets b
@@ -163,7 +171,7 @@ abbrev pub among_buckets : ℕ → ℕ
 among_buckets number = number - header_words
 
 abbrev pub mark_among_buckets : ℕ → ℕ
-mark_among_buckets number = number - number % block - (header_words - mark_place)
+mark_among_buckets number = number - place_in_bucket number - (header_words - mark_place)
 
 -- the three numbers that say how an image is laid out
 pub record Shape : Type 0 where

@@ -1,12 +1,12 @@
 -- The words of the buckets of a segment, by their numbers: word n of bucket b is number 32 * b + n. And what a mending makes of them, in its
 -- three stages: of a split that ends the records of the 1-side leave, then locks are free and spoiled records leave, and then notes are exact.
-use Rattle.std.specs.Prelude.{ℕ, min, ◌/◌, ◌%◌, ◌==◌, ◌&&◌, nat_lt, List, slice_index, if◌then◌else◌}
+use Rattle.std.specs.Prelude.{ℕ, min, ◌==◌, ◌&&◌, nat_lt, List, slice_index, if◌then◌else◌}
 use Rattle.bucket_meta.specs.Bucket.{lock_place, mark_place, rest_place, without_lock}
 use Rattle.segment_head.specs.HeadWord.{depth_in, pattern_in, header_of, normal}
 use Rattle.hash_word.specs.Hash.{hash_bits}
 use Rattle.segment_head.specs.SplitHeads.{one_pattern_field}
 pub use Rattle.segment_head.specs.SplitHeads.{side_depth}
-use Rattle.image_layout.specs.Places.{Shape, homes, block}
+use Rattle.image_layout.specs.Places.{Shape, homes, bucket_among, place_in_bucket}
 use Rattle.sound_image.specs.Records.{key_hash}
 use Rattle.whole_segment.specs.Records.{uncovered_first}
 pub use Rattle.whole_segment.specs.Records.{first_of, third_of, key_of}
@@ -48,13 +48,13 @@ module _ (words : List ℕ) where
 
     -- the words of this number that these make
     abbrev pub halved : ℕ → ℕ
-    halved i = if i % block == mark_place then halved_first (i / block) else slice_index words i
+    halved i = if place_in_bucket i == mark_place then halved_first (bucket_among i) else slice_index words i
 
     abbrev pub mended : ℕ → ℕ
-    mended i = if i % block == lock_place then mended_lock (slice_index words i) else if i % block == mark_place then mended_first (i / block) else slice_index words i
+    mended i = if place_in_bucket i == lock_place then mended_lock (slice_index words i) else if place_in_bucket i == mark_place then mended_first (bucket_among i) else slice_index words i
 
     abbrev pub noted : ℕ → ℕ
     noted i =
-        if nat_lt (i / block) homes && (i % block == mark_place) then first_with (first_of words (i / block)) (notes_of (i / block))
-        else if nat_lt (i / block) homes && (i % block == rest_place) then third_with (third_of words (i / block)) (notes_of (i / block))
+        if nat_lt (bucket_among i) homes && (place_in_bucket i == mark_place) then first_with (first_of words (bucket_among i)) (notes_of (bucket_among i))
+        else if nat_lt (bucket_among i) homes && (place_in_bucket i == rest_place) then third_with (third_of words (bucket_among i)) (notes_of (bucket_among i))
         else slice_index words i

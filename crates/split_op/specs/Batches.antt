@@ -3,7 +3,7 @@ use Rattle.std.specs.Prelude.{ℕ, zero, suc, ◌+◌, ◌-◌, ◌%◌, ◌^◌
 use Rattle.bucket_meta.specs.Bucket.{lock_place, mark_place, rest_place, first_key, lock_bit, without_lock, slot_of_place}
 use Rattle.bucket_meta.specs.Search.{is_taken}
 use Rattle.segment_head.specs.HeadWord.{link_to}
-use Rattle.image_layout.specs.Places.{segment_words, buckets, block, header_words, header_number, link_number, bucket_place, bucket_of, bucket_behind, among_buckets, mark_among_buckets}
+use Rattle.image_layout.specs.Places.{segment_words, buckets, place_in_bucket, header_words, header_number, link_number, bucket_place, bucket_of, bucket_behind, among_buckets, mark_among_buckets}
 use Rattle.way.specs.Ways.{slot_word}
 use Rattle.split_op.specs.declared.batch.Batch.{Batch}
 use Rattle.split_op.specs.declared.batch.Batch.TheVariants.{Empty, Link, Mark, New, Copy}
@@ -13,7 +13,7 @@ use Rattle.split_op.specs.Copied.{split_head, side_head}
 -- ---- a slot is emptied
 -- what a word is emptied to: a lock word to the free value of its version, and another to 0
 abbrev pub empty_value : List ℕ → ℕ → ℕ
-empty_value locks number = if nat_lt number header_words || nat_lt lock_place (number % block) then 0 else without_lock (slice_index locks (bucket_of number))
+empty_value locks number = if nat_lt number header_words || nat_lt lock_place (place_in_bucket number) then 0 else without_lock (slice_index locks (bucket_of number))
 
 -- the first word of a bucket that is emptied: its lock word where that is not free
 abbrev pub first_of : List ℕ → ℕ → ℕ
@@ -21,7 +21,7 @@ first_of locks bucket = if nat_lt bucket buckets then (if lock_bit (slice_index 
 
 -- the word that is emptied after one
 abbrev pub after_empty : List ℕ → ℕ → ℕ
-after_empty locks number = if not (nat_lt number header_words) && nat_lt (number % block) rest_place then number + 1 else first_of locks (bucket_behind number)
+after_empty locks number = if not (nat_lt number header_words) && nat_lt (place_in_bucket number) rest_place then number + 1 else first_of locks (bucket_behind number)
 
 -- ---- records are copied
 -- word m of a bucket of the side is copied, by the word itself and the first metadata word of the bucket
@@ -30,7 +30,7 @@ is_copied_at m word mark = if m == lock_place then false else if nat_lt m first_
 
 -- a word of the side is copied, by its number
 abbrev pub is_copied : List ℕ → ℕ → Bool
-is_copied words number = is_copied_at (number % block) (slice_index words (among_buckets number)) (slice_index words (mark_among_buckets number))
+is_copied words number = is_copied_at (place_in_bucket number) (slice_index words (among_buckets number)) (slice_index words (mark_among_buckets number))
 
 -- the first one of n from a number on
 unfoldable pub seek : List ℕ → ℕ → ℕ → ℕ

@@ -5,7 +5,7 @@ use Rattle.op_core.specs.declared.want.Want.{Want}
 use Rattle.op_core.specs.declared.want.Want.TheVariants.{Store}
 use Rattle.bucket_meta.specs.Bucket.{mark_place, first_key}
 use Rattle.segment_head.specs.HeadWord.{state_in, free, link_to}
-use Rattle.image_layout.specs.Places.{root_word, words_of, head_at, header_number, link_number, bucket_at, bucket_place, among_buckets, buckets, block, header_words, segment_words, words_of_buckets}
+use Rattle.image_layout.specs.Places.{root_word, words_of, head_at, header_number, link_number, bucket_at, bucket_place, place_in_bucket, among_buckets, buckets, block, header_words, segment_words, words_of_buckets}
 use Rattle.map_model.specs.declared.call.Call.{Call}
 use Rattle.map_model.specs.declared.entry.Reply.TheVariants.{Full}
 use Rattle.map_model.specs.Changes.{call_of}
@@ -209,7 +209,7 @@ module _ (site : Ground) (here : Site) (call : Call) where
 
     -- a word of the slot that is emptied, by its number: the link, and the words of each bucket before its first key
     abbrev pub IsEmptied : ℕ → Type 0
-    IsEmptied number = (number ≡ link_number) ⊎ ((header_words ≤ number) × (number < segment_words) × (number % block < first_key))
+    IsEmptied number = (number ≡ link_number) ⊎ ((header_words ≤ number) × (number < segment_words) × (place_in_bucket number < first_key))
 
     -- THE WORDS BEFORE ONE are emptied, and the lock words from there on are as they were loaded
     pub record IsEmptying (number : ℕ) (v : View) : Type 0 where
@@ -221,7 +221,7 @@ module _ (site : Ground) (here : Site) (call : Call) where
     pub record IsCopying (number : ℕ) (v : View) : Type 0 where
       pub next : ((header_words ≤ number) × (number < segment_words) × (is_copied c.words number ≡ true)) ⊎ (segment_words ≤ number)
       pub below : (p : ℕ) → header_words ≤ p → p < segment_words → p < number → is_copied c.words p ≡ true → Has (side_at c p, slice_index c.words (among_buckets p)) v.known
-      pub rest : (p : ℕ) → header_words ≤ p → p < segment_words → p % block < first_key → (p < number → is_copied c.words p ≡ false) → Has (side_at c p, empty_value locks p) v.known
+      pub rest : (p : ℕ) → header_words ≤ p → p < segment_words → place_in_bucket p < first_key → (p < number → is_copied c.words p ≡ false) → Has (side_at c p, empty_value locks p) v.known
 
     abbrev pub KnowsSideWords : Batch → View → Type 0
     KnowsSideWords (Empty number) v = IsEmptying number v

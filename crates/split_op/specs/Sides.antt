@@ -1,10 +1,10 @@
 -- THE WORDS OF A SIDE, by what is kept of its segment: all are as they are kept, but for the metadata, which is that of the records of the 1-side
 -- alone.
-use Rattle.std.specs.Prelude.{◌≡◌, ◌≢◌, ℕ, zero, suc, ◌+◌, ◌/◌, ◌%◌, ◌<◌, ◌≤◌, ◌==◌, nat_lt, length, slice_index, List, if◌then◌else◌}
+use Rattle.std.specs.Prelude.{◌≡◌, ◌≢◌, ℕ, zero, suc, ◌+◌, ◌<◌, ◌≤◌, ◌==◌, nat_lt, length, slice_index, List, if◌then◌else◌}
 use Rattle.bucket_meta.specs.Bucket.{mark_place, fingers_place, rest_place, fingers_of_word, rest_fingers, slot_fingers_part}
 use Rattle.bucket_meta.specs.Search.{is_taken}
 use Rattle.bucket_meta.specs.Marks.{copied_mark, with_finger}
-use Rattle.image_layout.specs.Places.{homes, buckets, block, words_of_buckets}
+use Rattle.image_layout.specs.Places.{homes, buckets, block, words_of_buckets, bucket_among, place_in_bucket}
 use Rattle.sound_image.specs.Records.{key_hash}
 use Rattle.whole_segment.specs.Words.{words_by, word_of_bucket}
 use Rattle.whole_segment.specs.Records.{first_in}
@@ -56,9 +56,9 @@ module _ (e : Enclosed) where
 abbrev pub thinned_word : (word : ℕ → ℕ → ℕ) → ℕ → ℕ → ℕ
 thinned_word word b m = if m == fingers_place then low_fingers (word b mark_place) (word b fingers_place) else if m == rest_place then high_fingers (word b mark_place) (word b rest_place) else word b m
 
--- THE WORDS OF A SIDE: word m of bucket b is number 32 * b + m
+-- THE WORDS OF A SIDE, by their numbers among those of the buckets
 abbrev pub side_words : Enclosed → List ℕ
-side_words e = words_by words_of_buckets (λ i. thinned_word (marked_word e) (i / block) (i % block))
+side_words e = words_by words_of_buckets (λ i. thinned_word (marked_word e) (bucket_among i) (place_in_bucket i))
 
 -- ---- how they are made
 -- THE METADATA is that of the notes in homes, and of the half in stash buckets, whose word 3 has fingerprints of slots alone; all other words are
