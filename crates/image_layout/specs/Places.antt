@@ -1,5 +1,5 @@
 -- Where the parts of an image stand, by word number. An image is a list of 64-bit words.
-use Rattle.std.specs.Prelude.{ℕ, ◌+◌, ◌-◌, ◌*◌, ◌/◌, ◌%◌, ◌^◌, ◌≤◌}
+use Rattle.std.specs.Prelude.{ℕ, ◌+◌, ◌-◌, ◌*◌, ◌/◌, ◌%◌, ◌^◌, ◌≤◌, Bool, ◌==◌}
 pub use Rattle.hash_word.specs.Hash.{homes, most_depth}
 use Rattle.bucket_meta.specs.Bucket.{mark_place, rest_place, record_slots, key_behind, value_behind, second_stash_index, stash_indices}
 
@@ -107,6 +107,10 @@ home_of_note n = n / note_words_of_home
 
 abbrev pub place_of_note : ℕ → ℕ
 place_of_note n = mark_place + (rest_place - mark_place) * (n % note_words_of_home)
+
+-- the one of this number is the metadata word of its home
+abbrev pub is_mark_note : ℕ → Bool
+is_mark_note n = n % note_words_of_home == 0
 
 -- which of them is the metadata word of home c, and which the last word before its records
 abbrev pub mark_note : ℕ → ℕ

@@ -3,7 +3,7 @@
 ghost use Rattle.std.specs.Prelude.{◌≡◌, ◌<◌, ◌≤◌, ◌+◌, ◌*◌, ◌%◌, IfOk, IfErr};
 ghost use Rattle.bucket_meta.specs.Bucket.{first_key};
 ghost use Rattle.image_layout.specs.Volatile.{counter_word, power_word, allocation_guard, directory_guard, segment_guard, all_words_of, power_from, allocation_from, directory_from, guards_from, words_bound};
-ghost use Rattle.image_layout.specs.Places.{IsShape, first_segment, words_of, entry_at, head_at, header_word, link_word, home_of_note, place_of_note, bucket_at, bucket_place, first_among_buckets, word_among_buckets, bucket_of, bucket_behind, among_buckets, mark_among_buckets, block, stash_bucket, stash_buckets, buckets, segment_words, most_power, first_segment_of_largest, most_words, most_segments, most_depth, most_kind, entries_of, depth_above, entry_above, half_of_entry};
+ghost use Rattle.image_layout.specs.Places.{IsShape, first_segment, words_of, entry_at, head_at, header_word, link_word, home_of_note, place_of_note, is_mark_note, bucket_at, bucket_place, first_among_buckets, word_among_buckets, bucket_of, bucket_behind, among_buckets, mark_among_buckets, block, stash_bucket, stash_buckets, buckets, segment_words, most_power, first_segment_of_largest, most_words, most_segments, most_depth, most_kind, entries_of, depth_above, entry_above, half_of_entry};
 
 use bucket_meta::words::{
     BUCKET_WORDS, MARK_PLACE, REST_PLACE, SECOND_STASH_INDEX, SLOTS, STASH_INDICES,
@@ -58,7 +58,7 @@ pub const LAST_OF_BUCKETS: u16 = WORDS_OF_BUCKETS as u16 - 1;
 /// How many words a header and a bucket have, where the words of a segment are numbered.
 pub const BLOCK_WORDS: u16 = BLOCK as u16;
 /// How many words of a home have notes: its metadata word, and the last word before its records.
-pub const NOTE_WORDS_OF_HOME: u8 = 2;
+const NOTE_WORDS_OF_HOME: u8 = 2;
 /// How many words of a segment have notes: these of each home.
 pub const NOTE_WORDS: u8 = NOTE_WORDS_OF_HOME * HOMES;
 /// How far behind the metadata word the other of these stands.
@@ -214,6 +214,13 @@ pub fn home_of_note(number: u8) -> u8
     ensures { result ≡ home_of_note number }
 {
     number / NOTE_WORDS_OF_HOME
+}
+
+/// Whether it is the metadata word of that home.
+pub fn is_mark_note(number: u8) -> bool
+    ensures { result ≡ is_mark_note number }
+{
+    number % NOTE_WORDS_OF_HOME == 0
 }
 
 /// Its number in that home.

@@ -3,7 +3,7 @@ use Rattle.std.specs.Prelude.{ℕ, ◌+◌, ◌-◌, ◌%◌, ◌==◌, not, nat
 use Rattle.trace.specs.Events.{line_of}
 use Rattle.bucket_meta.specs.Bucket.{mark_place, rest_place}
 use Rattle.segment_head.specs.SplitHeads.{finished_head}
-use Rattle.image_layout.specs.Places.{homes, buckets, note_words_of_home, note_words, home_of_note, place_of_note}
+use Rattle.image_layout.specs.Places.{homes, buckets, note_words, is_mark_note, home_of_note, place_of_note}
 use Rattle.way.specs.Ways.{head_word}
 use Rattle.op_core.specs.declared.want.Want.{Want}
 use Rattle.op_core.specs.declared.want.Want.TheVariants as want
@@ -61,10 +61,10 @@ module _ (op : RestOp) where
   -- ---- notes
   -- what it is to be, and what it was
   abbrev pub note_value : ℕ → ℕ
-  note_value n = if n % note_words_of_home == 0 then slice_index op.notes.first (note_home n) else slice_index op.notes.third (note_home n)
+  note_value n = if is_mark_note n then slice_index op.notes.first (note_home n) else slice_index op.notes.third (note_home n)
 
   abbrev pub note_old : ℕ → ℕ
-  note_old n = if n % note_words_of_home == 0 then slice_index op.cleared (note_home n) else kept_word op.whole (note_home n) rest_place
+  note_old n = if is_mark_note n then slice_index op.cleared (note_home n) else kept_word op.whole (note_home n) rest_place
 
   abbrev pub is_noted : ℕ → Bool
   is_noted n = not (note_value n == note_old n)

@@ -7,8 +7,7 @@ ghost use Rattle.rest_op.specs.Steps.{is_cleared, clear_from, note_home, note_ol
 use bucket_meta::words::{MARK_PLACE, REST_PLACE};
 use enclose_op::{Enclosed, Give, given};
 use image_layout::{
-    BUCKETS, HOMES, NOTE_WORDS, NOTE_WORDS_OF_HOME, first_among_buckets, home_of_note,
-    place_of_note,
+    BUCKETS, HOMES, NOTE_WORDS, first_among_buckets, home_of_note, is_mark_note, place_of_note,
 };
 use op_core::{Ans, Machine, Want};
 use rounds::Rounds;
@@ -154,7 +153,7 @@ impl RestOp {
         ensures { result ≡ note_value self.now number }
     {
         let at = usize::from(note_home(number));
-        if number % NOTE_WORDS_OF_HOME == 0 {
+        if is_mark_note(number) {
             self.notes.first[at]
         } else {
             self.notes.third[at]
@@ -166,7 +165,7 @@ impl RestOp {
         ensures { result ≡ note_old self.now number }
     {
         let home = note_home(number);
-        if number % NOTE_WORDS_OF_HOME == 0 {
+        if is_mark_note(number) {
             self.cleared[usize::from(home)]
         } else {
             self.whole.buckets[usize::from(first_among_buckets(home)) + REST_PLACE]
