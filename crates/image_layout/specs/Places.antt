@@ -93,6 +93,10 @@ slots_of_key = buckets_of_key * record_slots
 abbrev pub segment_slots : ℕ
 segment_slots = buckets * record_slots
 
+-- the number of record slot r of bucket b among them
+abbrev pub slot_among_buckets : ℕ → ℕ → ℕ
+slot_among_buckets b r = record_slots * b + r
+
 -- how many words of a home have notes: its metadata word, and the last word before its records
 abbrev pub note_words_of_home : ℕ
 note_words_of_home = 2

@@ -1,11 +1,11 @@
 -- The records of one segment, by word 1 of each of its buckets and the key in each of its record slots; and which of them another
 -- segment, or a half of this one, covers.
-use Rattle.std.specs.Prelude.{◌≡◌, ℕ, ◌+◌, ◌*◌, ◌<◌, ◌↔◌, Bool, ◌==◌, ◌&&◌, List, slice_index}
+use Rattle.std.specs.Prelude.{◌≡◌, ℕ, ◌<◌, ◌↔◌, Bool, ◌==◌, ◌&&◌, List, slice_index}
 use Rattle.hash_word.specs.Hash.{Covers, top}
 use Rattle.bucket_meta.specs.Bucket.{allocated, record_slots, mark_place, rest_place, key_place}
 use Rattle.bucket_meta.specs.Search.{is_taken}
 use Rattle.bucket_meta.specs.Marks.{copied_mark, cleared_mark}
-use Rattle.image_layout.specs.Places.{buckets}
+use Rattle.image_layout.specs.Places.{buckets, slot_among_buckets}
 use Rattle.whole_segment.specs.Words.{word_of_bucket}
 use Rattle.whole_segment.specs.Slots.{set_of}
 use Rattle.whole_segment.specs.declared.loaded.Loaded.{Loaded}
@@ -21,7 +21,7 @@ third_in loaded b = slice_index loaded.third b
 
 -- the key in slot r of bucket b
 abbrev pub key_in : Loaded → ℕ → ℕ → ℕ
-key_in loaded b r = slice_index loaded.keys (record_slots * b + r)
+key_in loaded b r = slice_index loaded.keys (slot_among_buckets b r)
 
 -- the same of the words of its buckets as a list
 module _ (words : List ℕ) where

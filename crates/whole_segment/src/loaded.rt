@@ -3,7 +3,7 @@
 ghost use Rattle.std.specs.Prelude.{◌≡◌, ◌≢◌, ℕ, ◌+◌, ◌*◌, ◌^◌, ◌<◌, ◌≤◌, ◌↔◌, IsTrue, length};
 ghost use Rattle.bucket_meta.specs.Bucket.{allocated, record_slots};
 ghost use Rattle.hash_word.specs.Hash.{hash_bits, Covers};
-ghost use Rattle.image_layout.specs.Places.{buckets};
+ghost use Rattle.image_layout.specs.Places.{buckets, segment_slots};
 ghost use Rattle.sound_image.specs.Records.{key_hash};
 
 use bucket_meta::words::{MARK_PLACE, REST_PLACE, SLOTS, is_taken, key_place};
@@ -23,7 +23,7 @@ pub struct Loaded {
     pub keys: [u64; SEGMENT_SLOTS as usize],
     pub ghost each_first: { length first ≡ buckets },
     pub ghost each_third: { length third ≡ buckets },
-    pub ghost each_key: { length keys ≡ record_slots * buckets },
+    pub ghost each_key: { length keys ≡ segment_slots },
 }
 
 impl Loaded {
