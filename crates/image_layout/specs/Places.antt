@@ -97,6 +97,10 @@ segment_slots = buckets * record_slots
 abbrev pub slot_among_buckets : ℕ → ℕ → ℕ
 slot_among_buckets b r = record_slots * b + r
 
+-- how many its stash has
+abbrev pub stash_slots : ℕ
+stash_slots = stash_buckets * record_slots
+
 -- how many words of a home have notes: its metadata word, and the last word before its records
 abbrev pub note_words_of_home : ℕ
 note_words_of_home = 2

@@ -65,6 +65,8 @@ pub const NOTE_WORDS: u8 = NOTE_WORDS_OF_HOME * HOMES;
 const REST_BEHIND_MARK: u8 = (REST_PLACE - MARK_PLACE) as u8;
 /// How many record slots a segment has, in all its buckets.
 pub const SEGMENT_SLOTS: u64 = BUCKETS as u64 * SLOTS as u64;
+/// How many its stash has.
+pub const STASH_SLOTS: usize = STASH_BUCKETS as usize * SLOTS as usize;
 /// The most slots for segments that an image may have.
 pub const MOST_SEGMENTS: u64 = 16384;
 /// The word where the segments of the largest image begin.

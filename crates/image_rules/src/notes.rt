@@ -1,7 +1,7 @@
 //! Overflow notes of home buckets, and whether they are exact.
 
 ghost use Rattle.std.specs.Prelude.{◌≡◌, ◌*◌, ◌<◌, ◌≤◌, ◌↔◌, IsTrue, length, slice_index};
-ghost use Rattle.image_layout.specs.Places.{words_of, homes, stash_buckets, buckets, block};
+ghost use Rattle.image_layout.specs.Places.{words_of, homes, stash_buckets, stash_slots, buckets, block};
 ghost use Rattle.bucket_meta.specs.Bucket.{note_index, note_finger, record_slots, note_slots, note_sides};
 ghost use Rattle.sound_image.specs.Records.{word_in, notes_of, stashed_of, HasExactNotes};
 ghost use Rattle.image_rules.specs.Noted.{matches, how_many, piece_on, noted, IsStashed, piece_in, stashed_below, IsNamed, AreNamed};
@@ -200,7 +200,7 @@ fn count_stashed(
     requires whole { length words.now ≡ words_of geometry.now }
     requires segment { s < geometry.now.segments }
     ensures is { result ≡ how_many sought (stashed_of geometry.now (slice_index words.now) s b) }
-    ensures most { result ≤ stash_buckets * record_slots }
+    ensures most { result ≤ stash_slots }
 {
     count_in(geometry, words, s, b, FIRST_STASH_INDEX, sought)
         + count_in(geometry, words, s, b, SECOND_STASH_INDEX, sought)

@@ -2,8 +2,8 @@
 
 ghost use Rattle.std.specs.Prelude.{◌≡◌, ℕ, ◌+◌, ◌*◌, ◌<◌, ◌≤◌, List, [], ◌∷◌, ◌++◌, length, All};
 ghost use Rattle.bucket_meta.specs.declared.metadata.Meta.{Meta as MetaValue};
-ghost use Rattle.image_layout.specs.Places.{homes, stash_buckets};
-ghost use Rattle.bucket_meta.specs.Bucket.{greatest_count, record_slots};
+ghost use Rattle.image_layout.specs.Places.{homes, stash_buckets, stash_slots};
+ghost use Rattle.bucket_meta.specs.Bucket.{greatest_count};
 ghost use Rattle.stash.specs.Noted.{IsNotedInSegment, IsCleared, IsRebuilt};
 ghost use Rattle.stash.specs.NoteSlots.{SameSlots, IsBare};
 ghost use Rattle.stash.specs.Segment.{Stashed, IsStashed, IsExactSegment, SameSlotsInAll, bucket};
@@ -61,7 +61,7 @@ fn note_in(metas: &mut [Meta; HOMES as usize], home: u8, finger: u8, index: u8)
 /// for 28 records.
 pub fn rebuild(metas: &mut [Meta; HOMES as usize], stashed: &[(u8, u8, u8)])
     requires within { All IsStashed stashed.now }
-    requires room { length stashed.now ≤ record_slots * stash_buckets }
+    requires room { length stashed.now ≤ stash_slots }
     ensures rebuilt { IsRebuilt metas.old metas.new stashed.now }
     ensures exact { IsExactSegment metas.new stashed.now }
     ensures slots { SameSlotsInAll metas.old metas.new }

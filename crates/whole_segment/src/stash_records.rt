@@ -2,24 +2,21 @@
 
 ghost use Rattle.std.specs.Prelude.{◌≡◌, ◌<◌, ◌≤◌, ◌+◌, ◌*◌, [], ◌∷◌, ◌++◌, length, All};
 ghost use Rattle.bucket_meta.specs.Bucket.{record_slots};
-ghost use Rattle.image_layout.specs.Places.{stash_buckets};
+ghost use Rattle.image_layout.specs.Places.{stash_buckets, stash_slots};
 ghost use Rattle.sound_image.specs.Records.{key_hash};
 
 use crate::Loaded;
 use bucket_meta::words::{FIRST_STASH_INDEX, SECOND_STASH_INDEX, SLOTS};
 use hash_word::{finger, home};
-use image_layout::{Geometry, STASH_BUCKETS, stash_bucket};
-
-/// How many records have room in the stash.
-const STASH_SLOTS: usize = STASH_BUCKETS as usize * SLOTS as usize;
+use image_layout::{Geometry, STASH_SLOTS, stash_bucket};
 
 /// Records in the stash of a segment, each as its home, its fingerprint and its stash bucket.
 #[derive(Clone, Copy)]
 pub(crate) struct StashRecords {
     records: [(u8, u8, u8); STASH_SLOTS],
     count: usize,
-    ghost places: { length records ≡ stash_buckets * record_slots },
-    ghost most: { count ≤ stash_buckets * record_slots },
+    ghost places: { length records ≡ stash_slots },
+    ghost most: { count ≤ stash_slots },
 }
 
 impl Loaded {
@@ -57,7 +54,7 @@ impl StashRecords {
 
     /// One more.
     fn push(&mut self, entry: (u8, u8, u8))
-        requires { length (records_of self.old) < stash_buckets * record_slots }
+        requires { length (records_of self.old) < stash_slots }
         ensures { records_of self.new ≡ records_of self.old ++ entry ∷ [] }
     {
         self.records[self.count] = entry;
@@ -95,7 +92,7 @@ impl StashRecords {
     /// The records in their order.
     pub(crate) fn as_slice(&self) -> &[(u8, u8, u8)]
         ensures is { result.now ≡ records_of self.now }
-        ensures most { length result.now ≤ stash_buckets * record_slots }
+        ensures most { length result.now ≤ stash_slots }
     {
         &self.records[..self.count]
     }
