@@ -1,9 +1,9 @@
 -- The core of a word: what of it a rule or a pair depends on between a restart and a close. Of a lock word that is
 -- nothing, and of a bucket's metadata all but the overflow parts.
-use Rattle.std.specs.Prelude.{◌≡◌, ℕ, zero, suc, ◌+◌, ◌-◌, ◌/◌, ◌%◌, ◌<◌, ◌≤◌, nat_lt, ◌==◌, ◌||◌, if◌then◌else◌}
+use Rattle.std.specs.Prelude.{◌≡◌, ℕ, zero, suc, ◌+◌, ◌-◌, ◌<◌, ◌≤◌, nat_lt, ◌==◌, ◌||◌, if◌then◌else◌}
 use Rattle.trace.specs.Events.{Words}
 use Rattle.bucket_meta.specs.Bucket.{mark_place, slots_part, slot_fingers_part}
-use Rattle.image_layout.specs.Places.{Shape, first_segment, words_of, bucket_at, block, slot_blocks}
+use Rattle.image_layout.specs.Places.{Shape, first_segment, words_of, bucket_at, block, header_block, block_in_slot, among_slots, place_in_bucket}
 
 -- of word n of a bucket, counted up from zero: of its lock word nothing, of `mark_place` the record slots, `fingers_place` as it is, of
 -- `rest_place` the fingerprints of record slots, and each word behind these as it is
@@ -15,15 +15,15 @@ core_in_bucket (suc (suc (suc zero))) x = slot_fingers_part x
 core_in_bucket (suc (suc (suc (suc n)))) x = x
 
 module _ (shape : Shape) where
-  -- the words of a segment go in 67 groups of 32: its header, and its 66 buckets
+  -- the words of a segment go in groups, the blocks of its slot: its header, and its buckets
   abbrev pub group_of : ℕ → ℕ
-  group_of i = (i - first_segment shape) / block % slot_blocks
+  group_of i = block_in_slot (among_slots shape i)
 
   -- the core of word i with the value x: the words in front, those of a header, and those behind the image are whole
   abbrev pub core_of : ℕ → ℕ → ℕ
   core_of i x =
-      if nat_lt i (first_segment shape) || (group_of i == 0) || nat_lt (words_of shape - 1) i then x
-      else core_in_bucket ((i - first_segment shape) % block) x
+      if nat_lt i (first_segment shape) || (group_of i == header_block) || nat_lt (words_of shape - 1) i then x
+      else core_in_bucket (place_in_bucket (among_slots shape i)) x
 
   abbrev pub core : Words → Words
   core word i = core_of i (word i)

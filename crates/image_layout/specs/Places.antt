@@ -143,6 +143,14 @@ slot_blocks = header_blocks + buckets
 abbrev pub segment_words : ℕ
 segment_words = block * slot_blocks
 
+-- the number of its header among them
+abbrev pub header_block : ℕ
+header_block = 0
+
+-- which block of its slot a word stands in, by its number among the words of all slots, counted from the first word of the first one
+abbrev pub block_in_slot : ℕ → ℕ
+block_in_slot number = number / block % slot_blocks
+
 -- how many words its buckets have together
 abbrev pub words_of_buckets : ℕ
 words_of_buckets = block * buckets
@@ -233,6 +241,10 @@ most_power = 131072
 -- the first segment begins at the next whole block behind the areas
 abbrev pub first_segment : Shape → ℕ
 first_segment shape = (block + entries_of (shape.depth + 1) - 1 + (block - 1)) / block * block
+
+-- the number of a word behind the areas among the words of all slots
+abbrev pub among_slots : Shape → ℕ → ℕ
+among_slots shape i = i - first_segment shape
 
 -- the first word of the header of the segment in slot s
 abbrev pub head_at : Shape → ℕ → ℕ
