@@ -2,7 +2,7 @@
 -- that name it.
 use Rattle.std.specs.Prelude.{ℕ, ◌+◌, ◌-◌, ◌==◌, nat_le, nat_lt, Bool, true, false, Option, None, Some, if◌then◌else◌}
 use Rattle.segment_head.specs.HeadWord.{depth_in}
-use Rattle.image_layout.specs.Places.{Shape, root_word, depth_above, entry_above, half_of_entry}
+use Rattle.image_layout.specs.Places.{Shape, root_word, depth_below, depth_above, entry_above, half_of_entry}
 use Rattle.image_layout.specs.Volatile.{power_on, directory_guard, free_guard}
 use Rattle.op_core.specs.declared.want.Want.{Want}
 use Rattle.op_core.specs.declared.want.Want.TheVariants as want
@@ -84,7 +84,7 @@ power_step value = if value == power_on then TakeGuard else Ended Off
 
 -- the root was found: the directory is doubled where the segment is as deep
 abbrev pub rooted : Bool → DirectoryOp → ℕ → DirectoryOp
-rooted true op root = record op { root = root + 1; rounds = begun; step = LoadEntry 0 }
+rooted true op root = record op { root = depth_below root; rounds = begun; step = LoadEntry 0 }
 rooted false op root = record op { root = root; rounds = begun; step = Store GoLive }
 
 -- the image has no area of that depth, or, where the directory is to be doubled, none that is one deeper

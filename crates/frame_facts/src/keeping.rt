@@ -2,7 +2,7 @@
 
 ghost use Rattle.std.specs.Prelude.{◌≡◌, ◌≢◌, ℕ, ◌+◌, ◌<◌, ◌≤◌};
 ghost use Rattle.trace.specs.Events.{Words, with_word};
-ghost use Rattle.image_layout.specs.Places.{Shape, most_depth, root_word, entries_of, entry_at, header_word, link_word, bucket_at, block, buckets};
+ghost use Rattle.image_layout.specs.Places.{Shape, most_depth, root_word, entries_of, depth_below, entry_at, header_word, link_word, bucket_at, block, buckets};
 ghost use Rattle.bucket_words.specs.Segments.{Frame, frame_of};
 ghost use Rattle.bucket_words.specs.Claims.{IsSoundFrame};
 ghost use Rattle.bucket_words.specs.Stores.{TakesSlot, FreesSlot, Links, BeginsSplit, GoesLive, NamesClaimer, NamesSide, EndsSplit, DropsSplit, Renews};
@@ -48,7 +48,7 @@ pub fn directory_stores_keep_facts()
     ensures links { (shape : Shape) (version : ℕ) (words medium : Words) → AreSound shape words medium → (s l : ℕ)
         → Both words medium (λ word. Links (frame_of shape word) s l) → KeepsFacts shape version words medium (link_word shape s) l }
     ensures doubles { (shape : Shape) (version : ℕ) (words medium : Words) → AreSound shape words medium → HaveOneRoot shape words medium
-        → Both words medium (Doubles shape) → KeepsFacts shape version words medium root_word (words root_word + 1) }
+        → Both words medium (Doubles shape) → KeepsFacts shape version words medium root_word (depth_below (words root_word)) }
     ensures claimer { (shape : Shape) (version : ℕ) (words medium : Words) → AreSound shape words medium → HaveOneRoot shape words medium → (i n : ℕ)
         → Both words medium (λ word. NamesClaimer (frame_of shape word) i n) → KeepsFacts shape version words medium (entry_at (words root_word) i) n }
     ensures side { (shape : Shape) (version : ℕ) (words medium : Words) → AreSound shape words medium → HaveOneRoot shape words medium → (s n i : ℕ)

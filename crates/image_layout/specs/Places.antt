@@ -220,6 +220,10 @@ state_word = 16
 abbrev pub entries_of : ℕ → ℕ
 entries_of depth = 2 ^ depth
 
+-- the depth of the area below that of a depth
+abbrev pub depth_below : ℕ → ℕ
+depth_below depth = depth + 1
+
 -- the depth of the area above that of a depth; the entry of it that has the hashes of entry i, and of one more; and which half of them entry i has, 0 or 1
 abbrev pub depth_above : ℕ → ℕ
 depth_above depth = depth - 1

@@ -1,10 +1,10 @@
 -- The stores to headers, links, the root and the directory: for each what it must find in a sound frame, and what it leaves.
-use Rattle.std.specs.Prelude.{◌≡◌, ◌≢◌, ℕ, ◌+◌, ◌^◌, ◌<◌, ◌≤◌, ◌⊎◌}
+use Rattle.std.specs.Prelude.{◌≡◌, ◌≢◌, ℕ, ◌^◌, ◌<◌, ◌≤◌, ◌⊎◌}
 use Rattle.trace.specs.Events.{with_word}
 use Rattle.hash_word.specs.Hash.{index_of}
 use Rattle.segment_head.specs.HeadWord.{version_in, state_in, depth_in, pattern_in, free, normal, splitting, fresh, link_to, no_link, LinksWithin}
 use Rattle.segment_head.specs.Prefixes.{pattern_of_zero_side}
-use Rattle.sound_image.specs.Places.{Shape, root_word, state_word, entries_of, entry_above, entry_at, header_word, link_word}
+use Rattle.sound_image.specs.Places.{Shape, root_word, state_word, entries_of, depth_below, entry_above, entry_at, header_word, link_word}
 use Rattle.sound_image.specs.StateWord.{first_version}
 use Rattle.sound_image.specs.Segments.{ImageWords, Frame, frame_of, image_version, state_at, depth_at, pattern_at, side_depth_at, side_pattern_at, InOneSide, IsReadySide, HasReadySide}
 use Rattle.segment_table.specs.Claims.{Claims, named_for, IsSoundFrame}
@@ -136,7 +136,7 @@ module _ (shape : Shape) (word : ImageWords) where
   -- THE ROOT, one deeper: there is room, and each entry of the area that is one deeper names what the entry above it names
   pub record Doubles : Type 0 where
     pub room : word root_word < shape.depth
-    pub filled : (i : ℕ) → i < entries_of (word root_word + 1) → word (entry_at (word root_word + 1) i) ≡ word (entry_at (word root_word) (entry_above i))
+    pub filled : (i : ℕ) → i < entries_of (depth_below (word root_word)) → word (entry_at (depth_below (word root_word)) i) ≡ word (entry_at (word root_word) (entry_above i))
 
   -- the words that the frame is read from: any other store leaves it as it is, so one to an entry of another area
   abbrev pub IsFrameWord : ℕ → Type 0

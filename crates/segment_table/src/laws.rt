@@ -3,7 +3,7 @@
 ghost use Rattle.std.specs.Prelude.{◌≡◌, ◌≢◌, ◌↔◌, ℕ, ◌+◌, ◌^◌, ◌<◌, ◌≤◌, Option, None, Some};
 ghost use Rattle.trace.specs.Events.{with_word};
 ghost use Rattle.hash_word.specs.Hash.{index_of, hash_bits, most_depth};
-ghost use Rattle.sound_image.specs.Places.{Shape, IsShape, block, buckets, root_word, state_word, entries_of, entry_at, header_word, link_word, bucket_at, words_of};
+ghost use Rattle.sound_image.specs.Places.{Shape, IsShape, block, buckets, root_word, state_word, entries_of, depth_below, entry_at, header_word, link_word, bucket_at, words_of};
 ghost use Rattle.sound_image.specs.Segments.{ImageWords, Frame, frame_of, depth_at, IsLive, CoversHash, IsLiveFor, Owns, InOneSide, IsReadySide, HasReadySide};
 ghost use Rattle.segment_table.specs.Claims.{Claims, ClaimsNoOneSide, ClaimsOneSide, IsSideEntry, IsSoundFrame, HasSoundFrame, FollowsFrameRules};
 ghost use Rattle.segment_table.specs.Owner.{owner};
@@ -65,7 +65,7 @@ pub fn splits_begin()
 /// The root becomes one deeper, over an area that names for each entry what the entry above it names.
 pub fn directories_double()
     ensures { (shape : Shape) (word : ImageWords) → IsShape shape → HasSoundFrame shape word → Doubles shape word
-        → StoreKeeps shape word root_word (word root_word + 1) }
+        → StoreKeeps shape word root_word (depth_below (word root_word)) }
 {}
 
 /// The side of a splitting segment becomes live, and takes the hashes of the 1-side, and no others.
