@@ -1,6 +1,7 @@
 -- Where the parts of an image stand, by word number. An image is a list of 64-bit words.
 use Rattle.std.specs.Prelude.{ℕ, ◌+◌, ◌-◌, ◌*◌, ◌/◌, ◌%◌, ◌^◌, ◌≤◌, Bool, ◌==◌}
 pub use Rattle.hash_word.specs.Hash.{homes, most_depth}
+use Rattle.hash_word.specs.Hash.{place_over}
 use Rattle.bucket_meta.specs.Bucket.{mark_place, rest_place, record_slots, key_behind, value_behind, second_stash_index, stash_indices}
 
 -- how many slots for segments an image may have at most, and the greatest kind of hash
@@ -229,7 +230,7 @@ abbrev pub depth_above : ℕ → ℕ
 depth_above depth = depth - 1
 
 abbrev pub entry_above : ℕ → ℕ
-entry_above i = i / 2
+entry_above i = place_over 1 i
 
 abbrev pub half_of_entry : ℕ → ℕ
 half_of_entry i = i % 2
