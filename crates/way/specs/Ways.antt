@@ -1,6 +1,6 @@
 -- The way from a hash to its bucket: the words on it, and what the header of its segment has to cover.
 use Rattle.std.specs.Prelude.{ℕ, ◌+◌, nat_le, nat_lt, Bool, ◌==◌, ◌&&◌, if◌then◌else◌}
-use Rattle.image_layout.specs.Places.{Shape, root_word, entry_at, head_at, header_number, link_number, bucket_at}
+use Rattle.image_layout.specs.Places.{Shape, root_word, entry_at, head_at, header_word, link_word, bucket_at}
 use Rattle.image_layout.specs.Volatile.{segment_guard}
 use Rattle.hash_word.specs.Hash.{hash_bits, index_of, top}
 use Rattle.segment_head.specs.HeadWord.{state_in, depth_in, pattern_in, normal}
@@ -19,11 +19,11 @@ slot_word shape slot number = of_slot shape slot (head_at shape slot + number)
 
 -- the header word of a segment
 abbrev pub head_word : Shape → ℕ → ℕ
-head_word shape segment = slot_word shape segment header_number
+head_word shape segment = of_slot shape segment (header_word shape segment)
 
 -- the word of its link
 abbrev pub slot_link : Shape → ℕ → ℕ
-slot_link shape segment = slot_word shape segment link_number
+slot_link shape segment = of_slot shape segment (link_word shape segment)
 
 -- its guard
 abbrev pub slot_guard : Shape → ℕ → ℕ
