@@ -3,8 +3,8 @@ use Rattle.std.specs.Prelude.{◌≡◌, ◌≢◌, ℕ, ◌+◌, ◌-◌, ◌*�
 use Rattle.hash_word.specs.Hash.{home_of}
 use Rattle.bucket_meta.specs.Bucket.{lock_place, mark_place, given_back}
 use Rattle.segment_head.specs.HeadWord.{depth_in}
-use Rattle.image_layout.specs.Places.{root_word, bucket_at, buckets, last_bucket, place_in_bucket, words_of_buckets, last_of_buckets}
-use Rattle.way.specs.Ways.{head_word, bucket_word}
+use Rattle.image_layout.specs.Places.{root_word, numbered_at, buckets, last_bucket, place_in_bucket, words_of_buckets, last_of_buckets}
+use Rattle.way.specs.Ways.{head_word, numbered_word}
 use Rattle.whole_segment.specs.Room.{has_no_room}
 use Rattle.map_model.specs.declared.call.Call.{Call}
 use Rattle.map_model.specs.declared.entry.Reply.TheVariants.{Deep, Spent}
@@ -43,7 +43,7 @@ module _ (e : Enclosed) where
   kind_at Guard = of_structure (takes (of_segment e.segment) e.site.caller)
   kind_at (Lock b take) = of_call (take_kind (lock_of e b) take)
   kind_at Head = of_structure (reads (head_word e.site.geometry e.segment))
-  kind_at (Fill at) = of_call (learns (bucket_word e.site.geometry e.segment 0 + at))
+  kind_at (Fill at) = of_call (learns (numbered_word e.site.geometry e.segment at))
   kind_at (CountSpent b) = of_call (refuses (call_of e.change) Spent)
   kind_at CountDeep = of_call (refuses (call_of e.change) Deep)
   kind_at (Give give end) = give_kind give
@@ -107,7 +107,7 @@ module _ (site : Ground) (e : Enclosed) where
     pub from : mark_place ≤ at
     pub last : at < words_of_buckets
     pub no_lock : place_in_bucket at ≢ lock_place
-    pub same : (j : ℕ) → j < at → place_in_bucket j ≢ lock_place → Has (bucket_at site.shape e.segment 0 + j, slice_index e.buckets j) v.known
+    pub same : (j : ℕ) → j < at → place_in_bucket j ≢ lock_place → Has (numbered_at site.shape e.segment j, slice_index e.buckets j) v.known
 
   -- all locks are held, and the header is known
   pub record IsHeaded (v : View) : Type 0 where

@@ -1,7 +1,7 @@
 -- What an enclosing remembers of what its attempt did, in each step: which words it changed, and which it loaded, as they are kept.
-use Rattle.std.specs.Prelude.{◌≡◌, ◌≢◌, ℕ, ◌+◌, ◌<◌, ⊤, [], slice_index}
+use Rattle.std.specs.Prelude.{◌≡◌, ◌≢◌, ℕ, ◌<◌, ⊤, [], slice_index}
 use Rattle.bucket_meta.specs.Bucket.{lock_place}
-use Rattle.image_layout.specs.Places.{bucket_at, buckets, place_in_bucket}
+use Rattle.image_layout.specs.Places.{numbered_at, buckets, place_in_bucket}
 use Rattle.image_layout.specs.Volatile.{segment_guard}
 use Rattle.world.specs.Ground.{Ground, spent_lock}
 use Rattle.world.specs.Views.{Has}
@@ -23,7 +23,7 @@ module _ (site : Ground) (e : Enclosed) (did : Doings) where
   pub record RemembersWords (at : ℕ) : Type 0 where
     pub locks : RemembersLocks buckets
     pub header : HasLoadedHeader site e did
-    pub words : (j : ℕ) → j < at → place_in_bucket j ≢ lock_place → Has (bucket_at site.shape e.segment 0 + j, slice_index e.buckets j) did.loads
+    pub words : (j : ℕ) → j < at → place_in_bucket j ≢ lock_place → Has (numbered_at site.shape e.segment j, slice_index e.buckets j) did.loads
 
   -- the guard was taken, and the lock word of this bucket was loaded as free with its last version
   pub record RemembersSpent (b : ℕ) : Type 0 where

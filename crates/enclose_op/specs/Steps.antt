@@ -6,7 +6,7 @@ use Rattle.segment_head.specs.HeadWord.{version_in, depth_in}
 use Rattle.image_layout.specs.Places.{buckets, last_bucket, place_in_bucket, words_of_buckets, last_of_buckets}
 use Rattle.image_layout.specs.Volatile.{counter_word, free_guard}
 use Rattle.sound_image.specs.Records.{key_hash}
-use Rattle.way.specs.Ways.{head_word, bucket_word, is_leading}
+use Rattle.way.specs.Ways.{head_word, numbered_word, is_leading}
 use Rattle.whole_segment.specs.Room.{has_no_room}
 use Rattle.op_core.specs.declared.want.Want.{Want}
 use Rattle.op_core.specs.declared.want.Want.TheVariants as want
@@ -98,7 +98,7 @@ module _ (e : Enclosed) where
   wanted_in Guard = want.Exchange (guard_of e) free_guard e.site.caller
   wanted_in (Lock b take) = take_wanted (lock_of e b) take
   wanted_in Head = want.Load (head_word e.site.geometry e.segment)
-  wanted_in (Fill at) = want.Load (bucket_word e.site.geometry e.segment 0 + at)
+  wanted_in (Fill at) = want.Load (numbered_word e.site.geometry e.segment at)
   wanted_in (CountSpent b) = want.Load (counter_word e.site.geometry)
   wanted_in CountDeep = want.Load (counter_word e.site.geometry)
   wanted_in (Give give end) = give_wanted e give

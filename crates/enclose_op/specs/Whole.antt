@@ -1,6 +1,6 @@
 -- WHAT IS ENCLOSED: a segment whose guard and locks are all held and whose words are all known, as one machine of a split hands it on to the
 -- next.
-use Rattle.std.specs.Prelude.{◌≡◌, ℕ, ◌+◌, ◌-◌, ◌^◌, ◌<◌, ◌≤◌, ◌==◌, ◌⊎◌, true, [], ◌∷◌, length, slice_index, if◌then◌else◌}
+use Rattle.std.specs.Prelude.{◌≡◌, ℕ, ◌+◌, ◌^◌, ◌<◌, ◌≤◌, ◌==◌, ◌⊎◌, true, [], ◌∷◌, length, slice_index, if◌then◌else◌}
 use Rattle.trace.specs.Events.{Words}
 use Rattle.bucket_meta.specs.Bucket.{mark_place, locked}
 use Rattle.hash_word.specs.Hash.{Covers, home_of}
@@ -10,7 +10,7 @@ use Rattle.segment_head.specs.SplitHeads as heads
 use Rattle.image_layout.specs.Places.{bucket_at, buckets, block, words_of_buckets}
 use Rattle.image_layout.specs.Volatile.{segment_guard}
 use Rattle.sound_image.specs.Records.{key_hash}
-use Rattle.way.specs.Ways.{head_word, bucket_word, is_leading}
+use Rattle.way.specs.Ways.{head_word, number_of_word, is_leading}
 use Rattle.whole_segment.specs.Words.{word_of_bucket}
 use Rattle.whole_segment.specs.Records.{covered_set, first_of, third_of, key_of}
 use Rattle.whole_segment.specs.Room.{has_no_room}
@@ -39,7 +39,7 @@ kept_word e b n = word_of_bucket e.buckets b n
 
 -- THE WORDS THAT ARE KEPT, as one function of all words: the header, and the words of the buckets
 abbrev pub kept_words : Enclosed → Words
-kept_words e i = if i == head_word e.site.geometry e.segment then e.head else slice_index e.buckets (i - bucket_word e.site.geometry e.segment 0)
+kept_words e i = if i == head_word e.site.geometry e.segment then e.head else slice_index e.buckets (number_of_word e.site.geometry e.segment i)
 
 -- word 1 of each bucket, word 3, and the key in each record slot
 abbrev pub kept_first : Enclosed → ℕ → ℕ

@@ -285,6 +285,13 @@ most_words = 35258400
 abbrev pub bucket_at : Shape → ℕ → ℕ → ℕ
 bucket_at shape s b = head_at shape s + header_words + first_among_buckets b
 
+-- the word of segment s that has number i among those of its buckets; and the way back, from such a word to its number
+abbrev pub numbered_at : Shape → ℕ → ℕ → ℕ
+numbered_at shape s i = bucket_at shape s 0 + i
+
+abbrev pub number_at : Shape → ℕ → ℕ → ℕ
+number_at shape s word = word - bucket_at shape s 0
+
 -- the key and the value of record slot r in a bucket
 abbrev pub key_at : Shape → ℕ → ℕ → ℕ → ℕ
 key_at shape s b r = key_behind (bucket_at shape s b) r

@@ -1,11 +1,11 @@
 -- How a mending fits the world: the kind of each event, and how the view of its caller stands in each step.
-use Rattle.std.specs.Prelude.{◌≡◌, ◌≢◌, ℕ, ◌+◌, ◌^◌, ◌<◌, ◌≤◌, ◌⊎◌, Option, None, Some, List, [], ◌∷◌, slice_index}
+use Rattle.std.specs.Prelude.{◌≡◌, ◌≢◌, ℕ, ◌^◌, ◌<◌, ◌≤◌, ◌⊎◌, Option, None, Some, List, [], ◌∷◌, slice_index}
 use Rattle.trace.specs.Events.{line_of}
 use Rattle.hash_word.specs.Hash.{Covers, hash_bits}
 use Rattle.bucket_meta.specs.Bucket.{lock_bit}
 use Rattle.segment_head.specs.HeadWord.{version_in, state_in, depth_in, pattern_in, normal, splitting}
 use Rattle.segment_head.specs.SplitHeads.{finished_head}
-use Rattle.image_layout.specs.Places.{root_word, bucket_at, buckets, note_words, words_of_buckets, first_among_buckets}
+use Rattle.image_layout.specs.Places.{root_word, numbered_at, buckets, note_words, words_of_buckets, first_among_buckets}
 use Rattle.sound_image.specs.Records.{key_hash}
 use Rattle.whole_segment.specs.Records.{Stands}
 use Rattle.whole_segment.specs.Mending.{IsLookedFor}
@@ -59,7 +59,7 @@ pub record IsPartly (guarded : Guarded) (words next : List ℕ) (stage : Stage) 
 module _ (site : Ground) (guarded : Guarded) where
   -- where the word of the buckets of this number stands
   abbrev pub place_of : ℕ → ℕ
-  place_of i = bucket_at site.shape guarded.segment 0 + i
+  place_of i = numbered_at site.shape guarded.segment i
 
   -- each record that it covers stands where its key is looked for
   abbrev pub AreLookedFor : List ℕ → Type 0

@@ -4,7 +4,7 @@ use Rattle.trace.specs.Events.{line_of}
 use Rattle.segment_head.specs.SplitHeads.{finished_head}
 use Rattle.image_layout.specs.Places.{note_words, words_of_buckets, last_of_buckets}
 use Rattle.image_layout.specs.Volatile.{free_guard}
-use Rattle.way.specs.Ways.{head_word, bucket_word}
+use Rattle.way.specs.Ways.{head_word, numbered_word}
 use Rattle.op_core.specs.declared.want.Want.{Want}
 use Rattle.op_core.specs.declared.want.Want.TheVariants as want
 use Rattle.op_core.specs.declared.want.Ans.{Ans}
@@ -32,7 +32,7 @@ abbrev pub head_at : MendOp → ℕ
 head_at op = head_word op.guarded.site.geometry op.guarded.segment
 
 abbrev pub word_at : MendOp → ℕ → ℕ
-word_at op i = bucket_word op.guarded.site.geometry op.guarded.segment 0 + i
+word_at op i = numbered_word op.guarded.site.geometry op.guarded.segment i
 
 -- ---- its parts
 abbrev pub at_step : MendOp → MendStep → MendOp

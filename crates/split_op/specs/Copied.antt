@@ -1,10 +1,10 @@
 -- WHAT IS COPIED: a segment that is being split and whole, and the slot of its side, which has its records of the 1-side, as a split hands
 -- it on to who publishes the side.
-use Rattle.std.specs.Prelude.{◌≡◌, ◌≢◌, ℕ, ◌-◌, ◌<◌, ◌==◌, ◌⊎◌, [], ◌∷◌, length, slice_index, if◌then◌else◌}
+use Rattle.std.specs.Prelude.{◌≡◌, ◌≢◌, ℕ, ◌<◌, ◌==◌, ◌⊎◌, [], ◌∷◌, length, slice_index, if◌then◌else◌}
 use Rattle.trace.specs.Events.{Words}
 use Rattle.segment_head.specs.HeadWord.{splitting, fresh, link_to}
 use Rattle.segment_head.specs.SplitHeads.{with_state, one_side_head}
-use Rattle.image_layout.specs.Places.{bucket_at, words_of_buckets}
+use Rattle.image_layout.specs.Places.{number_at, words_of_buckets}
 use Rattle.bucket_words.specs.Standing.{KeysStandOnce, NotesAreExact}
 use Rattle.frame_facts.specs.Copies.{IsSlotCopy}
 use Rattle.frame_facts.specs.DeadSlots.{IsInSlot}
@@ -34,7 +34,7 @@ side_head e = one_side_head e.site.version fresh e.head
 -- ---- words
 -- those of a side, of which these are the words of its buckets
 abbrev pub side_words : Copied → Words
-side_words c i = if i == header_word c.whole.site.geometry c.side then side_head c.whole else slice_index c.words (i - bucket_at c.whole.site.geometry c.side 0)
+side_words c i = if i == header_word c.whole.site.geometry c.side then side_head c.whole else slice_index c.words (number_at c.whole.site.geometry c.side i)
 
 -- those of the segment that is split
 abbrev pub split_words : Copied → Words

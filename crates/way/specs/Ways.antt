@@ -1,5 +1,5 @@
 -- The way from a hash to its bucket: the words on it, and what the header of its segment has to cover.
-use Rattle.std.specs.Prelude.{ℕ, ◌+◌, nat_le, nat_lt, Bool, ◌==◌, ◌&&◌, if◌then◌else◌}
+use Rattle.std.specs.Prelude.{ℕ, ◌+◌, ◌-◌, nat_le, nat_lt, Bool, ◌==◌, ◌&&◌, if◌then◌else◌}
 use Rattle.image_layout.specs.Places.{Shape, root_word, entry_at, head_at, header_word, link_word, bucket_at}
 use Rattle.image_layout.specs.Volatile.{segment_guard}
 use Rattle.hash_word.specs.Hash.{hash_bits, index_of, top}
@@ -32,6 +32,13 @@ slot_guard shape segment = of_slot shape segment (segment_guard shape segment)
 -- the first word of a bucket of it, its lock word
 abbrev pub bucket_word : Shape → ℕ → ℕ → ℕ
 bucket_word shape segment b = of_slot shape segment (bucket_at shape segment b)
+
+-- the word of it that has number i among those of its buckets; and the way back, from such a word to its number
+abbrev pub numbered_word : Shape → ℕ → ℕ → ℕ
+numbered_word shape segment i = bucket_word shape segment 0 + i
+
+abbrev pub number_of_word : Shape → ℕ → ℕ → ℕ
+number_of_word shape segment word = word - bucket_word shape segment 0
 
 -- a header covers a hash whose top bits, as many as its depth, are its pattern
 abbrev pub is_covering : ℕ → ℕ → Bool
