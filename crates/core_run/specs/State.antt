@@ -5,6 +5,7 @@ use Rattle.op_core.specs.declared.want.Want.TheVariants as want
 use Rattle.op_core.specs.declared.want.Ans.{Ans}
 use Rattle.trace.specs.Events.{Words}
 use Rattle.image_layout.specs.Places.{Shape}
+use Rattle.image_layout.specs.StateWord.{no_version}
 use Rattle.map_model.specs.declared.call.Call.{Call}
 use Rattle.map_model.specs.Weave.{first_caller, keeper_number}
 use Rattle.world.specs.Wants.{answer_to, word_of, event_of, words_after}
@@ -31,7 +32,7 @@ pub record State : Type 0 where
 -- a caller before the end of the restart: the version of the image is not known yet
 abbrev pub waiting : Shape → ℕ → List Call → Caller
 waiting shape number calls = record {
-  site = record { geometry = shape; version = 0; caller = number };
+  site = record { geometry = shape; version = no_version; caller = number };
   calls = calls;
   entries = [];
   engine = None;
@@ -55,7 +56,7 @@ beginning shape words scripts =
 -- what a restart ended with
 abbrev pub started_at : RestartStep → Started
 started_at (restart_step.Ended started) = started
-started_at step = started_with 0
+started_at step = started_with no_version
 
 abbrev pub started_by : RestartOp → Started
 started_by op = started_at op.step

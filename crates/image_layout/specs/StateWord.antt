@@ -3,6 +3,10 @@ use Rattle.std.specs.Prelude.{◌≡◌, ℕ, ◌+◌, ◌-◌, ◌/◌, ◌%◌
 use Rattle.hash_word.specs.Hash.{version_bits}
 pub use Rattle.hash_word.specs.Hash.{version_in}
 
+-- the version that no image has
+abbrev pub no_version : ℕ
+no_version = 0
+
 -- the version of a new image, and of one whose headers lost theirs
 abbrev pub first_version : ℕ
 first_version = 1

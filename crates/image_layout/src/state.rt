@@ -6,6 +6,9 @@ ghost use Rattle.image_layout.specs.StateWord.{with_marker, IsMarked};
 use hash_word::VERSION_BITS;
 pub use hash_word::version_of;
 
+/// The version that no image has.
+pub const NO_VERSION: u8 = 0;
+
 /// The version of a new image, and of one whose headers lost theirs.
 pub const FIRST_VERSION: u8 = 1;
 

@@ -17,6 +17,7 @@ use crate::run_state::RunState;
 use core_run::Keeper;
 use image_file::Medium;
 use image_layout::Geometry;
+use image_layout::state::NO_VERSION;
 use map_model::{Call, Lists, MOST_CALLERS, NoMemory};
 use pm_trace::Device;
 use restart_op::RestartOp;
@@ -35,7 +36,7 @@ fn waiting_caller(geometry: Geometry, number: u8, calls: Vec<Call>) -> Caller
     Caller {
         site: Site {
             geometry,
-            version: 0,
+            version: NO_VERSION,
             caller: number,
         },
         calls,

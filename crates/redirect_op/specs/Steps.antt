@@ -3,6 +3,7 @@ use Rattle.std.specs.Prelude.{ℕ, ◌+◌, nat_le, nat_lt, min, Bool, true, fal
 use Rattle.segment_head.specs.HeadWord.{depth_in, free}
 use Rattle.segment_head.specs.SplitHeads.{one_side_head}
 use Rattle.image_layout.specs.Places.{Shape, root_word}
+use Rattle.image_layout.specs.StateWord.{no_version}
 use Rattle.image_layout.specs.Volatile.{directory_guard, free_guard}
 use Rattle.op_core.specs.declared.want.Want.{Want}
 use Rattle.op_core.specs.declared.want.Want.TheVariants as want
@@ -26,9 +27,9 @@ shape_of op = op.guarded.site.geometry
 
 -- ---- which entries
 -- a header with the depth and the pattern of the 1-side; entries are found by these two alone, so its version and its state do not matter: it has
--- version 0, which no image has, and is that of a free slot
+-- the version that no image has, and is that of a free slot
 abbrev pub side_head : ℕ → ℕ
-side_head head = one_side_head 0 free head
+side_head head = one_side_head no_version free head
 
 -- the first and the last entry of the 1-side
 abbrev pub first_entry : RedirectOp → ℕ

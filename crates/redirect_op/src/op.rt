@@ -6,6 +6,7 @@ ghost use Rattle.redirect_op.specs.Steps.{begun, side_head, store_to, behind, ro
 
 use crate::step::{RedirectEnd, RedirectStep};
 use directory_op::places::{entry_word, side_first, side_last};
+use image_layout::state::NO_VERSION;
 use image_layout::{FREE_GUARD, ROOT_WORD};
 use op_core::{Ans, Machine, Want, Why};
 use repair_op::Guarded;
@@ -28,11 +29,11 @@ pub struct RedirectOp {
 }
 
 /// A header with the depth and the pattern of the 1-side. Entries are found by these two alone, so its version and its state do not matter: it
-/// has version 0, which no image has, and is that of a free slot.
+/// has the version that no image has, and is that of a free slot.
 fn side_head(head: u64) -> u64
     ensures { result ≡ side_head head }
 {
-    one_side_head(0, FREE, head)
+    one_side_head(NO_VERSION, FREE, head)
 }
 
 /// The end of an attempt that found this word of a guard taken, by this number.
