@@ -8,6 +8,10 @@ use Rattle.image_file.specs.declared.fault.ImageFault.{ImageFault}
 use Rattle.image_file.specs.declared.fault.ImageFault.TheVariants.{Length, Magic, Format, Geometry, Unsound, NoMemory}
 use Rattle.image_rules.specs.Breach.{IsFirstBreach}
 
+-- how many bytes the words in front of an image have, which are about the whole
+abbrev pub front_bytes : ℕ
+front_bytes = word_bytes * block
+
 -- the words that bytes spell, eight bytes each, the lowest first
 abbrev pub word_in_file : List ℕ → ImageWords
 word_in_file bytes i = little_number word_bytes (drop (word_bytes * i) bytes)
@@ -27,7 +31,7 @@ module _ (word : ImageWords) where
 
 -- all that is looked at before the rules is right
 pub record IsFramed (bytes : List ℕ) : Type 0 where
-  pub long : word_bytes * block ≤ length bytes
+  pub long : front_bytes ≤ length bytes
   pub magic_there : HasMagic (word_in_file bytes)
   pub format_there : HasFormat (word_in_file bytes)
   pub shape_there : IsShape (shape_in (word_in_file bytes))
@@ -35,16 +39,16 @@ pub record IsFramed (bytes : List ℕ) : Type 0 where
 
 -- the bytes have magic and format, and say this of their shape
 pub record HasFront (bytes : List ℕ) (Says : Shape → Type 0) : Type 0 where
-  pub long : word_bytes * block ≤ length bytes
+  pub long : front_bytes ≤ length bytes
   pub magic_there : HasMagic (word_in_file bytes)
   pub format_there : HasFormat (word_in_file bytes)
   pub says : Says (shape_in (word_in_file bytes))
 
 -- the bytes have this fault, and none that is looked at before it
 abbrev pub HasFault : List ℕ → ImageFault → Type 0
-HasFault bytes Length = (length bytes < word_bytes * block) ⊎ HasFront bytes (λ shape. IsShape shape × (length bytes ≢ word_bytes * words_of shape))
-HasFault bytes Magic = (word_bytes * block ≤ length bytes) × (HasMagic (word_in_file bytes) → ⊥)
-HasFault bytes Format = (word_bytes * block ≤ length bytes) × HasMagic (word_in_file bytes) × (HasFormat (word_in_file bytes) → ⊥)
+HasFault bytes Length = (length bytes < front_bytes) ⊎ HasFront bytes (λ shape. IsShape shape × (length bytes ≢ word_bytes * words_of shape))
+HasFault bytes Magic = (front_bytes ≤ length bytes) × (HasMagic (word_in_file bytes) → ⊥)
+HasFault bytes Format = (front_bytes ≤ length bytes) × HasMagic (word_in_file bytes) × (HasFormat (word_in_file bytes) → ⊥)
 HasFault bytes Geometry = HasFront bytes (λ shape. IsShape shape → ⊥)
 HasFault bytes (Unsound broken word) = IsFramed bytes × IsFirstBreach (shape_in (word_in_file bytes)) (word_in_file bytes) broken word
 HasFault bytes NoMemory = ⊤
