@@ -1,6 +1,6 @@
 -- How the view of the caller stands in each step: what it holds and knows of the segment, of its side and of the directory, and what is
 -- not settled.
-use Rattle.std.specs.Prelude.{◌≡◌, ◌≢◌, None, ℕ, suc, ◌+◌, ◌^◌, ◌<◌, ◌≤◌, ◌⊎◌, List, [], ◌∷◌}
+use Rattle.std.specs.Prelude.{◌≡◌, ◌≢◌, None, ℕ, ◌+◌, ◌^◌, ◌<◌, ◌≤◌, ◌⊎◌, List, [], ◌∷◌}
 use Rattle.trace.specs.Events.{HasLine}
 use Rattle.hash_word.specs.Hash.{IsUnderPrefix}
 use Rattle.bucket_meta.specs.Bucket.{mark_place, rest_place, record_slots}
@@ -112,7 +112,7 @@ module _ (site : Ground) (here : Site) (op : DirectoryOp) where
 
   -- the directory is doubled: the segment is as deep as the root is, which is to be one deeper
   pub record Doubles (v : View) : Type 0 where
-    pub root : op.root ≡ suc (depth_in op.copied.whole.head)
+    pub root : op.root ≡ side_depth op.copied
     pub deep : op.root ≤ site.shape.depth
     pub known : Has (root_word, depth_in op.copied.whole.head) v.known
 

@@ -4,7 +4,7 @@ ghost use Rattle.std.specs.Prelude.{◌≡◌, ℕ, ◌+◌, ◌-◌, ◌<◌, �
 ghost use Rattle.script_text.specs.Script.{most_script_lines};
 ghost use Rattle.script_text.specs.Calls.{IsLineSoFar};
 ghost use Rattle.map_model.specs.Roomed.{with_room};
-ghost use Rattle.map_model.specs.Weave.{most_callers, first_caller};
+ghost use Rattle.map_model.specs.Weave.{most_callers, first_caller, seat_of};
 ghost use Rattle.sound_image.specs.Image.{IsSoundImage};
 ghost use Rattle.play.specs.Played.{scripts_to};
 ghost use Rattle.shared_image.specs.Powered.{IsOn, IsKeeperOf, callers_left};
@@ -70,8 +70,8 @@ fn rooms_for(alloc: Global, jobs: &[Job]) -> Result<Vec<u64>, NoMemory>
 /// The entries of a caller are listed.
 fn list_entries(lists: &mut Lists, number: u8, told: &[Entry])
     requires number { (first_caller ≤ number) × (number ≤ length lists.old) }
-    requires room { HasRoomAt lists.old (number - 1) (length told.now) }
-    ensures { IsListed lists.old (number - 1) told.now lists.new }
+    requires room { HasRoomAt lists.old (seat_of number) (length told.now) }
+    ensures { IsListed lists.old (seat_of number) told.now lists.new }
 {
     for i in 0..told.len() {
         lists.push(number, told[i]);

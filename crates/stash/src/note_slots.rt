@@ -2,7 +2,7 @@
 
 ghost use Rattle.std.specs.Prelude.{◌≡◌, ◌≢◌, ℕ, ◌^◌, ◌<◌, ◌↔◌, IsTrue, MatchOption};
 ghost use Rattle.word_bits.specs.Bits.{bit};
-ghost use Rattle.bucket_meta.specs.Bucket.{note_slots};
+ghost use Rattle.bucket_meta.specs.Bucket.{note_slots, note_sides};
 ghost use Rattle.image_layout.specs.Places.{stash_buckets};
 ghost use Rattle.stash.specs.NoteSlots.{IsUnused, IsNoteAt, IsLowest, HoldsNowhere, NoteSlotBecomes, filled_note_slot, freed_note_slot};
 
@@ -72,7 +72,7 @@ pub(crate) fn note_slot_of(meta: &Meta, member: u8, finger: u8, index: u8) -> Op
 /// Overwrites every field of a note slot with those of a note, where `member` is its membership bit.
 pub(crate) fn fill(meta: &mut Meta, note_slot: u8, member: u8, finger: u8, index: u8)
     requires within { note_slot < note_slots }
-    requires side { member < 2 }
+    requires side { member < note_sides }
     requires stash { index < stash_buckets }
     ensures { NoteSlotBecomes meta.old meta.new note_slot (filled_note_slot member (finger, index)) }
 {
