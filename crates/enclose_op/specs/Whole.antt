@@ -5,8 +5,7 @@ use Rattle.trace.specs.Events.{Words}
 use Rattle.bucket_meta.specs.Bucket.{mark_place, locked}
 use Rattle.hash_word.specs.Hash.{Covers, home_of}
 use Rattle.segment_head.specs.HeadWord.{version_in, depth_in, pattern_in}
-use Rattle.segment_head.specs.SplitHeads.{side_depth_in, side_pattern_in, one_pattern_field}
-use Rattle.segment_head.specs.SplitHeads as heads
+use Rattle.segment_head.specs.SplitHeads.{capped_side_depth, side_depth_in, side_pattern_in, one_pattern_field}
 use Rattle.image_layout.specs.Places.{bucket_at, buckets, block, words_of_buckets}
 use Rattle.image_layout.specs.Volatile.{segment_guard}
 use Rattle.sound_image.specs.Records.{key_hash}
@@ -61,7 +60,7 @@ side_pattern e = side_pattern_in e.head
 
 -- the slots of bucket b with records that the side covers, as a set; whatever the header is, the depth is at most 64, and the pattern has 32 bits
 abbrev pub side_slots : Enclosed → ℕ → ℕ
-side_slots e b = covered_set (kept_first e) (kept_key e) (key_hash e.site.geometry) (heads.side_depth e.head) (one_pattern_field e.head) b
+side_slots e b = covered_set (kept_first e) (kept_key e) (key_hash e.site.geometry) (capped_side_depth e.head) (one_pattern_field e.head) b
 
 -- ---- what is so of what is kept, whatever the view
 -- it runs here, in a call that inserts, as a caller that has a number, in an image of this version; and what is kept are words

@@ -1,7 +1,7 @@
 //! What is held on to from one machine of a split to the next: a whole segment, with its guard, all its locks and all its words.
 
 ghost use Rattle.std.specs.Prelude.{◌≡◌};
-ghost use Rattle.segment_head.specs.SplitHeads.{side_depth, one_pattern_field};
+ghost use Rattle.segment_head.specs.SplitHeads.{capped_side_depth, one_pattern_field};
 ghost use Rattle.whole_segment.specs.Records.{HasWords};
 
 use image_layout::{BUCKETS, WORDS_OF_BUCKETS};
@@ -38,14 +38,14 @@ impl Enclosed {
     }
 
     /// The depth of the side that it gets where it is split: one more than its own, and 64 at the most.
-    pub fn side_depth(&self) -> u8
-        ensures { result ≡ side_depth self.now.head }
+    pub fn capped_side_depth(&self) -> u8
+        ensures { result ≡ capped_side_depth self.now.head }
     {
-        split::side_depth(self.head)
+        split::capped_side_depth(self.head)
     }
 
     /// The pattern of that side: its own with a 1 behind it, the lower 32 bits.
-    pub fn side_pattern(&self) -> u32
+    pub fn one_pattern_field(&self) -> u32
         ensures { result ≡ one_pattern_field self.now.head }
     {
         split::one_pattern_field(self.head)

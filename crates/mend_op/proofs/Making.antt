@@ -18,7 +18,7 @@ use Rattle.whole_segment.proofs.Words.{same_words}
 use Rattle.whole_segment.proofs.marking.Positions.{bucket_low}
 use Rattle.mend_op.specs.declared.stage.Stage.TheVariants.{Clear, Mend, Note}
 use Rattle.mend_op.specs.Stages.{made}
-use Rattle.mend_op.specs.Words.{side_depth, side_pattern, own_depth, mended_lock, first_of, third_of, key_of, halved_first, mended_first, notes_of, halved, mended, noted}
+use Rattle.mend_op.specs.Words.{capped_side_depth, one_pattern_field, own_depth, mended_lock, first_of, third_of, key_of, halved_first, mended_first, notes_of, halved, mended, noted}
 
 -- ---- spoiled records, by words that are the same
 module _ (first later_first : ℕ → ℕ) (key later_key : ℕ → ℕ → ℕ) (hash : ℕ → ℕ) (words : (b : ℕ) → b < buckets → later_first b ≡ first b)
@@ -58,8 +58,8 @@ module _ (words : List ℕ) (loaded : Loaded) (has : HasWords words loaded) (sha
   abbrev hash : ℕ → ℕ
   hash = key_hash shape
 
-  halved_is : (b : ℕ) → b < buckets → uncovered_first (first_in loaded) (key_in loaded) hash (side_depth head) (side_pattern head) b ≡ halved_first words shape head b
-  halved_is b near = uncovered_first_same (first_of words) (first_in loaded) (key_of words) (key_in loaded) hash (side_depth head) (side_pattern head) b (has.first b near) (λ r low. has.keys b r near low)
+  halved_is : (b : ℕ) → b < buckets → uncovered_first (first_in loaded) (key_in loaded) hash (capped_side_depth head) (one_pattern_field head) b ≡ halved_first words shape head b
+  halved_is b near = uncovered_first_same (first_of words) (first_in loaded) (key_of words) (key_in loaded) hash (capped_side_depth head) (one_pattern_field head) b (has.first b near) (λ r low. has.keys b r near low)
 
   mended_is : (b : ℕ) → b < buckets → without_spoiled (first_in loaded) (spoiled_set (first_in loaded) (key_in loaded) hash (own_depth head) (pattern_in head)) b ≡ mended_first words shape head b
   mended_is b near =
@@ -82,7 +82,7 @@ module _ (words : List ℕ) (loaded : Loaded) (has : HasWords words loaded) (sha
     at_number i n is = ap (slice_index next) (number_is i n is)
 
     -- without the records of the 1-side
-    module _ (first : List ℕ) (is : (b : ℕ) → b < buckets → slice_index first b ≡ uncovered_first (first_in loaded) (key_in loaded) hash (side_depth head) (side_pattern head) b)
+    module _ (first : List ℕ) (is : (b : ℕ) → b < buckets → slice_index first b ≡ uncovered_first (first_in loaded) (key_in loaded) hash (capped_side_depth head) (one_pattern_field head) b)
         (here : (b : ℕ) → b < buckets → slice_index next (block * b + 1) ≡ slice_index first b)
         (others : (i : ℕ) → ((b : ℕ) → b < buckets → i ≢ block * b + 1) → slice_index next i ≡ slice_index words i) where
       halved_word : (i : ℕ) → i < words_of_buckets → slice_index next i ≡ halved words shape head i

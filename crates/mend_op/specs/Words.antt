@@ -4,8 +4,7 @@ use Rattle.std.specs.Prelude.{ℕ, min, ◌==◌, ◌&&◌, nat_lt, List, slice_
 use Rattle.bucket_meta.specs.Bucket.{lock_place, mark_place, rest_place, without_lock}
 use Rattle.segment_head.specs.HeadWord.{depth_in, pattern_in, header_of, normal}
 use Rattle.hash_word.specs.Hash.{hash_bits}
-use Rattle.segment_head.specs.SplitHeads.{one_pattern_field}
-pub use Rattle.segment_head.specs.SplitHeads.{side_depth}
+pub use Rattle.segment_head.specs.SplitHeads.{capped_side_depth, one_pattern_field}
 use Rattle.image_layout.specs.Places.{Shape, homes, bucket_among, place_in_bucket}
 use Rattle.sound_image.specs.Records.{key_hash}
 use Rattle.whole_segment.specs.Records.{uncovered_first}
@@ -14,10 +13,6 @@ use Rattle.whole_segment.specs.Mending.{spoiled_set, without_spoiled}
 use Rattle.whole_segment.specs.Rebuilding.{Overflow, first_with, third_with, rebuilt}
 
 -- ---- headers
--- the pattern of the 1-side of a segment with this header, which has 32 bits whatever the header is
-abbrev pub side_pattern : ℕ → ℕ
-side_pattern head = one_pattern_field head
-
 -- the depth of the segment itself, at most 64
 abbrev pub own_depth : ℕ → ℕ
 own_depth head = min (depth_in head) hash_bits
@@ -36,7 +31,7 @@ module _ (words : List ℕ) where
   module _ (shape : Shape) (head : ℕ) where
     -- word 1 of a bucket without the records of the 1-side
     abbrev pub halved_first : ℕ → ℕ
-    halved_first = uncovered_first (first_of words) (key_of words) (key_hash shape) (side_depth head) (side_pattern head)
+    halved_first = uncovered_first (first_of words) (key_of words) (key_hash shape) (capped_side_depth head) (one_pattern_field head)
 
     -- without those that are spoiled
     abbrev pub mended_first : ℕ → ℕ

@@ -9,7 +9,7 @@ use crate::heads::own_depth;
 use crate::stage::Stage;
 use bucket_meta::words::{MARK_PLACE, REST_PLACE, without_lock};
 use image_layout::{BUCKETS, Geometry, WORDS_OF_BUCKETS, first_among_buckets};
-use segment_head::split::{one_pattern_field, side_depth};
+use segment_head::split::{capped_side_depth, one_pattern_field};
 use segment_head::word::pattern_of;
 use whole_segment::{Loaded, rebuilt_notes};
 
@@ -45,7 +45,7 @@ fn halved(words: &Words, geometry: &Geometry, head: u64) -> Words
 {
     let rest = Loaded::of_words(words).without_half(
         geometry,
-        side_depth(head),
+        capped_side_depth(head),
         one_pattern_field(head),
     );
     let mut next = *words;

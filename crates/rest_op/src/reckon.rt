@@ -14,7 +14,11 @@ impl RestOp {
     {
         let geometry = &whole.site.geometry;
         let loaded = whole.loaded();
-        let rest = loaded.without_half(geometry, whole.side_depth(), whole.side_pattern());
+        let rest = loaded.without_half(
+            geometry,
+            whole.capped_side_depth(),
+            whole.one_pattern_field(),
+        );
         let notes = rebuilt_notes(&rest, geometry);
         begun(whole, rest.first, notes)
     }

@@ -12,8 +12,8 @@ abbrev pub side_pattern_in : ℕ → ℕ
 side_pattern_in head = pattern_of_one_side (pattern_in head)
 
 -- how many bits of a hash that depth is, whatever the header is: all of them at the most
-abbrev pub side_depth : ℕ → ℕ
-side_depth head = min (side_depth_in head) hash_bits
+abbrev pub capped_side_depth : ℕ → ℕ
+capped_side_depth head = min (side_depth_in head) hash_bits
 
 -- what a header word has of them, whatever the header is: both sides have the same depth, of 8 bits, and the 0-side and the 1-side a pattern of 32
 abbrev pub side_depth_field : ℕ → ℕ

@@ -3,7 +3,7 @@
 
 ghost use Rattle.std.specs.Prelude.{◌≡◌, ◌<◌, ◌≤◌, ◌+◌, ◌^◌};
 ghost use Rattle.segment_head.specs.HeadWord.{pattern_bits};
-ghost use Rattle.segment_head.specs.SplitHeads.{side_depth, side_pattern_in, side_depth_field, zero_pattern_field, one_pattern_field, with_state, zero_side_head, finished_head, one_side_head};
+ghost use Rattle.segment_head.specs.SplitHeads.{capped_side_depth, side_pattern_in, side_depth_field, zero_pattern_field, one_pattern_field, with_state, zero_side_head, finished_head, one_side_head};
 
 use crate::prefix::{pattern_of_one_side, pattern_of_zero_side};
 use crate::word::{NORMAL, PATTERN_BITS, depth_of, header_of, pattern_of, version_of};
@@ -16,8 +16,8 @@ const DEEPEST_SPLIT: u8 = HASH_BITS - 1;
 const PATTERNS: u64 = 1 << PATTERN_BITS;
 
 /// The depth of the sides of a segment with this header: one more than its own, and 64 at the most.
-pub fn side_depth(head: u64) -> u8
-    ensures { result ≡ side_depth head }
+pub fn capped_side_depth(head: u64) -> u8
+    ensures { result ≡ capped_side_depth head }
 {
     depth_of(head).min(DEEPEST_SPLIT) + 1
 }

@@ -80,7 +80,11 @@ pub fn side_words(whole: &Enclosed) -> [u64; WORDS_OF_BUCKETS as usize]
 {
     let geometry = &whole.site.geometry;
     let loaded = whole.loaded();
-    let half = loaded.half(geometry, whole.side_depth(), whole.side_pattern());
+    let half = loaded.half(
+        geometry,
+        whole.capped_side_depth(),
+        whole.one_pattern_field(),
+    );
     let notes = rebuilt_notes(&half, geometry);
     thinned(&with_marks(&whole.buckets, &half, &notes))
 }

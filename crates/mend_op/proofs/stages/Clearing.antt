@@ -20,7 +20,7 @@ use Rattle.rounds.specs.declared.rounds.Rounds.{Rounds}
 use Rattle.repair_op.specs.Guarded.{IsOld}
 use Rattle.mend_op.specs.declared.stage.Stage.TheVariants.{Clear}
 use Rattle.mend_op.specs.declared.op.MendOp.{MendOp}
-use Rattle.mend_op.specs.Words.{side_depth, side_pattern, first_of, key_of, halved_first}
+use Rattle.mend_op.specs.Words.{capped_side_depth, one_pattern_field, first_of, key_of, halved_first}
 use Rattle.mend_op.specs.Stages.{place}
 use Rattle.mend_op.specs.Stands.{place_of, IsSplit, IsRounding}
 use Rattle.mend_op.proofs.stages.Placing.{place_low, made_is, halved_at}
@@ -31,20 +31,20 @@ use Rattle.mend_op.proofs.whole.Newest.{IsInRange}
 
 -- ---- the slots that are freed of word 1 of a bucket
 module _ (shape : Shape) (head : ℕ) (base : List ℕ) (small : (i : ℕ) → slice_index base i < 2 ^ 64) (range : IsInRange head) (b : ℕ) where
-  depth_is : side_depth head ≡ side_depth_in head
+  depth_is : capped_side_depth head ≡ side_depth_in head
   depth_is = let deep = range.deep in omega (arith, deep)
 
-  pattern_is : side_pattern head ≡ side_pattern_in head
+  pattern_is : one_pattern_field head ≡ side_pattern_in head
   pattern_is = let wide = range.wide in omega (arith, wide)
 
-  in_side : (h : ℕ) → Covers (side_depth head) (side_pattern head) h → Covers (side_depth_in head) (side_pattern_in head) h
-  in_side h covers = subst (λ d. Covers d (side_pattern_in head) h) depth_is (subst (λ p. Covers (side_depth head) p h) pattern_is covers)
+  in_side : (h : ℕ) → Covers (capped_side_depth head) (one_pattern_field head) h → Covers (side_depth_in head) (side_pattern_in head) h
+  in_side h covers = subst (λ d. Covers d (side_pattern_in head) h) depth_is (subst (λ p. Covers (capped_side_depth head) p h) pattern_is covers)
 
   -- each slot says what it said, or is free, and then a record there was of the side
   pub slot_says : (r : ℕ) → r < record_slots
       → ((allocated r (halved_first base shape head b) ≡ allocated r (first_of base b)) × (member r (halved_first base shape head b) ≡ member r (first_of base b)))
       ⊎ ((allocated r (halved_first base shape head b) ≡ 0) × Covers (side_depth_in head) (side_pattern_in head) (key_hash shape (key_of base b r)))
-  slot_says r low = elim (uncovered_says (first_of base) (key_of base) (key_hash shape) (side_depth head) (side_pattern head) b (small (block * b + 1)) r low) [
+  slot_says r low = elim (uncovered_says (first_of base) (key_of base) (key_hash shape) (capped_side_depth head) (one_pattern_field head) b (small (block * b + 1)) r low) [
     | inl same ↦ inl same
     | inr free ↦ inr (free.0, in_side (key_hash shape (key_of base b r)) free.1)
   ]

@@ -8,5 +8,5 @@ returns c =
     let rest = c.without_half-rest in
     let notes = c.rebuilt_notes-notes in
     c.begun.ensures
-    ∙ rest_made c.args.whole c.loaded-loaded.result rest.result notes.result _ _ c.loaded-loaded.ensures c.side_depth.ensures c.side_pattern.ensures rest.ensures.is rest.ensures.third rest.ensures.keys notes.ensures.is
+    ∙ rest_made c.args.whole c.loaded-loaded.result rest.result notes.result _ _ c.loaded-loaded.ensures c.capped_side_depth.ensures c.one_pattern_field.ensures rest.ensures.is rest.ensures.third rest.ensures.keys notes.ensures.is
     (search rules) (search rules)
