@@ -27,7 +27,7 @@ use Rattle.phase.specs.declared.role.Role.{Role}
 use Rattle.phase.specs.declared.make.Make.{Make}
 use Rattle.phase.specs.declared.make.Make.TheVariants.{Key, Value, Fingers, FlushFingers, FlushRecord, FenceRecord, Publish, FlushPublished, FencePublished}
 use Rattle.phase.specs.declared.kept.Kept.{Kept}
-use Rattle.phase.specs.Places.{bucket_of}
+use Rattle.phase.specs.Places.{bucket_of_role}
 use Rattle.phase.specs.Buckets.{words_in}
 use Rattle.phase.specs.Giving.{IsLocated, IsHeld, IsQuiet, IsOfHeld}
 use Rattle.phase.specs.Knows.{Knows, HasNoneLoose}
@@ -70,11 +70,11 @@ change_by key (effect.Update value) = tt
 change_by key effect.Remove = tt
 
 -- the two buckets are home buckets
-target_near : (hash : ℕ) (d : Direction) → bucket_of hash (target_of d) < homes
+target_near : (hash : ℕ) (d : Direction) → bucket_of_role hash (target_of d) < homes
 target_near hash Forward = omega arith
 target_near hash Backward = omega arith
 
-source_near : (hash : ℕ) (d : Direction) → bucket_of hash (source_of d) < homes
+source_near : (hash : ℕ) (d : Direction) → bucket_of_role hash (source_of d) < homes
 source_near hash Forward = omega arith
 source_near hash Backward = omega arith
 
@@ -90,10 +90,10 @@ module _ (site : Ground) (kept : Kept) (d : Direction) (from to : ℕ) (can : Ca
   key = slice_index (words_in kept.buckets (source_of d)) (4 + 2 * from)
 
   abbrev b : ℕ
-  b = bucket_of kept.hash (source_of d)
+  b = bucket_of_role kept.hash (source_of d)
 
   abbrev c : ℕ
-  c = bucket_of kept.hash (target_of d)
+  c = bucket_of_role kept.hash (target_of d)
 
   l : IsLocated site kept.site kept.segment
   l = a.located
@@ -117,20 +117,20 @@ module _ (site : Ground) (kept : Kept) (d : Direction) (from to : ℕ) (can : Ca
   holds w knows = record { located = a.located; hashed = a.hashed; there = a.there; leads = a.leads; locks = a.locks; home = a.near.0; probing = a.near.1; knows = knows }
 
   bucket : (w : Words) → Knows (IsOfHeld kept.site kept.hash kept.segment kept.held) w v → HasNoneLoose v → (place : Role) → IsHeld kept.held place
-      → KnowsBucket site.shape v kept.segment (bucket_of kept.hash place) w
+      → KnowsBucket site.shape v kept.segment (bucket_of_role kept.hash place) w
   bucket w knows none place is = holders_find.bucket site kept.site kept.hash kept.segment kept.held w kept.change.key v (holds w knows) none place is
 
   -- the record fits the slot where it is prepared
-  fits : (leg : Leg) → IsPrepared leg → (finger : ℕ) × FitsSlot site.shape (words_first kept shift leg) kept.segment (bucket_of kept.hash (place_of d leg)) (lock_at kept shift leg) (record_of shift leg) finger
+  fits : (leg : Leg) → IsPrepared leg → (finger : ℕ) × FitsSlot site.shape (words_first kept shift leg) kept.segment (bucket_of_role kept.hash (place_of d leg)) (lock_at kept shift leg) (record_of shift leg) finger
   fits Copy p = (_, copy_fits site kept d from to l can all)
   fits Clear p = absurd p
   fits Insert p = (_, insert_fits site kept d from to l can all)
 
   -- ---- the stores but those by which a record counts
   other_by : (leg : Leg) (m : Make) → IsShifting site kept shift leg m v → m ≢ Publish → (finger : ℕ)
-      → (IsNew m → FitsSlot site.shape (words_first kept shift leg) kept.segment (bucket_of kept.hash (place_of d leg)) (lock_at kept shift leg) (record_of shift leg) finger)
+      → (IsNew m → FitsSlot site.shape (words_first kept shift leg) kept.segment (bucket_of_role kept.hash (place_of d leg)) (lock_at kept shift leg) (record_of shift leg) finger)
       → May site (make_kind (leg_kind kept shift leg) (lock_at kept shift leg) (record_of shift leg) m) v
-  other_by leg m s other finger f = (make_knows (IsOfHeld kept.site kept.hash kept.segment kept.held)).may site (leg_kind kept shift leg) kept.segment (bucket_of kept.hash (place_of d leg)) (lock_at kept shift leg) finger (record_of shift leg)
+  other_by leg m s other finger f = (make_knows (IsOfHeld kept.site kept.hash kept.segment kept.held)).may site (leg_kind kept shift leg) kept.segment (bucket_of_role kept.hash (place_of d leg)) (lock_at kept shift leg) finger (record_of shift leg)
       (words_first kept shift leg) (words_ready kept shift leg) m v f (held_has kept.site kept.hash kept.segment kept.held (place_of d leg) v a.locks (leg_held site kept shift v a leg))
       (λ i under. (place_of d leg, leg_held site kept shift v a leg, under)) s.making other
 

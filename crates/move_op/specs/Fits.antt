@@ -23,7 +23,7 @@ use Rattle.phase.specs.declared.make.Make.{Make}
 use Rattle.phase.specs.declared.make.Make.TheVariants.{FlushPublished, FencePublished}
 use Rattle.phase.specs.declared.held.Held.{Held}
 use Rattle.phase.specs.declared.kept.Kept.{Kept}
-use Rattle.phase.specs.Places.{bucket_of}
+use Rattle.phase.specs.Places.{bucket_of_role}
 use Rattle.phase.specs.Buckets.{words_in}
 use Rattle.phase.specs.Stands.{IsThere, Leads, IsLoading}
 use Rattle.phase.specs.Taking.{take_kind, IsTaking}
@@ -85,9 +85,9 @@ module _ (kept : Kept) (shift : Shift) where
   moved = record {
     segment = kept.segment;
     key = shift.copy.key;
-    from_bucket = bucket_of kept.hash (source_of shift.direction);
+    from_bucket = bucket_of_role kept.hash (source_of shift.direction);
     from_slot = shift.clearing.slot;
-    to_bucket = bucket_of kept.hash (target_of shift.direction);
+    to_bucket = bucket_of_role kept.hash (target_of shift.direction);
     to_slot = shift.copy.slot;
   }
 
@@ -149,7 +149,7 @@ pub record CanMove (site : Ground) (kept : Kept) (direction : Direction) (from t
   pub to_low : to < record_slots
   pub taken : allocated from (slice_index (words_in kept.buckets (source_of direction)) mark_place) ≡ 1
   pub is_free : allocated to (slice_index (words_in kept.buckets (target_of direction)) mark_place) ≡ 0
-  pub home : bucket_of kept.hash (home_place direction) ≡ home_of (key_hash site.shape (slice_index (words_in kept.buckets (source_of direction)) (key_place from)))
+  pub home : bucket_of_role kept.hash (home_place direction) ≡ home_of (key_hash site.shape (slice_index (words_in kept.buckets (source_of direction)) (key_place from)))
   pub fingerprint : finger from (slice_index (words_in kept.buckets (source_of direction)) fingers_place) (slice_index (words_in kept.buckets (source_of direction)) rest_place)
       ≡ finger_of (key_hash site.shape (slice_index (words_in kept.buckets (source_of direction)) (key_place from)))
 

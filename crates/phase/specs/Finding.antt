@@ -23,7 +23,7 @@ use Rattle.phase.specs.declared.role.Role.TheVariants.{Home, Probing, First, Sec
 use Rattle.phase.specs.declared.held.Held.{Held}
 use Rattle.phase.specs.declared.kept.Buckets.{Buckets}
 use Rattle.phase.specs.declared.make.Record.{Record}
-use Rattle.phase.specs.Places.{bucket_of, stash_index, is_third, lock_word}
+use Rattle.phase.specs.Places.{bucket_of_role, stash_index, is_third, lock_word}
 use Rattle.phase.specs.Buckets.{words_in}
 use Rattle.phase.specs.Stands.{IsThere, Leads}
 use Rattle.phase.specs.Giving.{IsLocated, IsHeld, IsQuiet, IsOfHeld, HoldsLocks}
@@ -65,7 +65,7 @@ pub record SparesStash (shape : Shape) (hash segment : ℕ) (held : Held) (word 
 -- THE KEY STANDS NOWHERE: in none of the buckets that are held and where it may stand, by their words, and so far as notes tell in no
 -- other
 pub record StandsNowhere (shape : Shape) (hash segment : ℕ) (held : Held) (word : Words) (k : ℕ) : Type 0 where
-  pub places : (place : Role) → IsHeld held place → is_third place ≡ false → (t : ℕ) → Hit shape word segment (bucket_of hash place) t k → ⊥
+  pub places : (place : Role) → IsHeld held place → is_third place ≡ false → (t : ℕ) → Hit shape word segment (bucket_of_role hash place) t k → ⊥
   pub stash : SparesStash shape hash segment held word
 
 -- the lock of a stash bucket is not held
@@ -91,18 +91,18 @@ KnownWasLoaded = (site : Ground) (here : Site) (hash segment : ℕ) (held : Held
 -- what the words of a bucket say of a key
 pub record SearchTells : Type 0 where
   pub found : (site : Ground) (here : Site) (hash segment : ℕ) (buckets : Buckets) (place : Role) (k r : ℕ) → IsLocated site here segment
-      → lowest_with (words_in buckets place) k ≡ Some r → Hit site.shape (words_of here hash segment buckets) segment (bucket_of hash place) r k
+      → lowest_with (words_in buckets place) k ≡ Some r → Hit site.shape (words_of here hash segment buckets) segment (bucket_of_role hash place) r k
   pub none : (site : Ground) (here : Site) (hash segment : ℕ) (buckets : Buckets) (place : Role) (k : ℕ) → IsLocated site here segment
-      → lowest_with (words_in buckets place) k ≡ None → (t : ℕ) → Hit site.shape (words_of here hash segment buckets) segment (bucket_of hash place) t k → ⊥
+      → lowest_with (words_in buckets place) k ≡ None → (t : ℕ) → Hit site.shape (words_of here hash segment buckets) segment (bucket_of_role hash place) t k → ⊥
 
 -- what is known of a bucket that is held, where nothing is loose; and what `world` asks of a search and of a draw
 pub record HoldersFind : Type 0 where
   pub bucket : (site : Ground) (here : Site) (hash segment : ℕ) (held : Held) (word : Words) (k : ℕ) (v : View) → HoldsBuckets site here hash segment held word k v → HasNoneLoose v
-      → (place : Role) → IsHeld held place → KnowsBucket site.shape v segment (bucket_of hash place) word
+      → (place : Role) → IsHeld held place → KnowsBucket site.shape v segment (bucket_of_role hash place) word
   pub none : (site : Ground) (here : Site) (hash segment : ℕ) (held : Held) (word : Words) (k : ℕ) (v : View) → HoldsBuckets site here hash segment held word k v → IsQuiet v
       → StandsNowhere site.shape hash segment held word k → FoundNone site v word segment k
   pub at : (site : Ground) (here : Site) (hash segment : ℕ) (held : Held) (word : Words) (k : ℕ) (v : View) → HoldsBuckets site here hash segment held word k v → IsQuiet v
-      → (place : Role) → IsHeld held place → (r : ℕ) → Hit site.shape word segment (bucket_of hash place) r k → FoundAt site v word segment (bucket_of hash place) r k
+      → (place : Role) → IsHeld held place → (r : ℕ) → Hit site.shape word segment (bucket_of_role hash place) r k → FoundAt site v word segment (bucket_of_role hash place) r k
   pub draw : (site : Ground) (here : Site) (hash segment : ℕ) (held : Held) (word : Words) (call : Call) (v : View) → HoldsBuckets site here hash segment held word (key_of call) v → HasNoneLoose v
       → Has call v.planned → 0 < v.room → HasNoted v → DrawsWell site v call segment word
   -- each stash bucket is held and has nothing loose, or is not held, and then the notes name no record of the key there

@@ -12,7 +12,7 @@ use Rattle.world.specs.Conditions.{May, IsKnownLock}
 use Rattle.world.specs.Attempts.{HoldsOnly}
 use Rattle.phase.specs.declared.role.Role.{Role}
 use Rattle.phase.specs.declared.held.Held.{Held}
-use Rattle.phase.specs.Places.{bucket_of, lock_word}
+use Rattle.phase.specs.Places.{bucket_of_role, lock_word}
 use Rattle.phase.specs.Helds.{none_held, with_held, free_of, give_next, give_wanted, given}
 use Rattle.phase.specs.Taking.{MayBeTaken}
 use Rattle.phase.specs.Stands.{IsThere}
@@ -77,7 +77,7 @@ give_left held = lock_left held.home + lock_left held.probing + lock_left held.f
 -- six are apart
 pub record PlacesStand : Type 0 where
   pub at : (site : Ground) (here : Site) (hash segment : ℕ) (place : Role) → IsLocated site here segment
-      → lock_word here hash segment place ≡ bucket_at site.shape segment (bucket_of hash place)
+      → lock_word here hash segment place ≡ bucket_at site.shape segment (bucket_of_role hash place)
   pub are_locks : (site : Ground) (here : Site) (hash segment : ℕ) (place : Role) → IsLocated site here segment → IsLockWord site.shape (lock_word here hash segment place)
   pub are_known : (site : Ground) (here : Site) (hash segment : ℕ) (place : Role) (v : View) → here.geometry ≡ site.shape → IsThere site segment v.facts
       → IsKnownLock site v (lock_word here hash segment place)

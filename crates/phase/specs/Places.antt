@@ -10,10 +10,10 @@ use Rattle.phase.specs.declared.role.Role.TheVariants.{Second, Next, Previous}
 use Rattle.phase.specs.Asked.{index}
 
 -- the number of the bucket, for a hash: of those where its key may stand by the order in which it is looked for, and the home's two neighbours
-abbrev pub bucket_of : ℕ → Role → ℕ
-bucket_of hash Next = next_of (home_of hash)
-bucket_of hash Previous = previous_of (home_of hash)
-bucket_of hash place = looked_at (home_of hash) (index place)
+abbrev pub bucket_of_role : ℕ → Role → ℕ
+bucket_of_role hash Next = next_of (home_of hash)
+bucket_of_role hash Previous = previous_of (home_of hash)
+bucket_of_role hash place = looked_at (home_of hash) (index place)
 
 -- the number of a stash bucket among the two, as a note names it; that of the first for a bucket that is none
 abbrev pub stash_index : Role → ℕ
@@ -28,4 +28,4 @@ is_third place = false
 
 -- the lock word of the bucket, for a hash and a segment
 abbrev pub lock_word : Site → ℕ → ℕ → Role → ℕ
-lock_word here hash segment place = bucket_word here.geometry segment (bucket_of hash place)
+lock_word here hash segment place = bucket_word here.geometry segment (bucket_of_role hash place)

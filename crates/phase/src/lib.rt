@@ -28,6 +28,6 @@ pub use laws::{
 pub use load::{Load, Loaded, load_put, load_want};
 pub use make::{Made, Make, Record, brought, make_next, make_want};
 pub use note::NoteWord;
-pub use role::{Role, bucket_of, lock_word, stash_index};
+pub use role::{Role, bucket_of_role, lock_word, stash_index};
 pub use take::{Take, Taken, take_next, take_want};
 pub use walk::{Path, Walk, Walked, walk_next, walk_want};

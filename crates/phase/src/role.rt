@@ -2,7 +2,7 @@
 
 ghost use Rattle.std.specs.Prelude.{◌≡◌, ◌<◌, ◌≤◌};
 ghost use Rattle.image_layout.specs.Places.{buckets, most_words};
-ghost use Rattle.phase.specs.Places.{bucket_of, stash_index, lock_word};
+ghost use Rattle.phase.specs.Places.{bucket_of_role, stash_index, lock_word};
 
 use bucket_meta::words::{FIRST_STASH_INDEX, SECOND_STASH_INDEX};
 use hash_word::{home, next, previous, probing};
@@ -29,8 +29,8 @@ pub enum Role {
 }
 
 /// The number of the bucket in its segment, for a hash.
-pub fn bucket_of(place: Role, hash: u64) -> u8
-    ensures is { result ≡ bucket_of hash place }
+pub fn bucket_of_role(place: Role, hash: u64) -> u8
+    ensures is { result ≡ bucket_of_role hash place }
     ensures within { result < buckets }
 {
     match place {
@@ -58,5 +58,5 @@ pub fn lock_word(site: &Site, hash: u64, segment: u64, place: Role) -> u64
     ensures is { result ≡ lock_word site.now hash segment place }
     ensures most { result ≤ most_words }
 {
-    bucket_word(&site.geometry, segment, bucket_of(place, hash))
+    bucket_word(&site.geometry, segment, bucket_of_role(place, hash))
 }

@@ -29,7 +29,7 @@ use Rattle.read_op.specs.declared.step.ReadStep.{ReadStep}
 use Rattle.read_op.specs.declared.step.ReadStep.TheVariants.{Way, Look, Fill, Count, Check, Relook, Ended}
 use Rattle.read_op.specs.declared.step.Task.{Task}
 use Rattle.read_op.specs.declared.op.ReadOp.{ReadOp}
-use Rattle.phase.specs.Places.{bucket_of}
+use Rattle.phase.specs.Places.{bucket_of_role}
 use Rattle.read_op.specs.Steps.{wanted_in, lock_of}
 use Rattle.read_op.specs.Fits.{IsIn, kind_in, is_asked, at_head, at_bucket, watched_word, watched_value, leads, Tells, IsReading, Skips, suits_in, BeginsSuited, WantsByKind, MayStep}
 use Rattle.phase.proofs.asking.Asked.{few}
@@ -52,12 +52,12 @@ wants_in task site is (Ended end) asks = absurd (asks refl)
 
 module _ (site : Ground) (task : Task) (is : IsIn site task) where
   -- a lock word, in the site's terms
-  pub lock_at : (s : Seen) (q : Role) → s.path.segment < site.shape.segments → lock_of task s q ≡ bucket_at site.shape s.path.segment (bucket_of task.hash q)
+  pub lock_at : (s : Seen) (q : Role) → s.path.segment < site.shape.segments → lock_of task s q ≡ bucket_at site.shape s.path.segment (bucket_of_role task.hash q)
   lock_at s q within = lock_is task s q (subst (λ (g : Shape). s.path.segment < g.segments) (sym is.shape) within)
-      ∙ ap (λ (g : Shape). bucket_at g s.path.segment (bucket_of task.hash q)) is.shape
+      ∙ ap (λ (g : Shape). bucket_at g s.path.segment (bucket_of_role task.hash q)) is.shape
 
   pub lock_word_is : (s : Seen) (q : Role) → s.path.segment < site.shape.segments → IsLockWord site.shape (lock_of task s q)
-  lock_word_is s q within = (s.path.segment, bucket_of task.hash q, within, bucket_near task.hash q, lock_at s q within)
+  lock_word_is s q within = (s.path.segment, bucket_of_role task.hash q, within, bucket_near task.hash q, lock_at s q within)
 
   -- ---- the answer, where the header leads to the hash
   module _ (good : IsShape site.shape) (v : View) (s : Seen) (r : IsReading site task s 4 4 v) (skips : Skips site v.notes task s) (leading : leads task s ≡ true) where
@@ -82,10 +82,10 @@ module _ (site : Ground) (task : Task) (is : IsIn site task) where
           ∙ noted_lead site task.hash s.path v.notes good is.fits r.there.within head_note.0 head_note.1
           (head_note.2 ∙ head_is site task.site task.hash is.shape s.path.segment r.there.within) head_note.3 leading m now
 
-      there : (q : Role) (a : Option ℕ) → Tells site v.notes task.key (lock_of task s q) a → find_below m (bucket_at site.shape segment (bucket_of (key_hash site.shape task.key) q)) task.key record_slots ≡ a
-      there q a t = ap (λ l. find_below m l task.key record_slots) (sym (lock_at s q r.there.within ∙ ap (λ h. bucket_at site.shape segment (bucket_of h q)) is.hash)) ∙ t m now
+      there : (q : Role) (a : Option ℕ) → Tells site v.notes task.key (lock_of task s q) a → find_below m (bucket_at site.shape segment (bucket_of_role (key_hash site.shape task.key) q)) task.key record_slots ≡ a
+      there q a t = ap (λ l. find_below m l task.key record_slots) (sym (lock_at s q r.there.within ∙ ap (λ h. bucket_at site.shape segment (bucket_of_role h q)) is.hash)) ∙ t m now
 
-      stash : (q : Role) (c : ℕ) → bucket_of (key_hash site.shape task.key) q ≡ homes + c → s.value ≡ None → (is_asked s q ≡ false → (m : Words) → IsNow site v.notes m
+      stash : (q : Role) (c : ℕ) → bucket_of_role (key_hash site.shape task.key) q ≡ homes + c → s.value ≡ None → (is_asked s q ≡ false → (m : Words) → IsNow site v.notes m
           → IsUnnoted site.shape m segment (home_of task.hash) (finger_of task.hash) c)
           → (find_below m (bucket_at site.shape segment (homes + c)) task.key record_slots ≡ None) ⊎ IsUnnoted site.shape m segment home (finger_of (key_hash site.shape task.key)) c
       stash q c e none skip = elim (cases_Bool (is_asked s q)) [
@@ -106,7 +106,7 @@ module _ (site : Ground) (task : Task) (is : IsIn site task) where
           (there Probing None (r.knows.none e Probing (record { low = omega arith; asked = refl })))
           (by_stash e)
       tells (Some x) e = let k = r.knows.some x e in
-          has_some site.shape m now.table segment task.key r.there.within own (bucket_of (key_hash site.shape task.key) k.0) x (bucket_near _ k.0) (there k.0 (Some x) k.1)
+          has_some site.shape m now.table segment task.key r.there.within own (bucket_of_role (key_hash site.shape task.key) k.0) x (bucket_near _ k.0) (there k.0 (Some x) k.1)
 
     may_answer : May site (places task.key s.value) v
     may_answer = (segment, (home_note.0, home_note.1, home_note.2 ∙ home_lock), λ m now. (own m now, tells m now s.value refl))

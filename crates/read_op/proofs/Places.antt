@@ -6,7 +6,7 @@ use Rattle.image_layout.specs.Places.{root_word, head_at, bucket_at}
 use Rattle.way.specs.Ways.{head_word}
 use Rattle.phase.specs.declared.role.Role.{Role}
 use Rattle.phase.specs.declared.role.Role.TheVariants.{Home, Probing, First, Second, Next, Previous}
-use Rattle.phase.specs.Places.{bucket_of}
+use Rattle.phase.specs.Places.{bucket_of_role}
 use Rattle.phase.specs.Asked.{index}
 use Rattle.phase.proofs.asking.Asked.{one_place}
 use Rattle.phase.proofs.locks.Giving as giving
@@ -18,7 +18,7 @@ use Rattle.read_op.specs.Fits.{Watched, at_head, at_bucket, watched_word, watche
 
 -- ---- lock words
 pub lock_is : (task : Task) (s : Seen) (q : Role) → s.path.segment < task.site.geometry.segments
-    → lock_of task s q ≡ bucket_at task.site.geometry s.path.segment (bucket_of task.hash q)
+    → lock_of task s q ≡ bucket_at task.site.geometry s.path.segment (bucket_of_role task.hash q)
 lock_is task s q within = giving.lock_is task.site task.hash s.path.segment within q
 
 pub locks_apart : (task : Task) (s : Seen) (p q : Role) → s.path.segment < task.site.geometry.segments → lock_of task s p ≡ lock_of task s q → p ≡ q
@@ -33,7 +33,7 @@ head_apart : (f b : ℕ) → f + 1 ≡ f + 32 + 32 * b → ⊥
 head_apart f b e = omega (arith, e)
 
 head_no_lock : (task : Task) (s : Seen) (q : Role) → s.path.segment < task.site.geometry.segments → head_word task.site.geometry s.path.segment ≡ lock_of task s q → ⊥
-head_no_lock task s q within e = head_apart (head_at task.site.geometry s.path.segment) (bucket_of task.hash q) (sym (head_is task s within) ∙ e ∙ lock_is task s q within)
+head_no_lock task s q within e = head_apart (head_at task.site.geometry s.path.segment) (bucket_of_role task.hash q) (sym (head_is task s within) ∙ e ∙ lock_is task s q within)
 
 pub watched_apart : (task : Task) (s : Seen) (w o : Watched) → s.path.segment < task.site.geometry.segments → watched_word task s w ≡ watched_word task s o → w ≡ o
 watched_apart task s at_head at_head within e = refl

@@ -31,7 +31,7 @@ use Rattle.phase.specs.Helds.{first_held, give_next, give_wanted_of, given}
 use Rattle.phase.specs.Buckets.{words_in}
 use Rattle.phase.specs.Giving.{IsHeld}
 use Rattle.phase.specs.Keeps.{kept_words, WasLoaded, KeepsAll, KeepsFull, RemembersRoom}
-use Rattle.phase.specs.Places.{bucket_of, is_third, lock_word}
+use Rattle.phase.specs.Places.{bucket_of_role, is_third, lock_word}
 use Rattle.phase.specs.Third.{NothingToMove}
 use Rattle.phase.proofs.asking.Causing.{found_named}
 use Rattle.phase.proofs.Handing.{key_called, give_answer}
@@ -75,19 +75,19 @@ module _ (site : Ground) (words : Words) (call : Call) (kept : Kept) (same : cal
   -- ---- its buckets
   -- what was loaded of a bucket
   loaded : (place : Role) → WasLoaded kept did.loads place → (j : ℕ) → 1 ≤ j → j < 32
-      → Has (bucket_at site.shape segment (bucket_of hash place) + j, slice_index (words_in kept.buckets place) j) did.loads
+      → Has (bucket_at site.shape segment (bucket_of_role hash place) + j, slice_index (words_in kept.buckets place) j) did.loads
   loaded place was j from low =
-      subst (λ h. Has (bucket_at site.shape segment (bucket_of h place) + j, slice_index (words_in kept.buckets place) j) did.loads) hash_is
+      subst (λ h. Has (bucket_at site.shape segment (bucket_of_role h place) + j, slice_index (words_in kept.buckets place) j) did.loads) hash_is
       (subst (λ l. Has (l + j, slice_index (words_in kept.buckets place) j) did.loads) (lock_at site kept.site kept.hash segment keeps.holds.located place) (was j from low))
 
-  meta_loaded : (place : Role) → WasLoaded kept did.loads place → WasMeta site.shape did.loads segment (bucket_of hash place) (slice_index (words_in kept.buckets place) 1)
+  meta_loaded : (place : Role) → WasLoaded kept did.loads place → WasMeta site.shape did.loads segment (bucket_of_role hash place) (slice_index (words_in kept.buckets place) 1)
   meta_loaded place was = loaded place was 1 (omega arith) (omega arith)
 
   -- none of the keys of a bucket that is full is that of the call
   other : (place : Role) → IsHeld kept.held place → is_third place ≡ false → IsFull (slice_index (words_in kept.buckets place) 1)
       → (slot : ℕ) → slot < record_slots → slice_index (words_in kept.buckets place) (4 + 2 * slot) ≢ key_of call
   other place held own full slot low e =
-      let at : ℕ = bucket_at site.shape segment (bucket_of kept.hash place) in
+      let at : ℕ = bucket_at site.shape segment (bucket_of_role kept.hash place) in
       keeps.nowhere.places place held own slot (record {
         segment = within;
         bucket = bucket_near kept.hash place;
@@ -98,7 +98,7 @@ module _ (site : Ground) (words : Words) (call : Call) (kept : Kept) (same : cal
       })
 
   full_of_others : (place : Role) → IsHeld kept.held place → is_third place ≡ false → IsFull (slice_index (words_in kept.buckets place) 1)
-      → IsFullOfOthers site.shape words did call segment (bucket_of hash place) (slice_index (words_in kept.buckets place) 1)
+      → IsFullOfOthers site.shape words did call segment (bucket_of_role hash place) (slice_index (words_in kept.buckets place) 1)
   full_of_others place held own full =
       let was = r.buckets place held own in
       record {

@@ -26,7 +26,7 @@ use Rattle.phase.specs.declared.kept.Kept.{Kept}
 use Rattle.phase.specs.Buckets.{words_in}
 use Rattle.phase.specs.Giving.{IsHeld}
 use Rattle.phase.specs.Keeps.{kept_words, KeepsAll, KeepsFull}
-use Rattle.phase.specs.Places.{bucket_of}
+use Rattle.phase.specs.Places.{bucket_of_role}
 use Rattle.phase.specs.Third.{NothingToMove}
 use Rattle.phase.proofs.Handing.{key_called, none_loose}
 use Rattle.phase.proofs.locks.Giving.{lock_at}
@@ -48,7 +48,7 @@ module _ (site : Ground) (kept : Kept) (v : View) (all : KeepsFull site kept v) 
   keeps = all.keeps
 
   abbrev at : Role → ℕ
-  at place = bucket_at site.shape kept.segment (bucket_of kept.hash place)
+  at place = bucket_at site.shape kept.segment (bucket_of_role kept.hash place)
 
   -- a word of a bucket stands where its lock word does
   pub word_here : (place : Role) (j : ℕ) → 1 ≤ j → j < 32 → kept_words kept (at place + j) ≡ slice_index (words_in kept.buckets place) j
@@ -56,7 +56,7 @@ module _ (site : Ground) (kept : Kept) (v : View) (all : KeepsFull site kept v) 
       ap (λ l. kept_words kept (l + j)) (sym (lock_at site kept.site kept.hash kept.segment keeps.holds.located place))
       ∙ words_stand site kept.site kept.hash kept.segment kept.buckets place keeps.holds.located j from low
 
-  bucket : (place : Role) → IsHeld kept.held place → KnowsBucket site.shape v kept.segment (bucket_of kept.hash place) (kept_words kept)
+  bucket : (place : Role) → IsHeld kept.held place → KnowsBucket site.shape v kept.segment (bucket_of_role kept.hash place) (kept_words kept)
   bucket place held = holders_find.bucket site kept.site kept.hash kept.segment kept.held (kept_words kept) kept.change.key v keeps.holds (none_loose v keeps.quiet) place held
 
   module _ (words : Words) (new : IsNewest site v words) where

@@ -25,7 +25,7 @@ use Rattle.phase.specs.declared.make.Make.{Make}
 use Rattle.phase.specs.declared.make.Make.TheVariants.{FlushPublished, FencePublished}
 use Rattle.phase.specs.declared.held.Held.{Held}
 use Rattle.phase.specs.declared.kept.Kept.{Kept}
-use Rattle.phase.specs.Places.{bucket_of}
+use Rattle.phase.specs.Places.{bucket_of_role}
 use Rattle.phase.specs.Helds.{with_held, free_of}
 use Rattle.phase.specs.Buckets.{words_in}
 use Rattle.phase.specs.Stands.{IsThere, Leads, IsLoading}
@@ -201,7 +201,7 @@ module _ (site : Ground) (kept : Kept) (seen : Seen) where
     pub all : HasAll v
     pub word : Words
     pub knows : Knows (IsHere kept seen) word v
-    pub stands : Hit site.shape word kept.segment (bucket_of kept.hash (place_of seen.bucket)) seen.written.slot kept.change.key
+    pub stands : Hit site.shape word kept.segment (bucket_of_role kept.hash (place_of seen.bucket)) seen.written.slot kept.change.key
     pub settled : HasNoneLoose v
     pub planned : v.planned ≡ call_of kept.change ∷ []
     pub owes : v.owed ≡ []

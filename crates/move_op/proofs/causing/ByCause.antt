@@ -34,7 +34,7 @@ use Rattle.phase.specs.declared.make.Made.{Made}
 use Rattle.phase.specs.declared.make.Made.TheVariants as made
 use Rattle.phase.specs.declared.held.Held.{Held}
 use Rattle.phase.specs.declared.kept.Kept.{Kept}
-use Rattle.phase.specs.Places.{bucket_of}
+use Rattle.phase.specs.Places.{bucket_of_role}
 use Rattle.phase.specs.Takes.{take_wanted, take_taken}
 use Rattle.phase.specs.Loads.{load_taken}
 use Rattle.phase.specs.Makes.{make_taken}
@@ -111,7 +111,7 @@ module _ (site : Ground) (here : Site) (call : Call) (kept : Kept) (whose : IsOf
     within : kept.segment < kept.site.geometry.segments
     within = subst (λ (g : Shape). kept.segment < g.segments) (sym k.holds.located.shape) k.holds.located.within
 
-    needed : (d : Direction) → HasTried site kept did d → NeedsBucket kept.site.geometry kept.hash did.loads kept.segment call (bucket_of kept.hash (target_of d))
+    needed : (d : Direction) → HasTried site kept did d → NeedsBucket kept.site.geometry kept.hash did.loads kept.segment call (bucket_of_role kept.hash (target_of d))
     needed Forward tried = next_needed kept did.loads within r.home r.probing call (subst IsInsert whose.same k.insert)
     needed Backward tried = previous_needed kept did.loads within r.home r.probing call (subst IsInsert whose.same k.insert) tried.0 tried.1
 
@@ -120,9 +120,9 @@ module _ (site : Ground) (here : Site) (call : Call) (kept : Kept) (whose : IsOf
       kept.segment,
       named,
       k.holds.located.within,
-      bucket_of kept.hash (target_of d),
-      subst (λ h. NeedsBucket site.shape h did.loads kept.segment call (bucket_of kept.hash (target_of d))) hash_is
-          (subst (λ g. NeedsBucket g kept.hash did.loads kept.segment call (bucket_of kept.hash (target_of d))) k.holds.located.shape (needed d tried)),
+      bucket_of_role kept.hash (target_of d),
+      subst (λ h. NeedsBucket site.shape h did.loads kept.segment call (bucket_of_role kept.hash (target_of d))) hash_is
+          (subst (λ g. NeedsBucket g kept.hash did.loads kept.segment call (bucket_of_role kept.hash (target_of d))) k.holds.located.shape (needed d tried)),
       lock_stands site kept.site kept.hash kept.segment k.holds.located (target_of d),
     )
 

@@ -18,7 +18,7 @@ use Rattle.phase.specs.declared.load.Loaded.{Loaded}
 use Rattle.phase.specs.declared.load.Loaded.TheVariants as loaded
 use Rattle.phase.specs.declared.held.Held.{Held}
 use Rattle.phase.specs.declared.kept.Kept.{Kept}
-use Rattle.phase.specs.Places.{bucket_of, is_third}
+use Rattle.phase.specs.Places.{bucket_of_role, is_third}
 use Rattle.phase.specs.Asked.{index}
 use Rattle.phase.specs.Helds.{with_held, free_of, give_wanted_of}
 use Rattle.phase.specs.Buckets.{with_words, words_in}
@@ -253,8 +253,8 @@ module _ (site : Ground) (words : Words) (table : IsTable site.shape words) wher
         (k.holds.knows (at site kept k.holds.located (source_of d) + j) (source_of d, source_held d, (omega (arith, from, here), omega (arith, low, here))))
         ∙ kept_at site kept k.holds.located (source_of d) j from low
 
-    source_own : (d : Direction) (r key : ℕ) → Hit site.shape words kept.segment (bucket_of kept.hash (source_of d)) r key → owner_of site.shape words (key_hash site.shape key) ≡ Some kept.segment
-    source_own d r key hit = own kept.segment (bucket_of kept.hash (source_of d)) r key
+    source_own : (d : Direction) (r key : ℕ) → Hit site.shape words kept.segment (bucket_of_role kept.hash (source_of d)) r key → owner_of site.shape words (key_hash site.shape key) ≡ Some kept.segment
+    source_own d r key hit = own kept.segment (bucket_of_role kept.hash (source_of d)) r key
         (subst (λ z. HasLock u.held z) (at_is site kept k.holds.located (source_of d)) (held_has kept.site kept.hash kept.segment kept.held (source_of d) u k.holds.locks (source_held d))) hit
 
     holds_all : (d : Direction) → IsHeld kept.held (target_of d) → HasTurn d kept → (shift : Shift) → shift_in kept d ≡ Some shift → HoldsAll site kept shift u

@@ -9,7 +9,7 @@ use Rattle.world.specs.Ground.{Ground}
 use Rattle.phase.specs.declared.role.Role.{Role}
 use Rattle.phase.specs.declared.make.Record.{Record}
 use Rattle.phase.specs.declared.kept.Kept.{Kept}
-use Rattle.phase.specs.Places.{bucket_of}
+use Rattle.phase.specs.Places.{bucket_of_role}
 use Rattle.phase.specs.Buckets.{words_in}
 use Rattle.phase.specs.Makes.{key_at, value_at, fingers_at, published_at}
 use Rattle.phase.specs.Giving.{IsLocated}
@@ -32,7 +32,7 @@ one_bucket f b c m n lm ln e = omega (arith, lm, ln, e)
 module _ (site : Ground) (kept : Kept) (l : IsLocated site kept.site kept.segment) where
   -- where a bucket begins
   abbrev pub at : Role → ℕ
-  at place = bucket_at site.shape kept.segment (bucket_of kept.hash place)
+  at place = bucket_at site.shape kept.segment (bucket_of_role kept.hash place)
 
   pub at_is : (place : Role) → lock_of kept place ≡ at place
   at_is place = lock_at site kept.site kept.hash kept.segment l place
@@ -47,8 +47,8 @@ module _ (site : Ground) (kept : Kept) (l : IsLocated site kept.site kept.segmen
   -- a word of one bucket is none of another
   pub apart : (place other : Role) (j n : ℕ) → place ≢ other → j < 32 → n < 32 → at place + j ≡ lock_of kept other + n → ⊥
   apart place other j n differ lj ln e =
-      let same : bucket_of kept.hash place ≡ bucket_of kept.hash other =
-      one_bucket (head_at site.shape kept.segment) (bucket_of kept.hash place) (bucket_of kept.hash other) j n lj ln (e ∙ ap (λ z. z + n) (at_is other)) in
+      let same : bucket_of_role kept.hash place ≡ bucket_of_role kept.hash other =
+      one_bucket (head_at site.shape kept.segment) (bucket_of_role kept.hash place) (bucket_of_role kept.hash other) j n lj ln (e ∙ ap (λ z. z + n) (at_is other)) in
       locks_apart site kept.site kept.hash kept.segment l place other differ (at_is place ∙ ap (λ b. bucket_at site.shape kept.segment b) same ∙ sym (at_is other))
 
   -- ---- a record is prepared in the bucket of a place

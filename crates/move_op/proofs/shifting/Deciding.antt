@@ -12,7 +12,7 @@ use Rattle.bucket_words.specs.Owners.{owner_of}
 use Rattle.bucket_words.specs.Standing.{IsRight, IsTable}
 use Rattle.world.specs.Ground.{Ground}
 use Rattle.phase.specs.declared.kept.Kept.{Kept}
-use Rattle.phase.specs.Places.{bucket_of}
+use Rattle.phase.specs.Places.{bucket_of_role}
 use Rattle.phase.specs.Buckets.{words_in}
 use Rattle.phase.specs.Giving.{IsLocated}
 use Rattle.phase.proofs.locks.Giving.{bucket_near}
@@ -32,8 +32,8 @@ back h m low e = omega (arith, low, e)
 
 -- where a record with this bit stands in the bucket that it may leave, its home is the one that the direction says
 home_is : (direction : Direction) (hash g bit : ℕ) → bit ≡ bit_of direction
-    → ((bucket_of hash (source_of direction) ≡ home_of g) × (bit ≡ 0)) ⊎ ((bucket_of hash (source_of direction) ≡ probing_of (home_of g)) × (bit ≡ 1)) ⊎ (homes ≤ bucket_of hash (source_of direction))
-    → bucket_of hash (home_place direction) ≡ home_of g
+    → ((bucket_of_role hash (source_of direction) ≡ home_of g) × (bit ≡ 0)) ⊎ ((bucket_of_role hash (source_of direction) ≡ probing_of (home_of g)) × (bit ≡ 1)) ⊎ (homes ≤ bucket_of_role hash (source_of direction))
+    → bucket_of_role hash (home_place direction) ≡ home_of g
 home_is Forward hash g bit is stands = elim stands [
   | inl home ↦ home.0
   | inr more ↦ elim more [
@@ -50,7 +50,7 @@ home_is Backward hash g bit is stands = elim stands [
 ]
 
 module _ (site : Ground) (kept : Kept) (d : Direction) (l : IsLocated site kept.site kept.segment) (words : Words) (table : IsTable site.shape words)
-    (own : (r k : ℕ) → Hit site.shape words kept.segment (bucket_of kept.hash (source_of d)) r k → owner_of site.shape words (key_hash site.shape k) ≡ Some kept.segment)
+    (own : (r k : ℕ) → Hit site.shape words kept.segment (bucket_of_role kept.hash (source_of d)) r k → owner_of site.shape words (key_hash site.shape k) ≡ Some kept.segment)
     (newest : (j : ℕ) → 1 ≤ j → j < 32 → words (at site kept l (source_of d) + j) ≡ slice_index (words_in kept.buckets (source_of d)) j) where
   abbrev source : List ℕ
   source = words_in kept.buckets (source_of d)
@@ -65,7 +65,7 @@ module _ (site : Ground) (kept : Kept) (d : Direction) (l : IsLocated site kept.
     found : HasBit (bit_of d) w1 from × (from < 14)
     found = found_slot (bit_of d) w1 from taken
 
-    hit : Hit site.shape words kept.segment (bucket_of kept.hash (source_of d)) from key
+    hit : Hit site.shape words kept.segment (bucket_of_role kept.hash (source_of d)) from key
     hit = let low = found.1 in record {
       segment = l.within;
       bucket = bucket_near kept.hash (source_of d);
@@ -74,8 +74,8 @@ module _ (site : Ground) (kept : Kept) (d : Direction) (l : IsLocated site kept.
       key = ap words (key_place (at site kept l (source_of d)) from) ∙ newest (4 + 2 * from) (omega arith) (omega (arith, low));
     }
 
-    right : IsRight site.shape words kept.segment (bucket_of kept.hash (source_of d)) from key
-    right = table.stands kept.segment (bucket_of kept.hash (source_of d)) from key hit (own from key hit)
+    right : IsRight site.shape words kept.segment (bucket_of_role kept.hash (source_of d)) from key
+    right = table.stands kept.segment (bucket_of_role kept.hash (source_of d)) from key hit (own from key hit)
 
     can_move : CanMove site kept d from to
     can_move =

@@ -8,7 +8,7 @@ use Rattle.bucket_meta.proofs.fields.Uppers.{inserted_upper, member_upper, inser
 use Rattle.image_layout.specs.Places.{Shape}
 use Rattle.image_layout.specs.Standing.{StandsAt}
 use Rattle.sound_image.specs.Records.{key_hash}
-use Rattle.phase.specs.Places.{bucket_of}
+use Rattle.phase.specs.Places.{bucket_of_role}
 use Rattle.move_op.specs.declared.step.Direction.{Direction}
 use Rattle.move_op.specs.declared.step.Direction.TheVariants.{Forward, Backward}
 use Rattle.move_op.specs.Shifts.{source_of, target_of, home_place, arrived_mark}
@@ -39,12 +39,12 @@ next_is : (h : ℕ) → next_of h ≡ probing_of (probing_of h)
 next_is h = omega arith
 
 -- with that bit the copy stands right in the third bucket, where its key has the home that it is to have
-pub copy_stands : (shape : Shape) (direction : Direction) (hash k bit : ℕ) → bit ≡ arrived_bit direction → bucket_of hash (home_place direction) ≡ home_of (key_hash shape k)
-    → StandsAt shape (bucket_of hash (target_of direction)) k bit
+pub copy_stands : (shape : Shape) (direction : Direction) (hash k bit : ℕ) → bit ≡ arrived_bit direction → bucket_of_role hash (home_place direction) ≡ home_of (key_hash shape k)
+    → StandsAt shape (bucket_of_role hash (target_of direction)) k bit
 copy_stands shape Forward hash k bit is home = inr (inl (next_is (home_of hash) ∙ ap probing_of home, is))
 copy_stands shape Backward hash k bit is home = inl (home, is)
 
 -- and the new record in the slot that was cleared
-pub insert_stands : (shape : Shape) (direction : Direction) (hash k bit : ℕ) → bit ≡ arrived_bit direction → hash ≡ key_hash shape k → StandsAt shape (bucket_of hash (source_of direction)) k bit
+pub insert_stands : (shape : Shape) (direction : Direction) (hash k bit : ℕ) → bit ≡ arrived_bit direction → hash ≡ key_hash shape k → StandsAt shape (bucket_of_role hash (source_of direction)) k bit
 insert_stands shape Forward hash k bit is hashed = inr (inl (ap (λ h. probing_of (home_of h)) hashed, is))
 insert_stands shape Backward hash k bit is hashed = inl (ap home_of hashed, is)

@@ -16,7 +16,7 @@ use Rattle.phase.specs.declared.role.Role.{Role}
 use Rattle.phase.specs.declared.role.Role.TheVariants.{Home, Probing}
 use Rattle.phase.specs.declared.held.Held.{Held}
 use Rattle.phase.specs.declared.kept.Kept.{Kept}
-use Rattle.phase.specs.Places.{bucket_of, is_third}
+use Rattle.phase.specs.Places.{bucket_of_role, is_third}
 use Rattle.phase.specs.Asked.{index}
 use Rattle.phase.specs.Buckets.{words_in}
 use Rattle.phase.specs.Giving.{IsLocated}
@@ -43,7 +43,7 @@ not_third Backward place near e = absurd (let f : true ≡ false = sym (ap is_th
 -- words that are as others in all buckets but the third ones
 module _ (site : Ground) (kept : Kept) (l : IsLocated site kept.site kept.segment) (held : Held) (word other : Words)
     (same : (place : Role) → is_third place ≡ false → (j : ℕ) → 1 ≤ j → j < 32 → other (at site kept l place + j) ≡ word (at site kept l place + j)) where
-  hits_same : (place : Role) → is_third place ≡ false → (t k : ℕ) → Hit site.shape other kept.segment (bucket_of kept.hash place) t k → Hit site.shape word kept.segment (bucket_of kept.hash place) t k
+  hits_same : (place : Role) → is_third place ≡ false → (t k : ℕ) → Hit site.shape other kept.segment (bucket_of_role kept.hash place) t k → Hit site.shape word kept.segment (bucket_of_role kept.hash place) t k
   hits_same place near t k h = let low = h.slot in record {
     segment = h.segment;
     bucket = h.bucket;
@@ -74,7 +74,7 @@ module _ (site : Ground) (kept : Kept) (d : Direction) (from to : ℕ) (l : IsLo
   shift = shift_at kept d from to
 
   abbrev b : ℕ
-  b = bucket_of kept.hash (source_of d)
+  b = bucket_of_role kept.hash (source_of d)
 
   abbrev from_lock : ℕ
   from_lock = lock_of kept (source_of d)
@@ -115,8 +115,8 @@ module _ (site : Ground) (kept : Kept) (d : Direction) (from to : ℕ) (l : IsLo
         ∙ sym (ap (with_clearing kept shift) (key_place (at site kept l (source_of d)) t)) ∙ h.key;
   }
 
-  other_hits : (place : Role) → place ≢ source_of d → (t k : ℕ) → Hit site.shape (with_clearing kept shift) kept.segment (bucket_of kept.hash place) t k
-      → Hit site.shape (with_copy kept shift) kept.segment (bucket_of kept.hash place) t k
+  other_hits : (place : Role) → place ≢ source_of d → (t k : ℕ) → Hit site.shape (with_clearing kept shift) kept.segment (bucket_of_role kept.hash place) t k
+      → Hit site.shape (with_copy kept shift) kept.segment (bucket_of_role kept.hash place) t k
   other_hits place differ t k h =
       let low = h.slot in
       let beside = marked_beside site kept l (source_of d) shift.clearing refl (with_copy kept shift) place in
@@ -129,11 +129,11 @@ module _ (site : Ground) (kept : Kept) (d : Direction) (from to : ℕ) (l : IsLo
             ∙ sym (ap (with_clearing kept shift) (key_place (at site kept l place) t)) ∙ h.key;
       }
 
-  clear_hits : (place : Role) (t k : ℕ) → Hit site.shape (with_clearing kept shift) kept.segment (bucket_of kept.hash place) t k
-      → Hit site.shape (with_copy kept shift) kept.segment (bucket_of kept.hash place) t k
+  clear_hits : (place : Role) (t k : ℕ) → Hit site.shape (with_clearing kept shift) kept.segment (bucket_of_role kept.hash place) t k
+      → Hit site.shape (with_copy kept shift) kept.segment (bucket_of_role kept.hash place) t k
   clear_hits place t k h = elim (cases_place place (source_of d)) [
-    | inl e ↦ subst (λ (p : Role). Hit site.shape (with_copy kept shift) kept.segment (bucket_of kept.hash p) t k) (sym e)
-        (source_hits t k (subst (λ (p : Role). Hit site.shape (with_clearing kept shift) kept.segment (bucket_of kept.hash p) t k) e h))
+    | inl e ↦ subst (λ (p : Role). Hit site.shape (with_copy kept shift) kept.segment (bucket_of_role kept.hash p) t k) (sym e)
+        (source_hits t k (subst (λ (p : Role). Hit site.shape (with_clearing kept shift) kept.segment (bucket_of_role kept.hash p) t k) e h))
     | inr n ↦ other_hits place (λ e. n (ap index e)) t k h
   ]
 

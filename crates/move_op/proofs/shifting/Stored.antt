@@ -16,7 +16,7 @@ use Rattle.world.specs.Ground.{Ground}
 use Rattle.world.specs.Holders.{TakesSlot, FreesSlot}
 use Rattle.phase.specs.declared.role.Role.{Role}
 use Rattle.phase.specs.declared.kept.Kept.{Kept}
-use Rattle.phase.specs.Places.{bucket_of}
+use Rattle.phase.specs.Places.{bucket_of_role}
 use Rattle.phase.specs.Buckets.{words_in}
 use Rattle.phase.specs.Giving.{IsLocated}
 use Rattle.phase.specs.Making.{FitsSlot}
@@ -55,10 +55,10 @@ module _ (site : Ground) (kept : Kept) (d : Direction) (from to : ℕ) (l : IsLo
   key = slice_index source (4 + 2 * from)
 
   abbrev b : ℕ
-  b = bucket_of kept.hash (source_of d)
+  b = bucket_of_role kept.hash (source_of d)
 
   abbrev c : ℕ
-  c = bucket_of kept.hash (target_of d)
+  c = bucket_of_role kept.hash (target_of d)
 
   abbrev from_lock : ℕ
   from_lock = lock_of kept (source_of d)

@@ -11,7 +11,7 @@ use Rattle.world.specs.declared.site.Site.{Site}
 use Rattle.phase.specs.declared.walk.Walk.TheVariants as walk
 use Rattle.phase.specs.declared.back.Back.TheVariants as back
 use Rattle.phase.specs.declared.role.Role.{Role}
-use Rattle.phase.specs.Places.{bucket_of, lock_word}
+use Rattle.phase.specs.Places.{bucket_of_role, lock_word}
 use Rattle.phase.specs.Laws.{WalkAsksWithin, BackAsksWithin}
 use Rattle.phase.proofs.locks.Giving.{bucket_near}
 
@@ -61,4 +61,4 @@ back_within here hash is fits path back.Head = let low = head_within here.geomet
 
 -- ---- a word of one of the six buckets
 pub lock_within : (here : Site) (hash segment : ℕ) → IsShape here.geometry → (place : Role) (n : ℕ) → n < 32 → lock_word here hash segment place + n < words_of here.geometry
-lock_within here hash segment is place n below = bucket_within here.geometry is segment (bucket_of hash place) n (bucket_near hash place) below
+lock_within here hash segment is place n below = bucket_within here.geometry is segment (bucket_of_role hash place) n (bucket_near hash place) below

@@ -15,7 +15,7 @@ use Rattle.part.specs.Causes.{WasMeta, WasFull, WereFull, NothingMovedOn, MustVi
 use Rattle.phase.specs.declared.role.Role.{Role}
 use Rattle.phase.specs.declared.role.Role.TheVariants.{Home, Probing, Next, Previous}
 use Rattle.phase.specs.declared.kept.Kept.{Kept}
-use Rattle.phase.specs.Places.{bucket_of}
+use Rattle.phase.specs.Places.{bucket_of_role}
 use Rattle.phase.specs.Buckets.{words_in}
 use Rattle.phase.specs.Keeps.{WasLoaded, LoadedFull}
 use Rattle.phase.specs.Third.{NothingToMove}
@@ -60,10 +60,10 @@ module _ (kept : Kept) (loads : List (ℕ × ℕ)) (within : kept.segment < kept
   abbrev meta : Role → ℕ
   meta place = slice_index (words_in kept.buckets place) 1
 
-  meta_loaded : (place : Role) → WasLoaded kept loads place → WasMeta g loads kept.segment (bucket_of kept.hash place) (meta place)
-  meta_loaded place was = word_at g kept.hash loads kept.segment within (bucket_of kept.hash place) 1 (meta place) (was 1 (omega arith) (omega arith))
+  meta_loaded : (place : Role) → WasLoaded kept loads place → WasMeta g loads kept.segment (bucket_of_role kept.hash place) (meta place)
+  meta_loaded place was = word_at g kept.hash loads kept.segment within (bucket_of_role kept.hash place) 1 (meta place) (was 1 (omega arith) (omega arith))
 
-  pub was_full : (place : Role) → LoadedFull kept loads place → WasFull g loads kept.segment (bucket_of kept.hash place) (meta place)
+  pub was_full : (place : Role) → LoadedFull kept loads place → WasFull g loads kept.segment (bucket_of_role kept.hash place) (meta place)
   was_full place f = record { loaded = meta_loaded place f.0; full = none_free (meta place) f.1 }
 
   module _ (home : LoadedFull kept loads Home) (probing : LoadedFull kept loads Probing) where
@@ -75,10 +75,10 @@ module _ (kept : Kept) (loads : List (ℕ × ℕ)) (within : kept.segment < kept
     moved_on next forward = record { full = were_full; next = meta Next; next_loaded = meta_loaded Next next; forward = forward }
 
     module _ (call : Call) (insert : IsInsert call) where
-      pub next_needed : NeedsBucket g kept.hash loads kept.segment call (bucket_of kept.hash Next)
+      pub next_needed : NeedsBucket g kept.hash loads kept.segment call (bucket_of_role kept.hash Next)
       next_needed = inr (inr (inr (insert, inl (refl, were_full))))
 
-      pub previous_needed : WasLoaded kept loads Next → NothingMovesOn (meta Probing) (meta Next) → NeedsBucket g kept.hash loads kept.segment call (bucket_of kept.hash Previous)
+      pub previous_needed : WasLoaded kept loads Next → NothingMovesOn (meta Probing) (meta Next) → NeedsBucket g kept.hash loads kept.segment call (bucket_of_role kept.hash Previous)
       previous_needed next forward = inr (inr (inr (insert, inr (refl, moved_on next forward))))
 
       pub stash_needed : (index : ℕ) → index < stash_buckets → NothingToMove kept loads → WereFullBefore g kept.hash loads kept.segment index

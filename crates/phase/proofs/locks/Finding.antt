@@ -26,7 +26,7 @@ use Rattle.phase.specs.declared.role.Role.{Role}
 use Rattle.phase.specs.declared.role.Role.TheVariants.{Home, Probing, First, Second, Next, Previous}
 use Rattle.phase.specs.declared.held.Held.{Held}
 use Rattle.phase.specs.declared.kept.Buckets.{Buckets}
-use Rattle.phase.specs.Places.{bucket_of, lock_word}
+use Rattle.phase.specs.Places.{bucket_of_role, lock_word}
 use Rattle.phase.specs.Helds.{free_of}
 use Rattle.phase.specs.Buckets.{words_in}
 use Rattle.phase.specs.Giving.{IsLocated, IsHeld, IsQuiet, IsOfHeld}
@@ -102,13 +102,13 @@ module _ (site : Ground) (here : Site) (hash segment : ℕ) (bs : Buckets) (l : 
       subst (λ x. Has (lock place + j, x) v.known) (words_stand_at place j from low) (knows (lock place + j) (place, is, (omega (arith, from), omega (arith, low))))
 
   -- a bucket's words by its number in the segment
-  in_bucket : (place : Role) (j : ℕ) → 1 ≤ j → j < 32 → word (bucket_at site.shape segment (bucket_of hash place) + j) ≡ slice_index (words_in bs place) j
+  in_bucket : (place : Role) (j : ℕ) → 1 ≤ j → j < 32 → word (bucket_at site.shape segment (bucket_of_role hash place) + j) ≡ slice_index (words_in bs place) j
   in_bucket place j from low = subst (λ (z : ℕ). word (z + j) ≡ slice_index (words_in bs place) j) (lock_at site here hash segment l place) (words_stand_at place j from low)
 
   key_place : (a t : ℕ) → a + 4 + 2 * t ≡ a + (4 + 2 * t)
   key_place a t = omega arith
 
-  found_hit : (place : Role) (k r : ℕ) → lowest_with (words_in bs place) k ≡ Some r → Hit site.shape word segment (bucket_of hash place) r k
+  found_hit : (place : Role) (k r : ℕ) → lowest_with (words_in bs place) k ≡ Some r → Hit site.shape word segment (bucket_of_role hash place) r k
   found_hit place k r is =
       let there = found_with (words_in bs place) k r is in
       let low = there.1 in
@@ -117,15 +117,15 @@ module _ (site : Ground) (here : Site) (hash segment : ℕ) (bs : Buckets) (l : 
         bucket = bucket_near hash place;
         slot = low;
         taken = ap (allocated r) (in_bucket place 1 (omega arith) (omega arith)) ∙ there.0.taken;
-        key = ap word (key_place (bucket_at site.shape segment (bucket_of hash place)) r) ∙ in_bucket place (4 + 2 * r) (omega arith) (omega (arith, low)) ∙ there.0.has_key;
+        key = ap word (key_place (bucket_at site.shape segment (bucket_of_role hash place)) r) ∙ in_bucket place (4 + 2 * r) (omega arith) (omega (arith, low)) ∙ there.0.has_key;
       }
 
-  none_hit : (place : Role) (k : ℕ) → lowest_with (words_in bs place) k ≡ None → (t : ℕ) → Hit site.shape word segment (bucket_of hash place) t k → ⊥
+  none_hit : (place : Role) (k : ℕ) → lowest_with (words_in bs place) k ≡ None → (t : ℕ) → Hit site.shape word segment (bucket_of_role hash place) t k → ⊥
   none_hit place k is t h =
       let low = h.slot in
       none_with (words_in bs place) k is t low (record {
         taken = ap (allocated t) (sym (in_bucket place 1 (omega arith) (omega arith))) ∙ h.taken;
-        has_key = sym (in_bucket place (4 + 2 * t) (omega arith) (omega (arith, low))) ∙ sym (ap word (key_place (bucket_at site.shape segment (bucket_of hash place)) t)) ∙ h.key;
+        has_key = sym (in_bucket place (4 + 2 * t) (omega arith) (omega (arith, low))) ∙ sym (ap word (key_place (bucket_at site.shape segment (bucket_of_role hash place)) t)) ∙ h.key;
       })
 
 pub words_stand : WordsStand
@@ -146,7 +146,7 @@ search_tells = record {
 -- ---- the holder
 module _ (site : Ground) (here : Site) (hash segment : ℕ) (held : Held) (word : Words) (k : ℕ) (v : View) (h : HoldsBuckets site here hash segment held word k v) where
   abbrev at : Role → ℕ
-  at place = bucket_at site.shape segment (bucket_of hash place)
+  at place = bucket_at site.shape segment (bucket_of_role hash place)
 
   at_is : (place : Role) → lock_word here hash segment place ≡ at place
   at_is place = lock_at site here hash segment h.located place
@@ -161,8 +161,8 @@ module _ (site : Ground) (here : Site) (hash segment : ℕ) (held : Held) (word 
   led words n = ap (owner_of site.shape words) (sym h.hashed) ∙ pinned_lead site hash segment v h.leads words n
 
   module _ (none : HasNoneLoose v) where
-    pub bucket_known : (place : Role) → IsHeld held place → KnowsBucket site.shape v segment (bucket_of hash place) word
-    bucket_known place is = known_bucket (IsOfHeld here hash segment held) word site.shape segment (bucket_of hash place) v (has_lock place is) h.knows
+    pub bucket_known : (place : Role) → IsHeld held place → KnowsBucket site.shape v segment (bucket_of_role hash place) word
+    bucket_known place is = known_bucket (IsOfHeld here hash segment held) word site.shape segment (bucket_of_role hash place) v (has_lock place is) h.knows
         (λ i u. (place, is, subst (λ (z : ℕ). IsUnder z i) (sym (at_is place)) u)) (λ p loose u. none p loose)
 
     kept_place : (place : Role) → IsHeld held place → IsKept site v (at place)
@@ -248,7 +248,7 @@ module _ (site : Ground) (here : Site) (hash segment : ℕ) (held : Held) (word 
         stash = nowhere.stash;
       }
 
-    pub found_at : (place : Role) → IsHeld held place → (r : ℕ) → Hit site.shape word segment (bucket_of hash place) r k → FoundAt site v word segment (bucket_of hash place) r k
+    pub found_at : (place : Role) → IsHeld held place → (r : ℕ) → Hit site.shape word segment (bucket_of_role hash place) r k → FoundAt site v word segment (bucket_of_role hash place) r k
     found_at place is r hit = let b = both (firm q) in record {
       led = (led, b.home_lock);
       unplanned = no_plan q;
@@ -298,7 +298,7 @@ home_near hash = omega arith
 
 pub prepared_nowhere : PreparedStandsNowhere
 prepared_nowhere shape hash segment held word k s b lock finger written f n = record {
-  places = λ place is near t hit. n.places place is near t (hits_back shape word s b lock finger written f segment (bucket_of hash place) t k hit);
+  places = λ place is near t hit. n.places place is near t (hits_back shape word s b lock finger written f segment (bucket_of_role hash place) t k hit);
   stash = record {
     first = λ e. unnoted_made shape word s b lock finger written f segment (home_of hash) (finger_of hash) 0 (home_near hash) (n.stash.first e);
     second = λ e. unnoted_made shape word s b lock finger written f segment (home_of hash) (finger_of hash) 1 (home_near hash) (n.stash.second e);

@@ -16,7 +16,7 @@ use Rattle.world.proofs.basics.Seats.{without_has, without_stays, not_under_has}
 use Rattle.phase.specs.declared.role.Role.{Role}
 use Rattle.phase.specs.declared.role.Role.TheVariants.{Home, Probing, First, Second, Next, Previous}
 use Rattle.phase.specs.declared.held.Held.{Held}
-use Rattle.phase.specs.Places.{bucket_of, lock_word}
+use Rattle.phase.specs.Places.{bucket_of_role, lock_word}
 use Rattle.phase.specs.Asked.{index}
 use Rattle.phase.specs.Helds.{none_held, with_held, without_held, free_of, first_held, give_next, give_wanted_of, given_of}
 use Rattle.phase.specs.Taking.{MayBeTaken}
@@ -29,7 +29,7 @@ nothing_left [] none = refl
 nothing_left (x ∷ xs) none = absurd (none x (inl refl))
 
 -- ---- where the lock words stand
-pub bucket_near : (hash : ℕ) (place : Role) → bucket_of hash place < buckets
+pub bucket_near : (hash : ℕ) (place : Role) → bucket_of_role hash place < buckets
 bucket_near hash Home = omega arith
 bucket_near hash Probing = omega arith
 bucket_near hash First = omega arith
@@ -37,7 +37,7 @@ bucket_near hash Second = omega arith
 bucket_near hash Next = omega arith
 bucket_near hash Previous = omega arith
 
-numbers_apart : (hash : ℕ) (place other : Role) → place ≢ other → bucket_of hash place ≡ bucket_of hash other → ⊥
+numbers_apart : (hash : ℕ) (place other : Role) → place ≢ other → bucket_of_role hash place ≡ bucket_of_role hash other → ⊥
 numbers_apart hash Home Home n e = n refl
 numbers_apart hash Home other n e = omega (arith, e)
 numbers_apart hash Probing Probing n e = n refl
@@ -52,7 +52,7 @@ numbers_apart hash Previous Previous n e = n refl
 numbers_apart hash Previous other n e = omega (arith, e)
 
 -- a bucket is that of one place
-pub one_number : (hash : ℕ) (place other : Role) → bucket_of hash place ≡ bucket_of hash other → place ≡ other
+pub one_number : (hash : ℕ) (place other : Role) → bucket_of_role hash place ≡ bucket_of_role hash other → place ≡ other
 one_number hash place other e = elim (cases_place place other) [
   | inl same ↦ same
   | inr apart ↦ absurd (numbers_apart hash place other (λ same. apart (ap index same)) e)
@@ -62,23 +62,23 @@ same_bucket : (f b c : ℕ) → f + 32 + 32 * b ≡ f + 32 + 32 * c → b ≡ c
 same_bucket f b c e = omega (arith, e)
 
 module _ (here : Site) (hash segment : ℕ) (within : segment < here.geometry.segments) where
-  pub lock_is : (place : Role) → lock_word here hash segment place ≡ bucket_at here.geometry segment (bucket_of hash place)
-  lock_is place = ap (λ t. if t then bucket_at here.geometry segment (bucket_of hash place) else root_word) (lt-ltb segment here.geometry.segments within)
+  pub lock_is : (place : Role) → lock_word here hash segment place ≡ bucket_at here.geometry segment (bucket_of_role hash place)
+  lock_is place = ap (λ t. if t then bucket_at here.geometry segment (bucket_of_role hash place) else root_word) (lt-ltb segment here.geometry.segments within)
 
   -- a lock word is that of one place
   pub one_lock_word : (place other : Role) → lock_word here hash segment place ≡ lock_word here hash segment other → place ≡ other
   one_lock_word place other e =
-      one_number hash place other (same_bucket (head_at here.geometry segment) (bucket_of hash place) (bucket_of hash other) (sym (lock_is place) ∙ e ∙ lock_is other))
+      one_number hash place other (same_bucket (head_at here.geometry segment) (bucket_of_role hash place) (bucket_of_role hash other) (sym (lock_is place) ∙ e ∙ lock_is other))
 
 module _ (site : Ground) (here : Site) (hash segment : ℕ) (l : IsLocated site here segment) where
   pub within_here : segment < here.geometry.segments
   within_here = subst (λ (g : Shape). segment < g.segments) (sym l.shape) l.within
 
-  pub lock_at : (place : Role) → lock_word here hash segment place ≡ bucket_at site.shape segment (bucket_of hash place)
-  lock_at place = lock_is here hash segment within_here place ∙ ap (λ (g : Shape). bucket_at g segment (bucket_of hash place)) l.shape
+  pub lock_at : (place : Role) → lock_word here hash segment place ≡ bucket_at site.shape segment (bucket_of_role hash place)
+  lock_at place = lock_is here hash segment within_here place ∙ ap (λ (g : Shape). bucket_at g segment (bucket_of_role hash place)) l.shape
 
   pub is_lock : (place : Role) → IsLockWord site.shape (lock_word here hash segment place)
-  is_lock place = (segment, bucket_of hash place, l.within, bucket_near hash place, lock_at place)
+  is_lock place = (segment, bucket_of_role hash place, l.within, bucket_near hash place, lock_at place)
 
   pub locks_apart : (place other : Role) → place ≢ other → lock_word here hash segment place ≢ lock_word here hash segment other
   locks_apart place other n e = n (one_lock_word here hash segment within_here place other e)
@@ -86,12 +86,12 @@ module _ (site : Ground) (here : Site) (hash segment : ℕ) (l : IsLocated site 
 pub known_lock : (site : Ground) (here : Site) (hash segment : ℕ) (place : Role) (v : View) → here.geometry ≡ site.shape → IsThere site segment v.facts
     → IsKnownLock site v (lock_word here hash segment place)
 known_lock site here hash segment place v same there =
-    (segment, bucket_of hash place, there.within, bucket_near hash place, lock_at site here hash segment (record { shape = same; within = there.within }) place, there.lives, there.current)
+    (segment, bucket_of_role hash place, there.within, bucket_near hash place, lock_at site here hash segment (record { shape = same; within = there.within }) place, there.lives, there.current)
 
 pub places_stand : PlacesStand
 places_stand = record { at = lock_at'; are_locks = is_lock'; are_known = known_lock; apart = apart' }
   where
-    lock_at' : (site : Ground) (here : Site) (hash segment : ℕ) (place : Role) → IsLocated site here segment → lock_word here hash segment place ≡ bucket_at site.shape segment (bucket_of hash place)
+    lock_at' : (site : Ground) (here : Site) (hash segment : ℕ) (place : Role) → IsLocated site here segment → lock_word here hash segment place ≡ bucket_at site.shape segment (bucket_of_role hash place)
     lock_at' site here hash segment place l = lock_at site here hash segment l place
 
     is_lock' : (site : Ground) (here : Site) (hash segment : ℕ) (place : Role) → IsLocated site here segment → IsLockWord site.shape (lock_word here hash segment place)

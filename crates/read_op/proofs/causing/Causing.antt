@@ -35,7 +35,7 @@ use Rattle.read_op.specs.declared.step.ReadEnd.TheVariants as ends
 use Rattle.read_op.specs.declared.step.ReadStep.{ReadStep}
 use Rattle.read_op.specs.declared.step.ReadStep.TheVariants.{Way, Look, Fill, Count, Check, Relook, Ended}
 use Rattle.read_op.specs.declared.step.Task.{Task}
-use Rattle.phase.specs.Places.{bucket_of}
+use Rattle.phase.specs.Places.{bucket_of_role}
 use Rattle.read_op.specs.Places.{free_at}
 use Rattle.read_op.specs.Steps.{wanted_in, next_in, walked_to, with_free, looked, filled, backed_to, relook_first, relook_second, relook_next, busy, moved, end_of, lock_of}
 use Rattle.read_op.specs.Fits.{is_asked}
@@ -91,7 +91,7 @@ module _ (task : Task) (words : Words) (did : Doings) (call : Call) (hash_is : t
 
   -- ---- a lock word
   -- each that is asked for is needed
-  needed : (s : Seen) (k : ℕ) → RemembersSeen task did.loads s k → (p : Role) → is_asked s p ≡ true → NeedsBucket g task.hash did.loads s.path.segment call (bucket_of task.hash p)
+  needed : (s : Seen) (k : ℕ) → RemembersSeen task did.loads s k → (p : Role) → is_asked s p ≡ true → NeedsBucket g task.hash did.loads s.path.segment call (bucket_of_role task.hash p)
   needed s k r Home asked = inl refl
   needed s k r Probing asked = inr (inl refl)
   needed s k r First asked = visit_needed g task.hash did.loads s.path.segment r.path.0.2 call 0 (omega arith) (r.first asked)
@@ -105,14 +105,14 @@ module _ (task : Task) (words : Words) (did : Doings) (call : Call) (hash_is : t
     named : IsNamed g (key_hash g (key_of call)) did.loads s.path.segment
     named = subst (λ m. IsNamed g m did.loads s.path.segment) hash_is (found_named task.site task.hash did.loads s.path path)
 
-    of_key : NeedsBucket g (key_hash g (key_of call)) did.loads s.path.segment call (bucket_of task.hash p)
-    of_key = subst (λ m. NeedsBucket g m did.loads s.path.segment call (bucket_of task.hash p)) hash_is (needed s k seen p asked)
+    of_key : NeedsBucket g (key_hash g (key_of call)) did.loads s.path.segment call (bucket_of_role task.hash p)
+    of_key = subst (λ m. NeedsBucket g m did.loads s.path.segment call (bucket_of_role task.hash p)) hash_is (needed s k seen p asked)
 
     busy_cause : n % 2 ≡ 1 → HasAgainCause g words did call (want.Load (lock_of task s p)) task.site.version (Busy (lock_of task s p) n)
     busy_cause odd = (
       (refl, sym found),
       record {
-        own = (s.path.segment, named, path.0.2, bucket_of task.hash p, of_key, lock_is task s p path.0.2);
+        own = (s.path.segment, named, path.0.2, bucket_of_role task.hash p, of_key, lock_is task s p path.0.2);
         newest = sym found;
         odd = odd;
         by_others = not_own (lock_of task s p);
@@ -124,7 +124,7 @@ module _ (task : Task) (words : Words) (did : Doings) (call : Call) (hash_is : t
     moved_cause even other was = (
       (refl, sym found),
       inl (record {
-        watched = inr ((s.path.segment, named, bucket_of task.hash p, of_key, refl), was.1, omega (arith, even));
+        watched = inr ((s.path.segment, named, bucket_of_role task.hash p, of_key, refl), was.1, omega (arith, even));
         loaded = was.0;
         newest = sym found;
         differ = λ same. other (sym same);

@@ -9,7 +9,7 @@ use Rattle.phase.proofs.asking.Asking.{bucket_within, walk_within, back_within}
 use Rattle.read_op.specs.declared.step.ReadStep.{ReadStep}
 use Rattle.read_op.specs.declared.step.ReadStep.TheVariants.{Way, Look, Fill, Count, Check, Relook, Ended}
 use Rattle.read_op.specs.declared.step.Task.{Task}
-use Rattle.phase.specs.Places.{bucket_of}
+use Rattle.phase.specs.Places.{bucket_of_role}
 use Rattle.read_op.specs.Steps.{wanted_in}
 use Rattle.read_op.specs.Budget.{AsksWithin}
 use Rattle.read_op.specs.Causes.{ReadsAlone}
@@ -35,12 +35,12 @@ reads_alone op = reads_in op.task op.step
 module _ (task : Task) (is : IsShape task.site.geometry) (fits : task.hash < 2 ^ 64) where
   within_in : (s : ReadStep) → word_of task.site.geometry (wanted_in task s) < all_words_of task.site.geometry
   within_in (Way w) = walk_within task.site task.hash is fits w
-  within_in (Look s p) = let low = bucket_within task.site.geometry is s.path.segment (bucket_of task.hash p) 0 (bucket_near task.hash p) (omega arith) in omega (arith, low)
+  within_in (Look s p) = let low = bucket_within task.site.geometry is s.path.segment (bucket_of_role task.hash p) 0 (bucket_near task.hash p) (omega arith) in omega (arith, low)
   within_in (Fill s p load) =
-      let low = bucket_within task.site.geometry is s.path.segment (bucket_of task.hash p) (load.next % 32) (bucket_near task.hash p) (omega arith) in omega (arith, low)
+      let low = bucket_within task.site.geometry is s.path.segment (bucket_of_role task.hash p) (load.next % 32) (bucket_near task.hash p) (omega arith) in omega (arith, low)
   within_in (Count s) = omega arith
   within_in (Check s placed at) = let low = back_within task.site task.hash is fits s.path at in omega (arith, low)
-  within_in (Relook s placed p) = let low = bucket_within task.site.geometry is s.path.segment (bucket_of task.hash p) 0 (bucket_near task.hash p) (omega arith) in omega (arith, low)
+  within_in (Relook s placed p) = let low = bucket_within task.site.geometry is s.path.segment (bucket_of_role task.hash p) 0 (bucket_near task.hash p) (omega arith) in omega (arith, low)
   within_in (Ended end) = omega arith
 
 pub asks_within : AsksWithin

@@ -34,7 +34,7 @@ use Rattle.phase.specs.declared.make.Made.{Made}
 use Rattle.phase.specs.declared.make.Made.TheVariants as made
 use Rattle.phase.specs.declared.held.Held.{Held}
 use Rattle.phase.specs.declared.kept.Kept.{Kept}
-use Rattle.phase.specs.Places.{bucket_of}
+use Rattle.phase.specs.Places.{bucket_of_role}
 use Rattle.phase.specs.Helds.{free_of, given}
 use Rattle.phase.specs.Takes.{take_wanted, take_taken}
 use Rattle.phase.specs.Loads.{load_taken}
@@ -126,7 +126,7 @@ module _ (site : Ground) (kept : Kept) (is : IsIn site kept) (words : Words) (se
       within,
       homes + index_of b,
       subst (λ m. NeedsBucket g m did.loads kept.segment call (homes + index_of b)) hash_is (needed b passed),
-      ap (λ t. if t then bucket_at g kept.segment (bucket_of kept.hash (place_of b)) else root_word) (lt-ltb kept.segment g.segments within)
+      ap (λ t. if t then bucket_at g kept.segment (bucket_of_role kept.hash (place_of b)) else root_word) (lt-ltb kept.segment g.segments within)
           ∙ ap (λ n. bucket_at g kept.segment n) (bucket_is kept.hash b),
     )
 

@@ -11,7 +11,7 @@ use Rattle.world.specs.Ground.{Ground}
 use Rattle.phase.specs.declared.role.Role.{Role}
 use Rattle.phase.specs.declared.make.Record.{Record}
 use Rattle.phase.specs.declared.kept.Kept.{Kept}
-use Rattle.phase.specs.Places.{bucket_of}
+use Rattle.phase.specs.Places.{bucket_of_role}
 use Rattle.phase.specs.Buckets.{words_in}
 use Rattle.phase.specs.Giving.{IsLocated}
 use Rattle.phase.specs.Making.{FitsSlot}
@@ -57,10 +57,10 @@ module _ (site : Ground) (kept : Kept) (seen : Seen) (c : IsChosen site kept see
     pub word_here : (j : ℕ) → 1 ≤ j → j < 32 → loaded kept seen (lock + j) ≡ slice_index words j
     word_here j from low = words_stand site kept.site kept.hash kept.segment seen.buckets place at j from low
 
-    pub lock_is : lock ≡ bucket_at site.shape kept.segment (bucket_of kept.hash place)
+    pub lock_is : lock ≡ bucket_at site.shape kept.segment (bucket_of_role kept.hash place)
     lock_is = lock_at site kept.site kept.hash kept.segment at place
 
-    pub fits_slot : FitsSlot site.shape (loaded kept seen) kept.segment (bucket_of kept.hash place) lock seen.written (finger_of kept.hash)
+    pub fits_slot : FitsSlot site.shape (loaded kept seen) kept.segment (bucket_of_role kept.hash place) lock seen.written (finger_of kept.hash)
     fits_slot = record {
       segment = at.within;
       bucket = bucket_near kept.hash place;
@@ -75,7 +75,7 @@ module _ (site : Ground) (kept : Kept) (seen : Seen) (c : IsChosen site kept see
     }
 
     -- and stands ready there
-    pub stands_ready : IsIn site kept → IsReadyAt site.shape (prepared kept seen) kept.segment (bucket_of kept.hash place) seen.written.slot kept.change.key
-    stands_ready is = subst (λ k. IsReadyAt site.shape (prepared kept seen) kept.segment (bucket_of kept.hash place) seen.written.slot k) key_is
-        (prepares_record.ready site.shape (loaded kept seen) kept.segment (bucket_of kept.hash place) lock (finger_of kept.hash) seen.written fits_slot
+    pub stands_ready : IsIn site kept → IsReadyAt site.shape (prepared kept seen) kept.segment (bucket_of_role kept.hash place) seen.written.slot kept.change.key
+    stands_ready is = subst (λ k. IsReadyAt site.shape (prepared kept seen) kept.segment (bucket_of_role kept.hash place) seen.written.slot k) key_is
+        (prepares_record.ready site.shape (loaded kept seen) kept.segment (bucket_of_role kept.hash place) lock (finger_of kept.hash) seen.written fits_slot
         (ap finger_of is.hash ∙ ap (λ k. finger_of (key_hash site.shape k)) (sym key_is)))

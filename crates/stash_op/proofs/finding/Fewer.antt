@@ -22,7 +22,7 @@ use Rattle.world.proofs.holding.Placing.{none_newest}
 use Rattle.phase.specs.declared.role.Role.{Role}
 use Rattle.phase.specs.declared.role.Role.TheVariants.{Home, Probing, First, Second}
 use Rattle.phase.specs.declared.held.Held.{Held}
-use Rattle.phase.specs.Places.{bucket_of}
+use Rattle.phase.specs.Places.{bucket_of_role}
 use Rattle.phase.specs.Giving.{IsHeld, IsQuiet}
 use Rattle.phase.specs.Finding.{HoldsBuckets, StandsNowhere}
 use Rattle.phase.proofs.Leading.{pinned_lead}
@@ -34,7 +34,7 @@ use Rattle.phase.proofs.locks.Finding.{holders_find}
 module _ (site : Ground) (here : Site) (hash segment : ℕ) (held before : Held) (word : Words) (k : ℕ) (v : View)
     (h : HoldsBuckets site here hash segment held word k v) (more : (place : Role) → IsHeld before place → IsHeld held place) (q : IsQuiet v)
     (n : StandsNowhere site.shape hash segment before word k) (home : IsHeld before Home) (probing : IsHeld before Probing) where
-  known : (place : Role) → IsHeld before place → KnowsBucket site.shape v segment (bucket_of hash place) word
+  known : (place : Role) → IsHeld before place → KnowsBucket site.shape v segment (bucket_of_role hash place) word
   known place is = holders_find.bucket site here hash segment held word k v h (none_loose v q) place (more place is)
 
   led : IsLed site v segment k
@@ -90,18 +90,18 @@ module _ (site : Ground) (here : Site) (hash segment : ℕ) (held before : Held)
   }
 
   -- so it stands in none that is held
-  pub none_held_has : (words : Words) → IsNewest site v words → (place : Role) → IsHeld held place → (t : ℕ) → Hit site.shape word segment (bucket_of hash place) t k → ⊥
-  none_held_has words new place is t hit = none_newest site v word segment k found_by_fewer words new (bucket_of hash place) t
-      (hit_from site.shape word words segment (bucket_of hash place)
-      (newest_same site v words word segment (bucket_of hash place) new (holders_find.bucket site here hash segment held word k v h (none_loose v q) place is)) t k hit)
+  pub none_held_has : (words : Words) → IsNewest site v words → (place : Role) → IsHeld held place → (t : ℕ) → Hit site.shape word segment (bucket_of_role hash place) t k → ⊥
+  none_held_has words new place is t hit = none_newest site v word segment k found_by_fewer words new (bucket_of_role hash place) t
+      (hit_from site.shape word words segment (bucket_of_role hash place)
+      (newest_same site v words word segment (bucket_of_role hash place) new (holders_find.bucket site here hash segment held word k v h (none_loose v q) place is)) t k hit)
 
 -- ---- where the words of the buckets stay
 module _ (shape : Shape) (hash segment : ℕ) (held : Held) (word other : Words) (k : ℕ) (home : IsHeld held Home) (probing : IsHeld held Probing)
-    (same : (place : Role) → IsHeld held place → (j : ℕ) → 1 ≤ j → j < 32 → other (bucket_at shape segment (bucket_of hash place) + j) ≡ word (bucket_at shape segment (bucket_of hash place) + j)) where
+    (same : (place : Role) → IsHeld held place → (j : ℕ) → 1 ≤ j → j < 32 → other (bucket_at shape segment (bucket_of_role hash place) + j) ≡ word (bucket_at shape segment (bucket_of_role hash place) + j)) where
   key_place : (a t : ℕ) → a + 4 + 2 * t ≡ a + (4 + 2 * t)
   key_place a t = omega arith
 
-  hit_back : (place : Role) → IsHeld held place → (t : ℕ) → Hit shape other segment (bucket_of hash place) t k → Hit shape word segment (bucket_of hash place) t k
+  hit_back : (place : Role) → IsHeld held place → (t : ℕ) → Hit shape other segment (bucket_of_role hash place) t k → Hit shape word segment (bucket_of_role hash place) t k
   hit_back place is t h =
       let low = h.slot in
       record {
@@ -109,8 +109,8 @@ module _ (shape : Shape) (hash segment : ℕ) (held : Held) (word other : Words)
         bucket = h.bucket;
         slot = h.slot;
         taken = ap (allocated t) (sym (same place is 1 (omega arith) (omega arith))) ∙ h.taken;
-        key = ap word (key_place (bucket_at shape segment (bucket_of hash place)) t) ∙ sym (same place is (4 + 2 * t) (omega arith) (omega (arith, low)))
-            ∙ sym (ap other (key_place (bucket_at shape segment (bucket_of hash place)) t)) ∙ h.key;
+        key = ap word (key_place (bucket_at shape segment (bucket_of_role hash place)) t) ∙ sym (same place is (4 + 2 * t) (omega arith) (omega (arith, low)))
+            ∙ sym (ap other (key_place (bucket_at shape segment (bucket_of_role hash place)) t)) ∙ h.key;
       }
 
   unnoted_still : (c : ℕ) → IsUnnoted shape word segment (home_of hash) (finger_of hash) c → IsUnnoted shape other segment (home_of hash) (finger_of hash) c

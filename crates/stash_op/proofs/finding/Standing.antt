@@ -13,7 +13,7 @@ use Rattle.phase.specs.declared.role.Role.{Role}
 use Rattle.phase.specs.declared.role.Role.TheVariants as place
 use Rattle.phase.specs.declared.held.Held.{Held}
 use Rattle.phase.specs.declared.kept.Kept.{Kept}
-use Rattle.phase.specs.Places.{bucket_of}
+use Rattle.phase.specs.Places.{bucket_of_role}
 use Rattle.phase.specs.Helds.{with_held, free_of}
 use Rattle.phase.specs.Buckets.{words_in}
 use Rattle.phase.specs.Asked.{index}
@@ -39,7 +39,7 @@ module _ (site : Ground) (kept : Kept) (is : IsIn site kept) where
 
   -- the words of a bucket, by its number in the segment
   pub word_at : (seen : Seen) → IsLocated site kept.site kept.segment → (p : Role) (j : ℕ) → 1 ≤ j → j < 32
-      → loaded kept seen (bucket_at site.shape kept.segment (bucket_of kept.hash p) + j) ≡ slice_index (words_in seen.buckets p) j
+      → loaded kept seen (bucket_at site.shape kept.segment (bucket_of_role kept.hash p) + j) ≡ slice_index (words_in seen.buckets p) j
   word_at seen at p j from low = ap (λ l. loaded kept seen (l + j)) (sym (lock_at site kept.site kept.hash kept.segment at p))
       ∙ words_stand site kept.site kept.hash kept.segment seen.buckets p at j from low
 
@@ -92,7 +92,7 @@ module _ (site : Ground) (kept : Kept) (is : IsIn site kept) where
         (loads_are_known site kept.site kept.hash kept.segment seen.held now.buckets u (located h.there.within) now_whole)
 
     words_stay : (p : Role) → IsHeld before p → (j : ℕ) → 1 ≤ j → j < 32
-        → loaded kept now (bucket_at site.shape kept.segment (bucket_of kept.hash p) + j) ≡ loaded kept seen (bucket_at site.shape kept.segment (bucket_of kept.hash p) + j)
+        → loaded kept now (bucket_at site.shape kept.segment (bucket_of_role kept.hash p) + j) ≡ loaded kept seen (bucket_at site.shape kept.segment (bucket_of_role kept.hash p) + j)
     words_stay p was j from low =
         word_at now (located h.there.within) p j from low
         ∙ ap (λ (ws : List ℕ). slice_index ws j) (words_other seen.buckets words (place_of b) p (apart_of p was))

@@ -16,7 +16,7 @@ use Rattle.world.specs.Invariant.{Holds}
 use Rattle.world.specs.Attempts.{HasNoMore}
 use Rattle.phase.specs.declared.role.Role.{Role}
 use Rattle.phase.specs.declared.kept.Kept.{Kept}
-use Rattle.phase.specs.Places.{bucket_of}
+use Rattle.phase.specs.Places.{bucket_of_role}
 use Rattle.phase.specs.Buckets.{words_in}
 use Rattle.phase.specs.Giving.{IsHeld}
 use Rattle.phase.specs.Knows.{Knows, HasNoneLoose}
@@ -54,7 +54,7 @@ module _ (site : Ground) (kept : Kept) (is : IsIn site kept) (seen : Seen) (befo
 
   -- the record stands in its slot
   abbrev Stands : Words → Type 0
-  Stands w = Hit site.shape w kept.segment (bucket_of kept.hash (place_of seen.bucket)) seen.written.slot kept.change.key
+  Stands w = Hit site.shape w kept.segment (bucket_of_role kept.hash (place_of seen.bucket)) seen.written.slot kept.change.key
 
   module _ (part : NoteWord) (u : IsNoting site kept seen part v) where
     is_owed : IsOwed site.shape words (owed kept seen)
@@ -72,7 +72,7 @@ module _ (site : Ground) (kept : Kept) (is : IsIn site kept) (seen : Seen) (befo
 
     changed_stands : Stands (changed kept seen)
     changed_stands = subst Stands (sym (changed_is site kept is seen v part u small))
-        (publish_tells.taken site.shape (prepared kept seen) kept.segment (bucket_of kept.hash (place_of seen.bucket)) seen.written.slot kept.change.key seen.written.mark
+        (publish_tells.taken site.shape (prepared kept seen) kept.segment (bucket_of_role kept.hash (place_of seen.bucket)) seen.written.slot kept.change.key seen.written.mark
         (stands_ready site kept seen u.chosen (located site kept is u.all.there.within) is)
         (ap (allocated seen.written.slot) (mark_is site kept seen u.chosen) ∙ (takes_slot _ seen.written.slot (slot_low site kept seen u.chosen)).taken))
 

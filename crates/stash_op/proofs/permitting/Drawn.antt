@@ -10,7 +10,7 @@ use Rattle.world.specs.Conditions.{May}
 use Rattle.world.specs.Holders.{DrawsWell, KnowsBucket}
 use Rattle.world.proofs.holding.Drawing.{may_draw}
 use Rattle.phase.specs.declared.kept.Kept.{Kept}
-use Rattle.phase.specs.Places.{bucket_of}
+use Rattle.phase.specs.Places.{bucket_of_role}
 use Rattle.phase.specs.Finding.{HoldsBuckets}
 use Rattle.phase.proofs.Handing.{key_called}
 use Rattle.phase.proofs.locks.Finding.{holders_find}
@@ -24,7 +24,7 @@ module _ (site : Ground) (kept : Kept) (is : IsIn site kept) (seen : Seen) (v : 
   call = call_of kept.change
 
   abbrev b : ℕ
-  b = bucket_of kept.hash (place_of seen.bucket)
+  b = bucket_of_role kept.hash (place_of seen.bucket)
 
   holds : HoldsBuckets site kept.site kept.hash kept.segment seen.held d.word kept.change.key v
   holds = holds_all site kept is seen v d.all d.word d.knows

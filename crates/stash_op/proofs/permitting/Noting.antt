@@ -21,7 +21,7 @@ use Rattle.world.proofs.holding.Repaying.{may_repay}
 use Rattle.phase.specs.declared.role.Role.{Role}
 use Rattle.phase.specs.declared.role.Role.TheVariants as place
 use Rattle.phase.specs.declared.kept.Kept.{Kept}
-use Rattle.phase.specs.Places.{bucket_of}
+use Rattle.phase.specs.Places.{bucket_of_role}
 use Rattle.phase.specs.Buckets.{words_in}
 use Rattle.phase.specs.Giving.{IsLocated, IsHeld}
 use Rattle.phase.specs.Knows.{Knows}
@@ -101,7 +101,7 @@ module _ (site : Ground) (kept : Kept) (is : IsIn site kept) (seen : Seen) (v : 
   at = located_all site kept is seen v u.all
 
   abbrev away : ℕ
-  away = bucket_of kept.hash (place_of seen.bucket)
+  away = bucket_of_role kept.hash (place_of seen.bucket)
 
   abbrev here : ℕ
   here = bucket_at site.shape s away
@@ -192,7 +192,7 @@ module _ (site : Ground) (kept : Kept) (is : IsIn site kept) (seen : Seen) (v : 
 
     -- ---- a store to a word of it
     module _ (w : Words) (g k : Four) (has : HasFour site.shape s b near w g) (knows : Knows (IsHere kept seen) w v) where
-      holds_here : (p : Role) → IsHeld seen.held p → KnowsBucket site.shape v s (bucket_of kept.hash p) w
+      holds_here : (p : Role) → IsHeld seen.held p → KnowsBucket site.shape v s (bucket_of_role kept.hash p) w
       holds_here p held = holders_find.bucket site kept.site kept.hash s seen.held w kept.change.key v (holds_all site kept is seen v u.all w knows) u.settled p held
 
       touches : (m x : ℕ) → (m ≡ 1) ⊎ (m ≡ 3) → core_in_bucket m x ≡ core_in_bucket m (w (bucket_at site.shape s c + m)) → m < 32

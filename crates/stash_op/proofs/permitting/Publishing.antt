@@ -26,7 +26,7 @@ use Rattle.phase.specs.declared.role.Role.{Role}
 use Rattle.phase.specs.declared.make.Make.{Make}
 use Rattle.phase.specs.declared.make.Make.TheVariants.{Publish}
 use Rattle.phase.specs.declared.kept.Kept.{Kept}
-use Rattle.phase.specs.Places.{bucket_of}
+use Rattle.phase.specs.Places.{bucket_of_role}
 use Rattle.phase.specs.Buckets.{words_in}
 use Rattle.phase.specs.Makes.{brought, published_at}
 use Rattle.phase.specs.Giving.{IsLocated, IsQuiet}
@@ -48,11 +48,11 @@ use Rattle.stash_op.proofs.finding.Standing.{located, holds_for}
 use Rattle.stash_op.proofs.finding.Chosen.{slot_low, value_is, published_is, mark_is, word_here, lock_is, fits_slot, stands_ready}
 
 -- a stash bucket by its number
-pub bucket_is : (hash : ℕ) (b : StashBucket) → bucket_of hash (place_of b) ≡ homes + index_of b
+pub bucket_is : (hash : ℕ) (b : StashBucket) → bucket_of_role hash (place_of b) ≡ homes + index_of b
 bucket_is hash First = refl
 bucket_is hash Second = refl
 
-pub far : (hash : ℕ) (b : StashBucket) → homes ≤ bucket_of hash (place_of b)
+pub far : (hash : ℕ) (b : StashBucket) → homes ≤ bucket_of_role hash (place_of b)
 far hash First = omega arith
 far hash Second = omega arith
 
@@ -80,7 +80,7 @@ module _ (site : Ground) (kept : Kept) (is : IsIn site kept) (seen : Seen) (v : 
   has_lock = held_has kept.site kept.hash kept.segment seen.held (place_of seen.bucket) v c.all.locks c.all.bucket
 
   pub other_may : m ≢ Publish → May site (make_kind (publish_kind kept seen) (lock_of kept (place_of seen.bucket)) seen.written m) v
-  other_may other = (make_knows (IsHere kept seen)).may site (publish_kind kept seen) kept.segment (bucket_of kept.hash (place_of seen.bucket)) (lock_of kept (place_of seen.bucket)) (finger_of kept.hash) seen.written
+  other_may other = (make_knows (IsHere kept seen)).may site (publish_kind kept seen) kept.segment (bucket_of_role kept.hash (place_of seen.bucket)) (lock_of kept (place_of seen.bucket)) (finger_of kept.hash) seen.written
       (loaded kept seen) (prepared kept seen) m v
       (λ new. fits_slot site kept seen c.chosen (located_all site kept is seen v c.all)) has_lock (λ i under. (place_of seen.bucket, c.all.bucket, under)) c.making other
 
@@ -93,7 +93,7 @@ module _ (site : Ground) (kept : Kept) (is : IsIn site kept) (seen : Seen) (v : 
   place = place_of seen.bucket
 
   abbrev b : ℕ
-  b = bucket_of kept.hash place
+  b = bucket_of_role kept.hash place
 
   abbrev here : ℕ
   here = bucket_at site.shape kept.segment b

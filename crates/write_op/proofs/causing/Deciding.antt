@@ -30,7 +30,7 @@ use Rattle.phase.specs.declared.back.Back.{Back}
 use Rattle.phase.specs.declared.back.Backed.{Backed}
 use Rattle.phase.specs.declared.load.Loaded.{Loaded}
 use Rattle.phase.specs.declared.make.Make.{Make}
-use Rattle.phase.specs.Places.{bucket_of}
+use Rattle.phase.specs.Places.{bucket_of_role}
 use Rattle.phase.specs.Asked.{index}
 use Rattle.phase.specs.Buckets.{words_in}
 use Rattle.phase.specs.Walks.{walk_wanted}
@@ -111,8 +111,8 @@ module _ (task : Task) (words : Words) (did : Doings) (call : Call) (hash_is : t
 
   -- ---- the locks are those of the call's key
   module _ (seen : Seen) (path : WasFound task.site task.hash did.loads seen.path) (within : seen.path.segment < g.segments) where
-    lock_is : (place : Role) → lock_of task seen place ≡ bucket_at g seen.path.segment (bucket_of task.hash place)
-    lock_is place = ap (λ b. if b then bucket_at g seen.path.segment (bucket_of task.hash place) else root_word) (lt-ltb seen.path.segment g.segments within)
+    lock_is : (place : Role) → lock_of task seen place ≡ bucket_at g seen.path.segment (bucket_of_role task.hash place)
+    lock_is place = ap (λ b. if b then bucket_at g seen.path.segment (bucket_of_role task.hash place) else root_word) (lt-ltb seen.path.segment g.segments within)
 
     -- each that is asked for is needed
     loaded : (place : Role) → LoadedUpto task seen did 2 → index place < 2 → (j : ℕ) → 1 ≤ j → j < 32
@@ -126,7 +126,7 @@ module _ (task : Task) (words : Words) (did : Doings) (call : Call) (hash_is : t
         (loaded Home two (omega arith) 1 (omega arith) (omega arith)) (loaded Home two (omega arith) 3 (omega arith) (omega arith))
         (loaded Probing two (omega arith) 1 (omega arith) (omega arith)) (loaded Probing two (omega arith) 3 (omega arith) (omega arith)) noted)
 
-    needed : (place : Role) → AsksFor task seen did place → NeedsBucket g task.hash did.loads seen.path.segment call (bucket_of task.hash place)
+    needed : (place : Role) → AsksFor task seen did place → NeedsBucket g task.hash did.loads seen.path.segment call (bucket_of_role task.hash place)
     needed Home a = inl refl
     needed Probing a = inr (inl refl)
     needed First a = visited 0 (omega arith) a.reason.0 a.before
@@ -139,8 +139,8 @@ module _ (task : Task) (words : Words) (did : Doings) (call : Call) (hash_is : t
       seen.path.segment,
       subst (λ m. IsNamed g m did.loads seen.path.segment) hash_is (found_named task.site task.hash did.loads seen.path path),
       within,
-      bucket_of task.hash place,
-      subst (λ m. NeedsBucket g m did.loads seen.path.segment call (bucket_of task.hash place)) hash_is (needed place asks),
+      bucket_of_role task.hash place,
+      subst (λ m. NeedsBucket g m did.loads seen.path.segment call (bucket_of_role task.hash place)) hash_is (needed place asks),
       lock_is place,
     )
 

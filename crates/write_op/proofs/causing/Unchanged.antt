@@ -13,7 +13,7 @@ use Rattle.world.specs.Views.{Has}
 use Rattle.phase.specs.declared.role.Role.{Role}
 use Rattle.phase.specs.declared.back.Back.{Back}
 use Rattle.phase.specs.declared.back.Back.TheVariants as back
-use Rattle.phase.specs.Places.{bucket_of}
+use Rattle.phase.specs.Places.{bucket_of_role}
 use Rattle.phase.specs.Backs.{back_word}
 use Rattle.phase.specs.Helds.{free_of}
 use Rattle.phase.specs.Keeps.{ChangedLocks}
@@ -47,8 +47,8 @@ module _ (task : Task) (seen : Seen) (loads : List (ℕ × ℕ)) (path : WasFoun
     pub back_unchanged : (at : Back) → ChangedLocks (kept_in task seen) changed → Has (back_word task.site task.hash seen.path at) changed → ⊥
     back_unchanged at locks has =
         let was = locks (back_word task.site task.hash seen.path at) has in
-        let at_bucket : back_word task.site task.hash seen.path at ≡ bucket_at g seen.path.segment (bucket_of task.hash was.0) = was.2 ∙ lock_is task.site task.hash seen.path.segment path.0.2 was.0 in
-        not_structure g seen.path.segment (bucket_of task.hash was.0) 0 (back_word task.site task.hash seen.path at) (bucket_near task.hash was.0) (omega arith) (omega (arith, at_bucket)) (back_structure at)
+        let at_bucket : back_word task.site task.hash seen.path at ≡ bucket_at g seen.path.segment (bucket_of_role task.hash was.0) = was.2 ∙ lock_is task.site task.hash seen.path.segment path.0.2 was.0 in
+        not_structure g seen.path.segment (bucket_of_role task.hash was.0) 0 (back_word task.site task.hash seen.path at) (bucket_near task.hash was.0) (omega arith) (omega (arith, at_bucket)) (back_structure at)
 
   -- nor is one that is not held one of those that are
   pub lock_unchanged : (place : Role) → free_of seen.held place ≡ None → ChangedLocks (kept_in task seen) changed → Has (lock_of task seen place) changed → ⊥

@@ -11,7 +11,7 @@ use Rattle.world.specs.Ground.{Ground}
 use Rattle.phase.specs.declared.role.Role.{Role}
 use Rattle.phase.specs.declared.role.Role.TheVariants.{Home, Probing}
 use Rattle.phase.specs.declared.make.Record.{Record}
-use Rattle.phase.specs.Places.{bucket_of}
+use Rattle.phase.specs.Places.{bucket_of_role}
 use Rattle.phase.specs.Buckets.{words_in}
 use Rattle.phase.specs.Giving.{IsLocated, IsHeld}
 use Rattle.phase.specs.Making.{FitsSlot}
@@ -78,7 +78,7 @@ module _ (site : Ground) (task : Task) (seen : Seen) (upto : HoldsUpto seen 4) (
     pub word_here : (j : ℕ) → 1 ≤ j → j < 32 → loaded task seen (lock + j) ≡ slice_index (words_in seen.buckets seen.place) j
     word_here j from low = words_stand site task.site task.hash seen.path.segment seen.buckets seen.place at j from low
 
-    pub lock_is : lock ≡ bucket_at site.shape seen.path.segment (bucket_of task.hash seen.place)
+    pub lock_is : lock ≡ bucket_at site.shape seen.path.segment (bucket_of_role task.hash seen.place)
     lock_is = lock_at site task.site task.hash seen.path.segment at seen.place
 
     free_here : (value : ℕ) → task.change.effect ≡ Insert value → allocated seen.written.slot (loaded task seen (lock + 1)) ≡ 0
@@ -88,7 +88,7 @@ module _ (site : Ground) (task : Task) (seen : Seen) (upto : HoldsUpto seen 4) (
 
     -- an insert's record fits its slot
     pub fits_slot : (value : ℕ) → task.change.effect ≡ Insert value
-        → FitsSlot site.shape (loaded task seen) seen.path.segment (bucket_of task.hash seen.place) lock seen.written (finger_of task.hash)
+        → FitsSlot site.shape (loaded task seen) seen.path.segment (bucket_of_role task.hash seen.place) lock seen.written (finger_of task.hash)
     fits_slot value e = record {
       segment = at.within;
       bucket = bucket_near task.hash seen.place;

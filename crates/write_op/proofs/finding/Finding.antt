@@ -11,7 +11,7 @@ use Rattle.world.specs.Views.{View}
 use Rattle.world.proofs.stepping.Telling.{unvisited}
 use Rattle.phase.specs.declared.role.Role.{Role}
 use Rattle.phase.specs.declared.role.Role.TheVariants.{Home, Probing, First, Second}
-use Rattle.phase.specs.Places.{bucket_of}
+use Rattle.phase.specs.Places.{bucket_of_role}
 use Rattle.phase.specs.Helds.{free_of}
 use Rattle.phase.specs.Buckets.{words_in}
 use Rattle.phase.specs.Giving.{IsLocated, IsHeld, IsOfHeld}
@@ -82,7 +82,7 @@ module _ (site : Ground) (task : Task) (seen : Seen) (at : IsLocated site task.s
   abbrev words : Words
   words = loaded task seen
 
-  pub word_at : (place : Role) (j : ℕ) → 1 ≤ j → j < 32 → words (bucket_at site.shape seen.path.segment (bucket_of task.hash place) + j) ≡ slice_index (words_in seen.buckets place) j
+  pub word_at : (place : Role) (j : ℕ) → 1 ≤ j → j < 32 → words (bucket_at site.shape seen.path.segment (bucket_of_role task.hash place) + j) ≡ slice_index (words_in seen.buckets place) j
   word_at place j from low = ap (λ l. words (l + j)) (sym (lock_at site task.site task.hash seen.path.segment at place))
       ∙ words_stand site task.site task.hash seen.path.segment seen.buckets place at j from low
 
@@ -103,5 +103,5 @@ module _ (site : Ground) (task : Task) (seen : Seen) (at : IsLocated site task.s
     stash = spares;
   }
 
-  pub hits : (spot : Spot) → IsFound seen task.change.key spot → Hit site.shape words seen.path.segment (bucket_of task.hash spot.place) spot.slot task.change.key
+  pub hits : (spot : Spot) → IsFound seen task.change.key spot → Hit site.shape words seen.path.segment (bucket_of_role task.hash spot.place) spot.slot task.change.key
   hits spot there = search_tells.found site task.site task.hash seen.path.segment seen.buckets spot.place task.change.key spot.slot at there.slot

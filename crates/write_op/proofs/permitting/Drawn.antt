@@ -20,7 +20,7 @@ use Rattle.world.specs.Holders.{DrawsWell, KnowsBucket, OwesAsKnown}
 use Rattle.world.proofs.holding.Drawing.{may_draw}
 use Rattle.phase.specs.declared.role.Role.{Role}
 use Rattle.phase.specs.declared.role.Role.TheVariants.{Home, Probing}
-use Rattle.phase.specs.Places.{bucket_of}
+use Rattle.phase.specs.Places.{bucket_of_role}
 use Rattle.phase.specs.Buckets.{words_in}
 use Rattle.phase.specs.Giving.{IsLocated}
 use Rattle.phase.specs.Finding.{HoldsBuckets, SparesStash}
@@ -46,7 +46,7 @@ module _ (site : Ground) (task : Task) (is : IsIn site task) (seen : Seen) (v : 
   lock = lock_of task seen seen.place
 
   abbrev b : ℕ
-  b = bucket_of task.hash seen.place
+  b = bucket_of_role task.hash seen.place
 
   abbrev here : ℕ
   here = bucket_at site.shape seen.path.segment b

@@ -13,7 +13,7 @@ use Rattle.world.specs.Conditions.{May, FoundSpent}
 use Rattle.world.specs.Holders.{FoundNone, FoundAt}
 use Rattle.world.proofs.holding.Holders.{may_tell}
 use Rattle.phase.specs.Giving.{IsLocated, IsQuiet}
-use Rattle.phase.specs.Places.{bucket_of}
+use Rattle.phase.specs.Places.{bucket_of_role}
 use Rattle.phase.proofs.locks.Finding.{holders_find}
 use Rattle.write_op.specs.declared.step.Task.{Task}
 use Rattle.write_op.specs.declared.step.Spot.{Spot}
@@ -44,7 +44,7 @@ module _ (site : Ground) (task : Task) (is : IsIn site task) (seen : Seen) (v : 
   found_nowhere : found seen task.change.key ≡ None → FoundNone site v (loaded task seen) segment task.change.key
   found_nowhere none = holders_find.none site task.site task.hash segment seen.held (loaded task seen) task.change.key v (holds_buckets site task is seen v h pinned) q (nowhere site task seen at h.upto vis none)
 
-  found_there : (spot : Spot) → found seen task.change.key ≡ Some spot → FoundAt site v (loaded task seen) segment (bucket_of task.hash spot.place) spot.slot task.change.key
+  found_there : (spot : Spot) → found seen task.change.key ≡ Some spot → FoundAt site v (loaded task seen) segment (bucket_of_role task.hash spot.place) spot.slot task.change.key
   found_there spot there =
       let f = found_some seen task.change.key spot there in
       holders_find.at site task.site task.hash segment seen.held (loaded task seen) task.change.key v (holds_buckets site task is seen v h pinned) q spot.place (asked_held seen h.upto spot.place f.asked) spot.slot
@@ -53,7 +53,7 @@ module _ (site : Ground) (task : Task) (is : IsIn site task) (seen : Seen) (v : 
   exists_may : (value : ℕ) → task.change.effect ≡ Insert value → (spot : Spot) → found seen task.change.key ≡ Some spot → May site (refuses (call_of task.change) reply.Exists) v
   exists_may value effect spot there = subst (λ (d : Effect). May site (refuses (doing task.change.key d) reply.Exists) v) (sym effect) (
     refl,
-    (may_tell site v).present (doing task.change.key (Insert value)) reply.Exists segment (bucket_of task.hash spot.place) spot.slot (loaded task seen) (found_there spot there) refl,
+    (may_tell site v).present (doing task.change.key (Insert value)) reply.Exists segment (bucket_of_role task.hash spot.place) spot.slot (loaded task seen) (found_there spot there) refl,
     (λ m words newest map. tt),
     (λ spent. absurd (let e : reply.Exists ≡ reply.Spent = spent in cc)),
     (λ full. absurd (let e : reply.Exists ≡ reply.Full = full in cc)),

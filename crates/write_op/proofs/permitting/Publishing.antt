@@ -25,7 +25,7 @@ use Rattle.phase.specs.declared.role.Role.TheVariants.{Home, Probing, First, Sec
 use Rattle.phase.specs.declared.make.Record.{Record}
 use Rattle.phase.specs.declared.make.Make.{Make}
 use Rattle.phase.specs.declared.make.Make.TheVariants.{Publish}
-use Rattle.phase.specs.Places.{bucket_of, stash_index}
+use Rattle.phase.specs.Places.{bucket_of_role, stash_index}
 use Rattle.phase.specs.Buckets.{words_in}
 use Rattle.phase.specs.Makes.{brought, published_at}
 use Rattle.phase.specs.Giving.{IsLocated, IsQuiet, IsOfHeld}
@@ -76,7 +76,7 @@ module _ (site : Ground) (task : Task) (is : IsIn site task) (seen : Seen) (v : 
   segment = seen.path.segment
 
   abbrev b : ℕ
-  b = bucket_of task.hash seen.place
+  b = bucket_of_role task.hash seen.place
 
   abbrev slot : ℕ
   slot = seen.written.slot
@@ -120,7 +120,7 @@ module _ (site : Ground) (task : Task) (is : IsIn site task) (seen : Seen) (v : 
 -- ---- the stores but the one
 module _ (site : Ground) (task : Task) (is : IsIn site task) (seen : Seen) (v : View) (m : Make) (c : IsChanging site task seen m v) where
   fits_by : (d : Effect) → task.change.effect ≡ d → IsInserting d
-      → FitsSlot site.shape (loaded task seen) seen.path.segment (bucket_of task.hash seen.place) (lock_of task seen seen.place) seen.written (finger_of task.hash)
+      → FitsSlot site.shape (loaded task seen) seen.path.segment (bucket_of_role task.hash seen.place) (lock_of task seen seen.place) seen.written (finger_of task.hash)
   fits_by (Insert value) e ins = fits_slot site task seen c.all.upto c.chosen (located_all site task is seen v c.all) value e
   fits_by (Update value) e ins = absurd ins
   fits_by Remove e ins = absurd ins
@@ -129,7 +129,7 @@ module _ (site : Ground) (task : Task) (is : IsIn site task) (seen : Seen) (v : 
   has_lock = held_has task.site task.hash seen.path.segment seen.held seen.place v c.all.locks (place_held site task seen c.all.upto c.chosen)
 
   pub other_may : m ≢ Publish → May site (make_kind (publish_kind task seen) (lock_of task seen seen.place) seen.written m) v
-  other_may other = (make_knows (IsOfHeld task.site task.hash seen.path.segment seen.held)).may site (publish_kind task seen) seen.path.segment (bucket_of task.hash seen.place) (lock_of task seen seen.place) (finger_of task.hash) seen.written
+  other_may other = (make_knows (IsOfHeld task.site task.hash seen.path.segment seen.held)).may site (publish_kind task seen) seen.path.segment (bucket_of_role task.hash seen.place) (lock_of task seen seen.place) (finger_of task.hash) seen.written
       (loaded task seen) (prepared task seen) m v
       (λ new. fits_by task.change.effect refl (c.inserts new)) has_lock (λ i under. (seen.place, place_held site task seen c.all.upto c.chosen, under)) c.making other
 
@@ -142,7 +142,7 @@ module _ (site : Ground) (task : Task) (is : IsIn site task) (seen : Seen) (v : 
   all = c.all
 
   abbrev here : ℕ
-  here = bucket_at site.shape seen.path.segment (bucket_of task.hash seen.place)
+  here = bucket_at site.shape seen.path.segment (bucket_of_role task.hash seen.place)
 
   abbrev meta : ℕ
   meta = slice_index (words_in seen.buckets seen.place) 1
@@ -186,7 +186,7 @@ module _ (site : Ground) (task : Task) (is : IsIn site task) (seen : Seen) (v : 
     abbrev word : Words
     word = with_record (lock_of task seen seen.place) seen.written (loaded task seen)
 
-    fits : FitsSlot site.shape (loaded task seen) seen.path.segment (bucket_of task.hash seen.place) (lock_of task seen seen.place) seen.written (finger_of task.hash)
+    fits : FitsSlot site.shape (loaded task seen) seen.path.segment (bucket_of_role task.hash seen.place) (lock_of task seen seen.place) seen.written (finger_of task.hash)
     fits = insert_fits site task is seen v all c.chosen value e
 
     insert_holds : HoldsBuckets site task.site task.hash seen.path.segment seen.held word key v
@@ -194,22 +194,22 @@ module _ (site : Ground) (task : Task) (is : IsIn site task) (seen : Seen) (v : 
 
     insert_none : FoundNone site v word seen.path.segment key
     insert_none = holders_find.none site task.site task.hash seen.path.segment seen.held word key v insert_holds quiet
-        (prepared_nowhere site.shape task.hash seen.path.segment seen.held (loaded task seen) key seen.path.segment (bucket_of task.hash seen.place) (lock_of task seen seen.place) (finger_of task.hash) seen.written fits
+        (prepared_nowhere site.shape task.hash seen.path.segment seen.held (loaded task seen) key seen.path.segment (bucket_of_role task.hash seen.place) (lock_of task seen seen.place) (finger_of task.hash) seen.written fits
         (nowhere site task seen at all.upto all.visits (is_spot site task seen all.upto c.chosen (Insert value) e).0))
 
     insert_value : value_in word here seen.written.slot ≡ value
     insert_value = ap (λ l. value_in word l seen.written.slot) (sym lock_here)
-        ∙ prepares_record.value site.shape (loaded task seen) seen.path.segment (bucket_of task.hash seen.place) (lock_of task seen seen.place) (finger_of task.hash) seen.written fits
+        ∙ prepares_record.value site.shape (loaded task seen) seen.path.segment (bucket_of_role task.hash seen.place) (lock_of task seen seen.place) (finger_of task.hash) seen.written fits
         ∙ value_is site task is seen v all c.chosen (Insert value) e
 
     word_meta : word (here + 1) ≡ meta
     word_meta = ap (λ l. word (l + 1)) (sym lock_here)
-        ∙ prepares_record.meta site.shape (loaded task seen) seen.path.segment (bucket_of task.hash seen.place) (lock_of task seen seen.place) (finger_of task.hash) seen.written fits
+        ∙ prepares_record.meta site.shape (loaded task seen) seen.path.segment (bucket_of_role task.hash seen.place) (lock_of task seen seen.place) (finger_of task.hash) seen.written fits
         ∙ word_here site task seen all.upto c.chosen at 1 (omega arith) (omega arith)
 
     -- in the home bucket it has no membership bit, and in the probing bucket it has
     abbrev Takes : Role → Type 0
-    Takes p = TakesSlot site.shape (bucket_of task.hash p) seen.written.slot key meta (taken_mark p meta seen.written.slot)
+    Takes p = TakesSlot site.shape (bucket_of_role task.hash p) seen.written.slot key meta (taken_mark p meta seen.written.slot)
 
     takes_home : Takes Home
     takes_home =
@@ -230,17 +230,17 @@ module _ (site : Ground) (task : Task) (is : IsIn site task) (seen : Seen) (v : 
     takes_near p (inl home) = subst Takes (sym home) takes_home
     takes_near p (inr probing) = subst Takes (sym probing) takes_probing
 
-    insert_takes : TakesSlot site.shape (bucket_of task.hash seen.place) seen.written.slot key (word (here + 1)) (taken_mark seen.place meta seen.written.slot)
-    insert_takes = subst (λ w. TakesSlot site.shape (bucket_of task.hash seen.place) seen.written.slot key w (taken_mark seen.place meta seen.written.slot)) (sym word_meta)
+    insert_takes : TakesSlot site.shape (bucket_of_role task.hash seen.place) seen.written.slot key (word (here + 1)) (taken_mark seen.place meta seen.written.slot)
+    insert_takes = subst (λ w. TakesSlot site.shape (bucket_of_role task.hash seen.place) seen.written.slot key w (taken_mark seen.place meta seen.written.slot)) (sym word_meta)
         (takes_near seen.place (insert_near site task is seen v all c.chosen value e))
 
-    bucket_low : (p : Role) → (p ≡ Home) ⊎ (p ≡ Probing) → bucket_of task.hash p < homes
-    bucket_low p (inl home) = subst (λ (q : Role). bucket_of task.hash q < homes) (sym home) (omega arith)
-    bucket_low p (inr probing) = subst (λ (q : Role). bucket_of task.hash q < homes) (sym probing) (omega arith)
+    bucket_low : (p : Role) → (p ≡ Home) ⊎ (p ≡ Probing) → bucket_of_role task.hash p < homes
+    bucket_low p (inl home) = subst (λ (q : Role). bucket_of_role task.hash q < homes) (sym home) (omega arith)
+    bucket_low p (inr probing) = subst (λ (q : Role). bucket_of_role task.hash q < homes) (sym probing) (omega arith)
 
     insert_may : May site (publish_kind task seen (published_at (lock_of task seen seen.place) seen.written) seen.written.mark) v
     insert_may = may_by (Insert value) e refl (here + 1) (taken_mark seen.place meta seen.written.slot) (meta_place (Insert value) e refl) (insert_mark site task is seen v all c.chosen value e)
-        ((may_place site v).insert seen.path.segment (bucket_of task.hash seen.place) seen.written.slot key value (taken_mark seen.place meta seen.written.slot) word insert_none
+        ((may_place site v).insert seen.path.segment (bucket_of_role task.hash seen.place) seen.written.slot key value (taken_mark seen.place meta seen.written.slot) word insert_none
         (bucket_low seen.place (insert_near site task is seen v all c.chosen value e))
         (holders_find.bucket site task.site task.hash seen.path.segment seen.held word key v insert_holds loose seen.place (place_held site task seen all.upto c.chosen))
         (insert_ready site task is seen v all c.chosen value e) insert_value insert_takes)
@@ -250,17 +250,17 @@ module _ (site : Ground) (task : Task) (is : IsIn site task) (seen : Seen) (v : 
   update_may value e =
       let f = update_found site task seen all.upto c.chosen value e in
       let spot = spot_of site task seen all.upto c.chosen in
-      let there : FoundAt site v (loaded task seen) seen.path.segment (bucket_of task.hash seen.place) seen.written.slot key =
+      let there : FoundAt site v (loaded task seen) seen.path.segment (bucket_of_role task.hash seen.place) seen.written.slot key =
       holders_find.at site task.site task.hash seen.path.segment seen.held (loaded task seen) key v (holds_for site task is seen v all (loaded task seen) (knows (Update value) e)) quiet
       seen.place (place_held site task seen all.upto c.chosen) seen.written.slot (hits site task seen at all.upto all.visits spot f) in
       may_by (Update value) e refl (here + 5 + 2 * seen.written.slot) value
       (ap (λ l. l + seen.written.published) lock_here ∙ ap (λ j. here + j) (word_is site task is seen v all c.chosen (Update value) e) ∙ omega arith)
       (mark_is site task is seen v all c.chosen (Update value) e)
-      ((may_change site v).update seen.path.segment (bucket_of task.hash seen.place) seen.written.slot key value (loaded task seen) there)
+      ((may_change site v).update seen.path.segment (bucket_of_role task.hash seen.place) seen.written.slot key value (loaded task seen) there)
 
   -- ---- a remove
   module _ (e : task.change.effect ≡ Remove) where
-    remove_there : FoundAt site v (loaded task seen) seen.path.segment (bucket_of task.hash seen.place) seen.written.slot key
+    remove_there : FoundAt site v (loaded task seen) seen.path.segment (bucket_of_role task.hash seen.place) seen.written.slot key
     remove_there = holders_find.at site task.site task.hash seen.path.segment seen.held (loaded task seen) key v (holds_for site task is seen v all (loaded task seen) (knows Remove e)) quiet
         seen.place (place_held site task seen all.upto c.chosen) seen.written.slot
         (hits site task seen at all.upto all.visits (spot_of site task seen all.upto c.chosen) (remove_found site task seen all.upto c.chosen e))
@@ -278,10 +278,10 @@ module _ (site : Ground) (task : Task) (is : IsIn site task) (seen : Seen) (v : 
         })
 
     -- from the home or the probing bucket
-    plain_may : leaves_note Remove seen.place ≡ false → bucket_of task.hash seen.place < homes
+    plain_may : leaves_note Remove seen.place ≡ false → bucket_of_role task.hash seen.place < homes
         → May site (publish_kind task seen (published_at (lock_of task seen seen.place) seen.written) seen.written.mark) v
     plain_may plain near = may_by Remove e plain (here + 1) (removed_mark meta seen.written.slot) (meta_place Remove e refl) remove_mark
-        ((may_change site v).remove seen.path.segment (bucket_of task.hash seen.place) seen.written.slot key (removed_mark meta seen.written.slot) (loaded task seen) remove_there near remove_frees)
+        ((may_change site v).remove seen.path.segment (bucket_of_role task.hash seen.place) seen.written.slot key (removed_mark meta seen.written.slot) (loaded task seen) remove_there near remove_frees)
 
     -- from the stash
     abbrev owing : Shape → ℕ → ℕ → Owed
@@ -294,7 +294,7 @@ module _ (site : Ground) (task : Task) (is : IsIn site task) (seen : Seen) (v : 
       count = overflow_count (word_in shape (loaded task seen) seen.path.segment (home_of hash) 1);
     }
 
-    module _ (i : ℕ) (stash : bucket_of task.hash seen.place ≡ homes + i) (near : i < stash_buckets) (is_index : stash_index seen.place ≡ i) (leaves : leaves_note Remove seen.place ≡ true) where
+    module _ (i : ℕ) (stash : bucket_of_role task.hash seen.place ≡ homes + i) (near : i < stash_buckets) (is_index : stash_index seen.place ≡ i) (leaves : leaves_note Remove seen.place ≡ true) where
       owed_is : owed task seen ≡ owing site.shape (key_hash site.shape key) i
       owed_is = ap (λ g. owing g task.hash (stash_index seen.place)) is.shape ∙ ap (λ h. owing site.shape h (stash_index seen.place)) is.hash ∙ ap (owing site.shape (key_hash site.shape key)) is_index
 
@@ -322,12 +322,12 @@ module _ (site : Ground) (task : Task) (is : IsIn site task) (seen : Seen) (v : 
           (subst (λ b. FreesSlot seen.written.slot (loaded task seen (bucket_at site.shape seen.path.segment b + 1)) (removed_mark meta seen.written.slot)) stash remove_frees))
 
     remove_by : (p : Role) → seen.place ≡ p → May site (publish_kind task seen (published_at (lock_of task seen seen.place) seen.written) seen.written.mark) v
-    remove_by Home same = plain_may (ap (leaves_note Remove) same) (subst (λ (p : Role). bucket_of task.hash p < homes) (sym same) (omega arith))
-    remove_by Probing same = plain_may (ap (leaves_note Remove) same) (subst (λ (p : Role). bucket_of task.hash p < homes) (sym same) (omega arith))
-    remove_by First same = stash_may 0 (ap (bucket_of task.hash) same) (omega arith) (ap stash_index same) (ap (leaves_note Remove) same)
-    remove_by Next same = plain_may (ap (leaves_note Remove) same) (subst (λ (p : Role). bucket_of task.hash p < homes) (sym same) (omega arith))
-    remove_by Previous same = plain_may (ap (leaves_note Remove) same) (subst (λ (p : Role). bucket_of task.hash p < homes) (sym same) (omega arith))
-    remove_by Second same = stash_may 1 (ap (bucket_of task.hash) same) (omega arith) (ap stash_index same) (ap (leaves_note Remove) same)
+    remove_by Home same = plain_may (ap (leaves_note Remove) same) (subst (λ (p : Role). bucket_of_role task.hash p < homes) (sym same) (omega arith))
+    remove_by Probing same = plain_may (ap (leaves_note Remove) same) (subst (λ (p : Role). bucket_of_role task.hash p < homes) (sym same) (omega arith))
+    remove_by First same = stash_may 0 (ap (bucket_of_role task.hash) same) (omega arith) (ap stash_index same) (ap (leaves_note Remove) same)
+    remove_by Next same = plain_may (ap (leaves_note Remove) same) (subst (λ (p : Role). bucket_of_role task.hash p < homes) (sym same) (omega arith))
+    remove_by Previous same = plain_may (ap (leaves_note Remove) same) (subst (λ (p : Role). bucket_of_role task.hash p < homes) (sym same) (omega arith))
+    remove_by Second same = stash_may 1 (ap (bucket_of_role task.hash) same) (omega arith) (ap stash_index same) (ap (leaves_note Remove) same)
 
   publish_by_deed : (d : Effect) → task.change.effect ≡ d → May site (publish_kind task seen (published_at (lock_of task seen seen.place) seen.written) seen.written.mark) v
   publish_by_deed (Insert value) e = insert_may value e

@@ -21,7 +21,7 @@ use Rattle.world.specs.Holders.{KnowsBucket, TouchesNote}
 use Rattle.world.proofs.holding.Repaying.{may_repay}
 use Rattle.phase.specs.declared.role.Role.{Role}
 use Rattle.phase.specs.declared.role.Role.TheVariants.{Home, Probing, First, Second, Next, Previous}
-use Rattle.phase.specs.Places.{bucket_of, stash_index}
+use Rattle.phase.specs.Places.{bucket_of_role, stash_index}
 use Rattle.phase.specs.Buckets.{words_in}
 use Rattle.phase.specs.Giving.{IsLocated, IsHeld, IsOfHeld}
 use Rattle.phase.specs.Making.{with_mark}
@@ -64,7 +64,7 @@ module _ (site : Ground) (task : Task) (is : IsIn site task) (seen : Seen) (v : 
   at = located_all site task is seen v u.all
 
   -- the record was removed from the stash
-  leaves_by : (d : Effect) (p : Role) → leaves_note d p ≡ true → (d ≡ Remove) × (64 ≤ bucket_of task.hash p)
+  leaves_by : (d : Effect) (p : Role) → leaves_note d p ≡ true → (d ≡ Remove) × (64 ≤ bucket_of_role task.hash p)
   leaves_by (Insert value) p e = absurd (let f : false ≡ true = e in cc)
   leaves_by (Update value) p e = absurd (let f : false ≡ true = e in cc)
   leaves_by Remove Home e = absurd (let f : false ≡ true = e in cc)
@@ -74,13 +74,13 @@ module _ (site : Ground) (task : Task) (is : IsIn site task) (seen : Seen) (v : 
   leaves_by Remove Next e = absurd (let f : false ≡ true = e in cc)
   leaves_by Remove Previous e = absurd (let f : false ≡ true = e in cc)
 
-  removes : (task.change.effect ≡ Remove) × (64 ≤ bucket_of task.hash seen.place)
+  removes : (task.change.effect ≡ Remove) × (64 ≤ bucket_of_role task.hash seen.place)
   removes = leaves_by task.change.effect seen.place u.leaves
 
   abbrev here : ℕ
-  here = bucket_at site.shape s (bucket_of task.hash seen.place)
+  here = bucket_at site.shape s (bucket_of_role task.hash seen.place)
 
-  lock_at_place : (p : Role) → lock_of task seen p ≡ bucket_at site.shape s (bucket_of task.hash p)
+  lock_at_place : (p : Role) → lock_of task seen p ≡ bucket_at site.shape s (bucket_of_role task.hash p)
   lock_at_place p = lock_at site task.site task.hash s at p
 
   gone : changed task seen ≡ with_word (loaded task seen) (here + 1) seen.written.mark
@@ -98,13 +98,13 @@ module _ (site : Ground) (task : Task) (is : IsIn site task) (seen : Seen) (v : 
     p3 = word_at site task seen at u.all.upto u.all.visits Probing 3 (omega arith) (omega arith);
   }
 
-  bucket_low : bucket_of task.hash seen.place < buckets
+  bucket_low : bucket_of_role task.hash seen.place < buckets
   bucket_low = bucket_near task.hash seen.place
 
   far : (c m : ℕ) → c < 64 → m < 32 → with_word (loaded task seen) (here + 1) seen.written.mark (bucket_at site.shape s c + m) ≡ loaded task seen (bucket_at site.shape s c + m)
   far c m low small =
       let big = removes.1 in
-      other_word site.shape (loaded task seen) s (bucket_of task.hash seen.place) 1 seen.written.mark (here + 1) bucket_low (omega arith) refl s c m (bucket_at site.shape s c + m) (omega (arith, low)) small refl
+      other_word site.shape (loaded task seen) s (bucket_of_role task.hash seen.place) 1 seen.written.mark (here + 1) bucket_low (omega arith) refl s c m (bucket_at site.shape s c + m) (omega (arith, low)) small refl
       (λ p q r. omega (arith, q, low, big))
 
   changed_four : HasFour site.shape s b near (changed task seen) f
@@ -134,30 +134,30 @@ module _ (site : Ground) (task : Task) (is : IsIn site task) (seen : Seen) (v : 
         (stashed_of site.shape newest s b) (exact_four (stashed_of site.shape newest s b) is_owed)
 
     abbrev c : ℕ
-    c = bucket_of task.hash n.place
+    c = bucket_of_role task.hash n.place
 
     -- ---- by the bucket of the note
-    bucket_by : (p : Role) → (p ≡ Home) ⊎ (p ≡ Probing) → (bucket_of task.hash p ≡ b) ⊎ (bucket_of task.hash p ≡ probing_of b)
-    bucket_by p (inl e) = inl (ap (bucket_of task.hash) e)
-    bucket_by p (inr e) = inr (ap (bucket_of task.hash) e)
+    bucket_by : (p : Role) → (p ≡ Home) ⊎ (p ≡ Probing) → (bucket_of_role task.hash p ≡ b) ⊎ (bucket_of_role task.hash p ≡ probing_of b)
+    bucket_by p (inl e) = inl (ap (bucket_of_role task.hash) e)
+    bucket_by p (inr e) = inr (ap (bucket_of_role task.hash) e)
 
     store_one : (p : Role) (w : Words) (g : Four) (x : ℕ) → (p ≡ Home) ⊎ (p ≡ Probing) → HasFour site.shape s b near w g
-        → HasFour site.shape s b near (with_word w (bucket_at site.shape s (bucket_of task.hash p) + 1) x) (with_one p x g)
-    store_one p w g x (inl e) h = subst (λ (q : Role). HasFour site.shape s b near (with_word w (bucket_at site.shape s (bucket_of task.hash q) + 1) x) (with_one q x g)) (sym e) (store_h1 site.shape s b near w g x h)
-    store_one p w g x (inr e) h = subst (λ (q : Role). HasFour site.shape s b near (with_word w (bucket_at site.shape s (bucket_of task.hash q) + 1) x) (with_one q x g)) (sym e) (store_p1 site.shape s b near w g x h)
+        → HasFour site.shape s b near (with_word w (bucket_at site.shape s (bucket_of_role task.hash p) + 1) x) (with_one p x g)
+    store_one p w g x (inl e) h = subst (λ (q : Role). HasFour site.shape s b near (with_word w (bucket_at site.shape s (bucket_of_role task.hash q) + 1) x) (with_one q x g)) (sym e) (store_h1 site.shape s b near w g x h)
+    store_one p w g x (inr e) h = subst (λ (q : Role). HasFour site.shape s b near (with_word w (bucket_at site.shape s (bucket_of_role task.hash q) + 1) x) (with_one q x g)) (sym e) (store_p1 site.shape s b near w g x h)
 
     store_three : (p : Role) (w : Words) (g : Four) (x : ℕ) → (p ≡ Home) ⊎ (p ≡ Probing) → HasFour site.shape s b near w g
-        → HasFour site.shape s b near (with_word w (bucket_at site.shape s (bucket_of task.hash p) + 3) x) (with_three p x g)
-    store_three p w g x (inl e) h = subst (λ (q : Role). HasFour site.shape s b near (with_word w (bucket_at site.shape s (bucket_of task.hash q) + 3) x) (with_three q x g)) (sym e) (store_h3 site.shape s b near w g x h)
-    store_three p w g x (inr e) h = subst (λ (q : Role). HasFour site.shape s b near (with_word w (bucket_at site.shape s (bucket_of task.hash q) + 3) x) (with_three q x g)) (sym e) (store_p3 site.shape s b near w g x h)
+        → HasFour site.shape s b near (with_word w (bucket_at site.shape s (bucket_of_role task.hash p) + 3) x) (with_three p x g)
+    store_three p w g x (inl e) h = subst (λ (q : Role). HasFour site.shape s b near (with_word w (bucket_at site.shape s (bucket_of_role task.hash q) + 3) x) (with_three q x g)) (sym e) (store_h3 site.shape s b near w g x h)
+    store_three p w g x (inr e) h = subst (λ (q : Role). HasFour site.shape s b near (with_word w (bucket_at site.shape s (bucket_of_role task.hash q) + 3) x) (with_three q x g)) (sym e) (store_p3 site.shape s b near w g x h)
 
-    one_here : (p : Role) (w : Words) (g : Four) → (p ≡ Home) ⊎ (p ≡ Probing) → HasFour site.shape s b near w g → w (bucket_at site.shape s (bucket_of task.hash p) + 1) ≡ one_of p g
-    one_here p w g (inl e) h = subst (λ (q : Role). w (bucket_at site.shape s (bucket_of task.hash q) + 1) ≡ one_of q g) (sym e) h.h1
-    one_here p w g (inr e) h = subst (λ (q : Role). w (bucket_at site.shape s (bucket_of task.hash q) + 1) ≡ one_of q g) (sym e) h.p1
+    one_here : (p : Role) (w : Words) (g : Four) → (p ≡ Home) ⊎ (p ≡ Probing) → HasFour site.shape s b near w g → w (bucket_at site.shape s (bucket_of_role task.hash p) + 1) ≡ one_of p g
+    one_here p w g (inl e) h = subst (λ (q : Role). w (bucket_at site.shape s (bucket_of_role task.hash q) + 1) ≡ one_of q g) (sym e) h.h1
+    one_here p w g (inr e) h = subst (λ (q : Role). w (bucket_at site.shape s (bucket_of_role task.hash q) + 1) ≡ one_of q g) (sym e) h.p1
 
-    three_here : (p : Role) (w : Words) (g : Four) → (p ≡ Home) ⊎ (p ≡ Probing) → HasFour site.shape s b near w g → w (bucket_at site.shape s (bucket_of task.hash p) + 3) ≡ three_of p g
-    three_here p w g (inl e) h = subst (λ (q : Role). w (bucket_at site.shape s (bucket_of task.hash q) + 3) ≡ three_of q g) (sym e) h.h3
-    three_here p w g (inr e) h = subst (λ (q : Role). w (bucket_at site.shape s (bucket_of task.hash q) + 3) ≡ three_of q g) (sym e) h.p3
+    three_here : (p : Role) (w : Words) (g : Four) → (p ≡ Home) ⊎ (p ≡ Probing) → HasFour site.shape s b near w g → w (bucket_at site.shape s (bucket_of_role task.hash p) + 3) ≡ three_of p g
+    three_here p w g (inl e) h = subst (λ (q : Role). w (bucket_at site.shape s (bucket_of_role task.hash q) + 3) ≡ three_of q g) (sym e) h.h3
+    three_here p w g (inr e) h = subst (λ (q : Role). w (bucket_at site.shape s (bucket_of_role task.hash q) + 3) ≡ three_of q g) (sym e) h.p3
 
     three_stays : (p : Role) (x : ℕ) (g : Four) → three_of p (with_one p x g) ≡ three_of p g
     three_stays Home x g = refl
@@ -173,7 +173,7 @@ module _ (site : Ground) (task : Task) (is : IsIn site task) (seen : Seen) (v : 
 
     -- ---- a store to a word of it
     module _ (w : Words) (g k : Four) (has : HasFour site.shape s b near w g) (knows : Knows (IsOfHeld task.site task.hash s seen.held) w v) where
-      holds_here : (p : Role) → IsHeld seen.held p → KnowsBucket site.shape v s (bucket_of task.hash p) w
+      holds_here : (p : Role) → IsHeld seen.held p → KnowsBucket site.shape v s (bucket_of_role task.hash p) w
       holds_here p held = holders_find.bucket site task.site task.hash s seen.held w task.change.key v (holds_for site task is seen v u.all w knows) u.settled p held
 
       touches : (m x : ℕ) → (m ≡ 1) ⊎ (m ≡ 3) → core_in_bucket m x ≡ core_in_bucket m (w (bucket_at site.shape s c + m)) → m < 32
