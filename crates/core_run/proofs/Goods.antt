@@ -24,7 +24,7 @@ use Rattle.core_run.specs.declared.keeper.Keeper.{Keeper}
 use Rattle.core_run.specs.declared.keeper.Keeper.TheVariants.{Restarting, Open, Closing, Closed}
 use Rattle.core_run.specs.State.{State, waiting_from}
 use Rattle.core_run.specs.Running.{Setup, IsSetup, site_in, start_of, IsOpen, IsRestarting, IsClosing, IsRunningBy}
-use Rattle.core_run.specs.States.{entries_of, HadNoRooms, WereSpent, IsGoodMoment, MomentsAreGood}
+use Rattle.core_run.specs.States.{entries_so_far, HadNoRooms, WereSpent, IsGoodMoment, MomentsAreGood}
 use Rattle.core_run.proofs.events.Opened.{same_core as same_restart}
 use Rattle.core_run.proofs.events.Closes.{same_core as same_close}
 use Rattle.core_run.proofs.events.Locks.{were_spent, were_taken}
@@ -131,8 +131,8 @@ module _ (good : HoldingIsGood) (quiet : ThroughIsQuiet) (maps : ThroughHasMap) 
       subst IsGoodCore (sym (same_close t op core r)) (record {
         legal = (open_is_good r.before r.was_open).legal;
         had_no_room = (open_is_good r.before r.was_open).had_no_room;
-        full = were_taken t.shape (start_of t) r.before r.events now refl (entries_of r.before) (open_is_good r.before r.was_open).full;
-        spent = were_spent others t.shape r.before.words r.before.trace r.events (entries_of r.before) (open_is_good r.before r.was_open).spent;
+        full = were_taken t.shape (start_of t) r.before r.events now refl (entries_so_far r.before) (open_is_good r.before r.was_open).full;
+        spent = were_spent others t.shape r.before.words r.before.trace r.events (entries_so_far r.before) (open_is_good r.before r.was_open).spent;
         media = λ medium whole possible.
             let kept = kept_at quiet maps pairs cuts t is opening has r.before r.was_open r.run_out r.events medium whole possible in
             record {

@@ -22,7 +22,7 @@ use Rattle.core_run.specs.declared.keeper.Keeper.TheVariants.{Closed}
 use Rattle.core_run.specs.State.{State}
 use Rattle.core_run.specs.Run.{cut_of, medium_words}
 use Rattle.core_run.specs.Running.{Setup, IsSetup, start_of, IsRunning}
-use Rattle.core_run.specs.States.{entries_of, IsGoodMoment, IsGoodMedium, MomentsAreGood, IsClosedWell, ClosedIsClosed, ToldsFollow}
+use Rattle.core_run.specs.States.{entries_so_far, IsGoodMoment, IsGoodMedium, MomentsAreGood, IsClosedWell, ClosedIsClosed, ToldsFollow}
 use Rattle.core_run.specs.Ends.{RunsAreWell}
 use Rattle.core_run.specs.Opening.{opening_of}
 use Rattle.core_run.specs.Sessions.{end_state, RunsAreSessions}
@@ -84,10 +84,10 @@ module _ (moments : MomentsAreGood) (closed : ClosedIsClosed) (follow : ToldsFol
         ∙ ap (λ i. s.core.words i) (sym at) ∙ is_last);
   }
 
-  spent : (cut : Option ℕ) → (cut ≡ None → s.keeper ≡ Closed) → (e : Entry) → Contains (entries_of s.core) e → e.reply ≡ Spent → draws (entries_of s.core) < 2 ^ 63
+  spent : (cut : Option ℕ) → (cut ≡ None → s.keeper ≡ Closed) → (e : Entry) → Contains (entries_so_far s.core) e → e.reply ≡ Spent → draws (entries_so_far s.core) < 2 ^ 63
       → (true ≡ true → not (is_some cut) ≡ true) → HasSpentBucket t.shape (left_by cut)
   spent None at_none e among refused few ended =
-      elim (holds_of (λ (x : Entry). x.reply ≡ Spent → (2 ^ 63 ≤ draws (entries_of s.core)) ⊎ HasSpentLock t.shape s.core.words) (entries_of s.core) e good.spent among refused) [
+      elim (holds_of (λ (x : Entry). x.reply ≡ Spent → (2 ^ 63 ≤ draws (entries_so_far s.core)) ⊎ HasSpentLock t.shape s.core.words) (entries_so_far s.core) e good.spent among refused) [
         | inl many ↦ absurd (omega (arith, many, few))
         | inr lock ↦ spent_bucket lock
       ]
@@ -110,7 +110,7 @@ module _ (moments : MomentsAreGood) (closed : ClosedIsClosed) (follow : ToldsFol
         after_cut = λ _. medium.left;
         had_no_room = good.had_no_room;
         none_free = λ e among full slot within is_free.
-            holds_of (λ (x : Entry). x.reply ≡ Full → HasNoFreeSlot t.shape (start_of t) s.core) (entries_of s.core) e good.full among full
+            holds_of (λ (x : Entry). x.reply ≡ Full → HasNoFreeSlot t.shape (start_of t) s.core) (entries_so_far s.core) e good.full among full
             (slice_index (left_by cut)) (left_possible cut at_none) slot within is_free;
         spent = spent cut at_none;
       }

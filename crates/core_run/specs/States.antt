@@ -41,8 +41,8 @@ pub record IsGoodMedium (t : Setup) (opening : Map) (core : Core) (medium : List
   pub left : IsLeft t.shape (slice_index medium) (replay opening (weave (histories core))) (undrawn t.scripts (tolds_of core))
 
 -- the entries of all callers so far, those of open calls that drew among them
-abbrev pub entries_of : Core → List Entry
-entries_of core = all_of (histories core)
+abbrev pub entries_so_far : Core → List Entry
+entries_so_far core = all_of (histories core)
 
 -- where a call was refused for want of room, the map had none at its place
 abbrev pub HadNoRooms : Shape → Map → List Entry → Type 0
@@ -50,7 +50,7 @@ HadNoRooms shape opening entries = AllByRecursion (λ e. HadNoRoom shape (map_at
 
 -- where a call was told that the table is full, each slot that was free in the image is taken in whatever a power cut may leave
 abbrev pub WereTaken : Setup → Core → Type 0
-WereTaken t core = AllByRecursion (λ e. e.reply ≡ Full → HasNoFreeSlot t.shape (start_of t) core) (entries_of core)
+WereTaken t core = AllByRecursion (λ e. e.reply ≡ Full → HasNoFreeSlot t.shape (start_of t) core) (entries_so_far core)
 
 -- where a call was refused for want of a number, 2 ^ 63 changes are drawn, or some lock word of a live segment has the last version
 abbrev pub WereSpent : Shape → Words → List Entry → Type 0
@@ -62,9 +62,9 @@ pub record IsGoodMoment (t : Setup) (opening : Map) (s : State) : Type 0 where
   pub legal : IsLegal opening (histories s.core)
   pub media : (medium : List ℕ) → length medium ≡ words_of t.shape → IsPossible (words_of t.shape) (start_of t) s.core.trace (slice_index medium)
       → IsGoodMedium t opening s.core medium
-  pub had_no_room : HadNoRooms t.shape opening (entries_of s.core)
+  pub had_no_room : HadNoRooms t.shape opening (entries_so_far s.core)
   pub full : WereTaken t s.core
-  pub spent : WereSpent t.shape s.core.words (entries_of s.core)
+  pub spent : WereSpent t.shape s.core.words (entries_so_far s.core)
 
 abbrev pub MomentsAreGood : Type 0
 MomentsAreGood = (t : Setup) (s : State) (opening : Map) → IsSetup t → IsRunning t s → HasPairsOf t.shape (start_of t) opening → IsGoodMoment t opening s

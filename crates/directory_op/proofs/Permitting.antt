@@ -19,7 +19,7 @@ use Rattle.world.proofs.holders.directing.Directing.{may_direct}
 use Rattle.split_op.specs.Copied.{split_head, side_head, copied_words}
 use Rattle.directory_op.specs.declared.op.Stage.TheVariants.{Fill, Deepen, GoLive, Live, Enter, Entered}
 use Rattle.directory_op.specs.declared.op.DirectoryOp.{DirectoryOp}
-use Rattle.directory_op.specs.Places.{entry_word, live_head}
+use Rattle.directory_op.specs.Places.{entry_word_at, live_head}
 use Rattle.directory_op.specs.DirectoryPart.{facts_of}
 use Rattle.directory_op.specs.Fits.{side_depth, side_pattern, with_side, without_side, IsSideWord, SplitStands, SideIsNew, SuitsStore}
 use Rattle.directory_op.proofs.Words.{doubled, entry_is, entry_no_root, entry_no_slot, slot_behind, live_header}
@@ -83,7 +83,7 @@ module _ (site : Ground) (here : Site) (call : Call) (op : DirectoryOp) (v : Vie
 
   -- ---- the stores
   module _ (place value : ℕ) (t : SuitsStore site here op call (Fill place value) v) where
-    pub fill_may : MayAt site (sets (entry_word op.copied.whole.site.geometry op.root place) value) v
+    pub fill_may : MayAt site (sets (entry_word_at op.copied.whole.site.geometry op.root place) value) v
     fill_may =
         let new = t.at.filling.new in
         let doubles = t.at.filling.doubles in
@@ -194,7 +194,7 @@ module _ (site : Ground) (here : Site) (call : Call) (op : DirectoryOp) (v : Vie
 
   -- ---- the entries
   module _ (index : ℕ) (t : SuitsStore site here op call (Enter index) v) where
-    pub enter_may : MayAt site (sets (entry_word op.copied.whole.site.geometry op.root index) n) v
+    pub enter_may : MayAt site (sets (entry_word_at op.copied.whole.site.geometry op.root index) n) v
     enter_may =
         let live = t.at.entering.live in
         let root = t.at.entering.root in

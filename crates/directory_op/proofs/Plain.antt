@@ -31,7 +31,7 @@ use Rattle.directory_op.specs.declared.op.Stage.TheVariants.{Fill, Filled, Deepe
 use Rattle.directory_op.specs.declared.op.DirectoryStep.{DirectoryStep}
 use Rattle.directory_op.specs.declared.op.DirectoryStep.TheVariants.{LoadHead, LoadSideHead, TakeGuard, AskPower, LoadRoot, LoadEntry, Store, GiveGuard, Ended}
 use Rattle.directory_op.specs.declared.op.DirectoryOp.{DirectoryOp}
-use Rattle.directory_op.specs.Places.{entry_word, live_head}
+use Rattle.directory_op.specs.Places.{entry_word_at, live_head}
 use Rattle.directory_op.specs.Steps.{shape_of, next_store, wanted_in}
 use Rattle.directory_op.specs.Fits.{SuitsStage, SuitsStore, SuitsStep, KeepsPublished}
 use Rattle.directory_op.specs.DirectoryPart.{HandsOnSplit, goes_on, outcome_at, directory_part, BeginsAsPart, BeginsUndecided, HandsOnPublished, EndsOff}
@@ -91,7 +91,7 @@ module _ (site : Ground) (ground : IsGround site) where
         let near = s.low in
         let twice : 2 ^ op.root ≡ 2 * 2 ^ depth_in op.copied.whole.head = ap (λ k. 2 ^ k) root ∙ doubled (depth_in op.copied.whole.head) in
         let one : op.root - 1 ≡ depth_in op.copied.whole.head = omega (arith, root) in
-        load_within (entry_word (shape_of op) (op.root - 1) (place / 2))
+        load_within (entry_word_at (shape_of op) (op.root - 1) (place / 2))
         (entry_near site ground here call op s.filling.new.split.is.located.shape (op.root - 1) (place / 2) (omega (arith, deep)) (subst (λ k. place / 2 < 2 ^ k) (sym one) (omega (arith, near, twice))))
     within_in (Store stage) s = stage_within stage s
     within_in GiveGuard s = subst (λ (g : Shape). IsWithin shape (want.Store (directory_guard g) 0)) (sym s.live.split.is.located.shape) (record { word = omega arith; line = λ l e. absurd (cc) })
@@ -128,7 +128,7 @@ module _ (site : Ground) (here : Site) (call : Call) (op : DirectoryOp) (v : Vie
   }
   puts_in AskPower s = record { stores = λ k y e. absurd (cc); exchanges = λ k a b e. absurd (cc) }
   puts_in LoadRoot s = load_puts root_word
-  puts_in (LoadEntry place) s = load_puts (entry_word (shape_of op) (op.root - 1) (place / 2))
+  puts_in (LoadEntry place) s = load_puts (entry_word_at (shape_of op) (op.root - 1) (place / 2))
   puts_in (Store stage) s = by_wanted op.rounds (next_store op stage) PutsWord done_puts (λ p e. store_puts p.0 p.1 (store_small stage s p e)) (λ line has. flush_puts line) fence_puts
   puts_in GiveGuard s = store_puts (directory_guard (shape_of op)) 0 (omega arith)
   puts_in (Ended end) s = done_puts

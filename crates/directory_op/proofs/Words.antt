@@ -15,7 +15,7 @@ use Rattle.world.specs.areas.Kinds.{is_in_slot}
 use Rattle.world.specs.areas.Splitting.{IsHeader}
 use Rattle.world.proofs.holders.directing.Known.{front_far}
 use Rattle.world.proofs.fitting.OneHolder.{one_slot, head_in_slot}
-use Rattle.directory_op.specs.Places.{entries_there, entry_word, live_head}
+use Rattle.directory_op.specs.Places.{entries_there, entry_word_at, live_head}
 
 -- ---- numbers
 -- an area that an image may have has all its entries
@@ -26,8 +26,8 @@ pub doubled : (depth : ℕ) → 2 ^ suc depth ≡ 2 * 2 ^ depth
 doubled depth = let e = pow-suc 2 depth in omega (arith, e)
 
 -- ---- the words that are meant
-pub entry_is : (here shape : Shape) (depth index : ℕ) → here ≡ shape → depth ≤ shape.depth → shape.depth ≤ most_depth → index < 2 ^ depth → entry_word here depth index ≡ entry_at depth index
-entry_is here shape depth index same low most near = subst (λ (s : Shape). entry_word s depth index ≡ entry_at depth index) (sym same)
+pub entry_is : (here shape : Shape) (depth index : ℕ) → here ≡ shape → depth ≤ shape.depth → shape.depth ≤ most_depth → index < 2 ^ depth → entry_word_at here depth index ≡ entry_at depth index
+entry_is here shape depth index same low most near = subst (λ (s : Shape). entry_word_at s depth index ≡ entry_at depth index) (sym same)
     (ap (λ b. cond (b && nat_lt index (entries_there depth)) (entry_at depth index) root_word) (le-leb depth shape.depth low)
     ∙ ap (λ b. cond b (entry_at depth index) root_word) (lt-ltb index (entries_there depth) (subst (λ n. index < n) (sym (all_entries depth (omega (arith, low, most)))) near)))
 

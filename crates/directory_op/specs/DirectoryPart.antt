@@ -32,7 +32,7 @@ use Rattle.directory_op.specs.declared.op.Stage.TheVariants.{GoLive, Live, Enter
 use Rattle.directory_op.specs.declared.op.DirectoryStep.{DirectoryStep}
 use Rattle.directory_op.specs.declared.op.DirectoryStep.TheVariants.{LoadHead, LoadSideHead, TakeGuard, AskPower, LoadRoot, LoadEntry, Store, GiveGuard, Ended}
 use Rattle.directory_op.specs.declared.op.DirectoryOp.{DirectoryOp}
-use Rattle.directory_op.specs.Places.{entry_word}
+use Rattle.directory_op.specs.Places.{entry_word_at}
 use Rattle.directory_op.specs.Steps.{directed, shape_of, next_store, wanted, taken}
 use Rattle.directory_op.specs.Left.{left_of, events_in, most_events, is_trying, left_alone, waiting_of}
 use Rattle.directory_op.specs.Fits.{SuitsStep, KeepsPublished}
@@ -56,7 +56,7 @@ kind_in op LoadSideHead = of_structure (reads (head_word (shape_of op) op.copied
 kind_in op TakeGuard = of_structure (takes of_directory op.copied.whole.site.caller)
 kind_in op AskPower = of_call asks_power
 kind_in op LoadRoot = of_structure (reads root_word)
-kind_in op (LoadEntry place) = of_structure (reads (entry_word (shape_of op) (depth_above op.root) (entry_above place)))
+kind_in op (LoadEntry place) = of_structure (reads (entry_word_at (shape_of op) (depth_above op.root) (entry_above place)))
 kind_in op (Store stage) = stage_kind op stage (rounds_wanted op.rounds (next_store op stage))
 kind_in op GiveGuard = of_structure (gives of_directory)
 kind_in op (Ended end) = of_call (peeks root_word)

@@ -9,8 +9,8 @@ abbrev pub entries_there : ℕ → ℕ
 entries_there depth = if nat_le depth most_depth then entries_of depth else 0
 
 -- the word of an entry; an area or an entry that the image has not gives the root's word
-abbrev pub entry_word : Shape → ℕ → ℕ → ℕ
-entry_word shape depth index = if nat_le depth shape.depth && nat_lt index (entries_there depth) then entry_at depth index else root_word
+abbrev pub entry_word_at : Shape → ℕ → ℕ → ℕ
+entry_word_at shape depth index = if nat_le depth shape.depth && nat_lt index (entries_there depth) then entry_at depth index else root_word
 
 -- how many entries of a root's depth a segment with this header has, and the first and the last of them
 abbrev pub run_of : ℕ → ℕ → ℕ

@@ -18,7 +18,7 @@ use Rattle.directory_op.specs.declared.op.Stage.TheVariants.{Fill, Filled, Deepe
 use Rattle.directory_op.specs.declared.op.DirectoryStep.{DirectoryStep}
 use Rattle.directory_op.specs.declared.op.DirectoryStep.TheVariants.{LoadHead, LoadSideHead, TakeGuard, AskPower, LoadRoot, LoadEntry, Store, GiveGuard, Ended}
 use Rattle.directory_op.specs.declared.op.DirectoryOp.{DirectoryOp}
-use Rattle.directory_op.specs.Places.{entries_there, entry_word, side_first, side_last, live_head}
+use Rattle.directory_op.specs.Places.{entries_there, entry_word_at, side_first, side_last, live_head}
 
 -- it has done nothing yet
 abbrev pub directed : Copied → DirectoryOp
@@ -31,13 +31,13 @@ shape_of op = op.copied.whole.site.geometry
 -- ---- the stores
 -- THE STORE that comes next in a stage: its word and its value. In the area that is one deeper each entry of the root's area stands twice
 abbrev pub next_store : DirectoryOp → Stage → Option (ℕ × ℕ)
-next_store op (Fill place value) = Some (entry_word (shape_of op) op.root place, value)
+next_store op (Fill place value) = Some (entry_word_at (shape_of op) op.root place, value)
 next_store op Filled = None
 next_store op Deepen = Some (root_word, op.root)
 next_store op Deepened = None
 next_store op GoLive = Some (head_word (shape_of op) op.copied.side, live_head op.side_head)
 next_store op Live = None
-next_store op (Enter index) = Some (entry_word (shape_of op) op.root index, op.copied.side)
+next_store op (Enter index) = Some (entry_word_at (shape_of op) op.root index, op.copied.side)
 next_store op Entered = None
 
 -- behind an entry that is not the last one: the next one gets the same value, or one that is loaded first
@@ -68,7 +68,7 @@ wanted_in op LoadSideHead = want.Load (head_word (shape_of op) op.copied.side)
 wanted_in op TakeGuard = want.Exchange (directory_guard (shape_of op)) free_guard op.copied.whole.site.caller
 wanted_in op AskPower = want.Power
 wanted_in op LoadRoot = want.Load root_word
-wanted_in op (LoadEntry place) = want.Load (entry_word (shape_of op) (depth_above op.root) (entry_above place))
+wanted_in op (LoadEntry place) = want.Load (entry_word_at (shape_of op) (depth_above op.root) (entry_above place))
 wanted_in op (Store stage) = event_wanted op.rounds (next_store op stage)
 wanted_in op GiveGuard = want.Store (directory_guard (shape_of op)) free_guard
 wanted_in op (Ended end) = want.Done

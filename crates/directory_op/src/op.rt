@@ -4,7 +4,7 @@ ghost use Rattle.std.specs.Prelude.{◌≡◌};
 ghost use Rattle.directory_op.specs.Steps.{directed, next_store, stage_after, settled_to, wanted, taken, power_step, with_root, passed, end_of};
 ghost use Rattle.directory_op.specs.DirectoryPart.{goes_on};
 
-use crate::places::{entries_there, entry_word, live_head, side_first, side_last};
+use crate::places::{entries_there, entry_word_at, live_head, side_first, side_last};
 use image_layout::{FREE_GUARD, POWER_ON, ROOT_WORD, depth_above, entry_above, half_of_entry};
 use op_core::{Ans, Machine, Want};
 use rounds::Rounds;
@@ -104,13 +104,16 @@ impl DirectoryOp {
     {
         let geometry = &self.copied.whole.site.geometry;
         match stage {
-            Stage::Fill(place, value) => Some((entry_word(geometry, self.root, place), value)),
+            Stage::Fill(place, value) => Some((entry_word_at(geometry, self.root, place), value)),
             Stage::Deepen => Some((ROOT_WORD, self.root)),
             Stage::GoLive => Some((
                 head_word(geometry, self.copied.side),
                 live_head(self.side_head),
             )),
-            Stage::Enter(index) => Some((entry_word(geometry, self.root, index), self.copied.side)),
+            Stage::Enter(index) => Some((
+                entry_word_at(geometry, self.root, index),
+                self.copied.side,
+            )),
             Stage::Filled | Stage::Deepened | Stage::Live | Stage::Entered => None,
         }
     }
@@ -241,7 +244,7 @@ impl Machine for DirectoryOp {
             DirectoryStep::AskPower => Want::Power,
             DirectoryStep::LoadRoot => Want::Load(ROOT_WORD),
             DirectoryStep::LoadEntry(place) => {
-                Want::Load(entry_word(geometry, depth_above(self.root), entry_above(place)))
+                Want::Load(entry_word_at(geometry, depth_above(self.root), entry_above(place)))
             }
             DirectoryStep::Store(stage) => self.rounds.event(self.next_store(stage)),
             DirectoryStep::GiveGuard => Want::Store(geometry.directory_guard(), FREE_GUARD),

@@ -2,7 +2,7 @@
 
 ghost use Rattle.std.specs.Prelude.{◌≡◌, ◌<◌, ◌≤◌};
 ghost use Rattle.image_layout.specs.Places.{entries_of, most_depth};
-ghost use Rattle.directory_op.specs.Places.{entries_there, entry_word, run_of, side_first, side_last, live_head};
+ghost use Rattle.directory_op.specs.Places.{entries_there, entry_word_at, run_of, side_first, side_last, live_head};
 
 use image_layout::{Geometry, MOST_DEPTH, ROOT_WORD, entries_of};
 use segment_head::split::with_state;
@@ -21,8 +21,8 @@ pub fn entries_there(depth: u64) -> u64
 }
 
 /// The word of an entry; an area or an entry that the image has not gives the root's word.
-pub fn entry_word(geometry: &Geometry, depth: u64, index: u64) -> u64
-    ensures { result ≡ entry_word geometry.now depth index }
+pub fn entry_word_at(geometry: &Geometry, depth: u64, index: u64) -> u64
+    ensures { result ≡ entry_word_at geometry.now depth index }
 {
     if depth <= geometry.depth() && index < entries_there(depth) {
         geometry.entry_at(depth, index)

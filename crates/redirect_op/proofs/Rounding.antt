@@ -30,7 +30,7 @@ use Rattle.rounds.proofs.Lines.{lines_are_stored}
 use Rattle.rounds.proofs.Wanted.{by_event, flushed_wants}
 use Rattle.rounds.proofs.Settling.{fence_dirty, round_behind, begun_settled}
 use Rattle.repair_op.specs.declared.guarded.Guarded.{Guarded}
-use Rattle.directory_op.specs.Places.{entry_word}
+use Rattle.directory_op.specs.Places.{entry_word_at}
 use Rattle.directory_op.proofs.Words.{entry_is, entry_no_root, entry_same, entry_no_slot, entry_from}
 use Rattle.directory_op.proofs.stages.Rounding.{line_within}
 use Rattle.redirect_op.specs.declared.step.RedirectStep.TheVariants.{Store, Settle}
@@ -96,13 +96,13 @@ module _ (site : Ground) (ground : IsGround site) (here : Site) (call : Call) (o
     abbrev entry : ℕ
     entry = entry_at op.root index
 
-    pub entry_here : entry_word (shape_of op) op.root index ≡ entry
+    pub entry_here : entry_word_at (shape_of op) op.root index ≡ entry
     entry_here = entry_is (shape_of op) shape op.root index rooted.guarding.here_is.shape rooted.within ground.shape.depth c.of_side.index
 
     pub side_here : side_of op ≡ rooted.guarding.side
     side_here = ap slot_or_zero rooted.guarding.side_is
 
-    pub entry_low : entry_word (shape_of op) op.root index < words_of shape
+    pub entry_low : entry_word_at (shape_of op) op.root index < words_of shape
     entry_low = subst (λ i. i < words_of shape) (sym entry_here) (by (first_segment shape) shape.segments entry (entry_before shape op.root index rooted.within c.of_side.index))
       where
         by : (f s i : ℕ) → i < f → i < f + 2144 * s
@@ -126,7 +126,7 @@ module _ (site : Ground) (ground : IsGround site) (here : Site) (call : Call) (o
 
     -- ---- behind the store
     abbrev w : ℕ
-    w = entry_word (shape_of op) op.root index
+    w = entry_word_at (shape_of op) op.root index
 
     module _ (n : ℕ) (on : rounds_stores op.rounds next ≡ true) where
       abbrev entered : View

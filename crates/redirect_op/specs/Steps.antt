@@ -13,7 +13,7 @@ use Rattle.op_core.specs.declared.why.Why.TheVariants.{Busy}
 use Rattle.way.specs.Ways.{head_word}
 use Rattle.rounds.specs.Steps.{rounds_stores, rounds_wanted, event_wanted, rounds_taken}
 use Rattle.rounds.specs.Steps as rounds
-use Rattle.directory_op.specs.Places.{entry_word, side_first, side_last}
+use Rattle.directory_op.specs.Places.{entry_word_at, side_first, side_last}
 use Rattle.repair_op.specs.declared.guarded.Guarded.{Guarded}
 use Rattle.repair_op.specs.Guarded.{guard_of}
 use Rattle.redirect_op.specs.declared.step.RedirectEnd.{RedirectEnd}
@@ -48,7 +48,7 @@ side_of op = slot_or_zero op.guarded.side
 
 -- the store to an entry: its word and its value
 abbrev pub store_to : RedirectOp → ℕ → ℕ × ℕ
-store_to op index = (entry_word (shape_of op) op.root index, side_of op)
+store_to op index = (entry_word_at (shape_of op) op.root index, side_of op)
 
 -- ---- what an answer makes of it
 -- the same, at another step
@@ -105,7 +105,7 @@ module _ (op : RedirectOp) where
   abbrev pub wanted_in : RedirectStep → Want
   wanted_in Guard = want.Exchange (directory_guard (shape_of op)) free_guard op.guarded.site.caller
   wanted_in Root = want.Load root_word
-  wanted_in (Entry index) = want.Load (entry_word (shape_of op) op.root index)
+  wanted_in (Entry index) = want.Load (entry_word_at (shape_of op) op.root index)
   wanted_in (Head index slot) = want.Load (head_word (shape_of op) slot)
   wanted_in (Store index) = event_wanted op.rounds (Some (store_to op index))
   wanted_in Settle = event_wanted op.rounds None

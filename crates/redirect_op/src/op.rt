@@ -5,7 +5,7 @@ ghost use Rattle.op_core.specs.declared.want.Want.TheVariants as want;
 ghost use Rattle.redirect_op.specs.Steps.{begun, side_head, store_to, behind, rooted, met_head, stored, settled, busy, wanted, taken, end_of, is_redirected};
 
 use crate::step::{RedirectEnd, RedirectStep};
-use directory_op::places::{entry_word, side_first, side_last};
+use directory_op::places::{entry_word_at, side_first, side_last};
 use image_layout::state::NO_VERSION;
 use image_layout::{FREE_GUARD, ROOT_WORD};
 use op_core::{Ans, Machine, Want, Why};
@@ -63,7 +63,7 @@ impl RedirectOp {
     fn store_to(&self, index: u64) -> (u64, u64)
         ensures { result ≡ store_to self.now index }
     {
-        let word = entry_word(&self.guarded.site.geometry, self.root, index);
+        let word = entry_word_at(&self.guarded.site.geometry, self.root, index);
         (word, self.guarded.side.unwrap_or(0))
     }
 
@@ -166,7 +166,7 @@ fn want_of(op: &RedirectOp) -> Want
             )
         }
         RedirectStep::Root => Want::Load(ROOT_WORD),
-        RedirectStep::Entry(index) => Want::Load(entry_word(geometry, op.root, index)),
+        RedirectStep::Entry(index) => Want::Load(entry_word_at(geometry, op.root, index)),
         RedirectStep::Head(_, slot) => Want::Load(head_word(geometry, slot)),
         RedirectStep::Store(index) => op.rounds.event(Some(op.store_to(index))),
         RedirectStep::Settle => op.rounds.event(None),

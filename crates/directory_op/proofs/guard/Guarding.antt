@@ -31,7 +31,7 @@ use Rattle.directory_op.specs.declared.op.DirectoryEnd.TheVariants.{Off}
 use Rattle.directory_op.specs.declared.op.Stage.TheVariants.{Fill, GoLive}
 use Rattle.directory_op.specs.declared.op.DirectoryStep.TheVariants.{LoadEntry, Store, Ended}
 use Rattle.directory_op.specs.declared.op.DirectoryOp.{DirectoryOp}
-use Rattle.directory_op.specs.Places.{entry_word}
+use Rattle.directory_op.specs.Places.{entry_word_at}
 use Rattle.directory_op.specs.Steps.{shape_of, rooted, is_over, with_root}
 use Rattle.directory_op.specs.Fits.{side_depth, side_pattern, IsGuarding, IsDirected, FillsFrom, KeepsPublished, SuitsStep, IsKeptWord}
 use Rattle.directory_op.proofs.Words.{doubled, entry_is, slot_behind}
@@ -170,7 +170,7 @@ module _ (site : Ground) (here : Site) (call : Call) (words : Words) (views : Li
   -- ---- an entry
   module _ (place n : ℕ) (small : n < 2 ^ 64) (s : FillsFrom site here op call place v) where
     abbrev entry : ℕ
-    entry = entry_word op.copied.whole.site.geometry (op.root - 1) (place / 2)
+    entry = entry_word_at op.copied.whole.site.geometry (op.root - 1) (place / 2)
 
     abbrev entry_view : View
     entry_view = view_then shape (reads entry) n v
@@ -182,7 +182,7 @@ module _ (site : Ground) (here : Site) (call : Call) (words : Words) (views : Li
         let near = s.low in
         let one : op.root - 1 ≡ depth_in op.copied.whole.head = omega (arith, root) in
         let twice : 2 ^ op.root ≡ 2 * 2 ^ depth_in op.copied.whole.head = ap (λ k. 2 ^ k) root ∙ doubled (depth_in op.copied.whole.head) in
-        ap (λ k. entry_word op.copied.whole.site.geometry k (place / 2)) one
+        ap (λ k. entry_word_at op.copied.whole.site.geometry k (place / 2)) one
         ∙ entry_is op.copied.whole.site.geometry shape (depth_in op.copied.whole.head) (place / 2) s.filling.new.split.is.located.shape (omega (arith, root, deep)) ground.shape.depth (omega (arith, near, twice))
 
     pub entry_stands : SuitsStep site here (record op { step = Store (Fill place n) }) call (Store (Fill place n)) entry_view

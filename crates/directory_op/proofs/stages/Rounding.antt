@@ -33,7 +33,7 @@ use Rattle.directory_op.specs.declared.op.Stage.TheVariants.{Fill, Filled, Deepe
 use Rattle.directory_op.specs.declared.op.DirectoryStep.{DirectoryStep}
 use Rattle.directory_op.specs.declared.op.DirectoryStep.TheVariants.{Store}
 use Rattle.directory_op.specs.declared.op.DirectoryOp.{DirectoryOp}
-use Rattle.directory_op.specs.Places.{entry_word}
+use Rattle.directory_op.specs.Places.{entry_word_at}
 use Rattle.directory_op.specs.Steps.{next_store}
 use Rattle.directory_op.specs.Fits.{IsStoredIn, IsStoring, SuitsStage, SuitsStore}
 use Rattle.directory_op.proofs.Words.{entry_is, head_is}
@@ -75,7 +75,7 @@ flushed_not_begun rounds next w f e = flushed_by rounds.round (nat_lt (f.number 
 module _ (site : Ground) (ground : IsGround site) (here : Site) (call : Call) (op : DirectoryOp) where
   -- ---- the words that are stored
   module _ (same : op.copied.whole.site.geometry ≡ site.shape) where
-    pub entry_near : (depth index : ℕ) → depth ≤ site.shape.depth → index < 2 ^ depth → entry_word op.copied.whole.site.geometry depth index < words_of site.shape
+    pub entry_near : (depth index : ℕ) → depth ≤ site.shape.depth → index < 2 ^ depth → entry_word_at op.copied.whole.site.geometry depth index < words_of site.shape
     entry_near depth index low near = subst (λ i. i < words_of site.shape) (sym (entry_is op.copied.whole.site.geometry site.shape depth index same low ground.shape.depth near))
         (front_within site.shape (entry_at depth index) (entry_before site.shape depth index low near))
 

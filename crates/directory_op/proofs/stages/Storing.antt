@@ -31,7 +31,7 @@ use Rattle.directory_op.specs.declared.op.Stage.TheVariants.{Fill, Filled, Deepe
 use Rattle.directory_op.specs.declared.op.DirectoryStep.{DirectoryStep}
 use Rattle.directory_op.specs.declared.op.DirectoryStep.TheVariants.{LoadEntry, Store}
 use Rattle.directory_op.specs.declared.op.DirectoryOp.{DirectoryOp}
-use Rattle.directory_op.specs.Places.{entries_there, entry_word, side_last, live_head}
+use Rattle.directory_op.specs.Places.{entries_there, entry_word_at, side_last, live_head}
 use Rattle.directory_op.specs.Steps.{next_store, fill_on, stage_after}
 use Rattle.directory_op.specs.Fits.{with_side, SuitsStore, SuitsStep, FilledBelow, EnteredBelow, IsFilling, IsEntering}
 use Rattle.directory_op.proofs.Words.{all_entries, doubled, entry_is, head_is, entry_no_root, entry_same, entry_deeper, entry_no_slot, root_no_slot, root_no_header, other_slot}
@@ -95,7 +95,7 @@ module _ (site : Ground) (ground : IsGround site) (here : Site) (call : Call) (o
     fill = Fill place value
 
     abbrev w : ℕ
-    w = entry_word op.copied.whole.site.geometry op.root place
+    w = entry_word_at op.copied.whole.site.geometry op.root place
 
     abbrev filled : View
     filled = view_then shape (sets w value) n v
@@ -271,7 +271,7 @@ module _ (site : Ground) (ground : IsGround site) (here : Site) (call : Call) (o
     enter = Enter index
 
     abbrev entry : ℕ
-    entry = entry_word op.copied.whole.site.geometry op.root index
+    entry = entry_word_at op.copied.whole.site.geometry op.root index
 
     abbrev side : ℕ
     side = op.copied.side
