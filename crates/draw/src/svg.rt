@@ -10,7 +10,7 @@ use anyhow::Result;
 use bucket_meta::words::SLOTS;
 use image_file::Medium;
 use image_layout::{BUCKETS, Geometry, HOMES};
-use picture::{entries_of, entry, filled, header_of, root_depth, stashed};
+use picture::{entries_of, entry, filled, header_fields, root_depth, stashed};
 use std::io::Print;
 
 /// The edge of a square and the height of a row.
@@ -97,7 +97,7 @@ fn print_row<R: Print>(rt: &R, geometry: &Geometry, words: &[u64], s: u64, top: 
     requires slot { s < geometry.now.segments }
     requires room { top + 12 < 2 ^ 64 }
 {
-    let header = header_of(geometry, words, s);
+    let header = header_fields(geometry, words, s);
     let line = top + 12;
     let hue = hue_of(s);
     println!(rt;

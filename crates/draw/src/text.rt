@@ -8,7 +8,7 @@ ghost use Rattle.sound_image.specs.Image.{IsSoundImage};
 use anyhow::Result;
 use image_file::{Medium, check};
 use image_layout::{BUCKETS, Geometry, HOMES};
-use picture::{all_stashed, entries_of, entry, filled, header_of, root_depth, sign};
+use picture::{all_stashed, entries_of, entry, filled, header_fields, root_depth, sign};
 use std::io::Print;
 
 /// The line of an image: what `check` counts.
@@ -64,7 +64,7 @@ fn print_segment<R: Print>(rt: &R, geometry: &Geometry, words: &[u64], s: u64) -
     requires whole { length words.now ≡ words_of geometry.now }
     requires slot { s < geometry.now.segments }
 {
-    let header = header_of(geometry, words, s);
+    let header = header_fields(geometry, words, s);
     let stashed = all_stashed(geometry, words, s);
     println!(rt; "segment {s}: {header}, {stashed} in the stash by its notes")?;
     if !header.is_free() {

@@ -13,7 +13,7 @@ use segment_head::prefix::{Prefix, in_one_side, is_side, prefix_in};
 use segment_head::word::{self, SPLITTING};
 
 /// The header word of a segment.
-pub(crate) fn header_of(geometry: &Geometry, words: &[u64], s: u64) -> u64
+pub(crate) fn header_at(geometry: &Geometry, words: &[u64], s: u64) -> u64
     requires whole { length words.now ≡ words_of geometry.now }
     requires slot { s < geometry.now.segments }
     ensures { result ≡ (frame_of geometry.now (slice_index words.now)).header s }
@@ -27,7 +27,7 @@ pub(crate) fn state_of(geometry: &Geometry, words: &[u64], s: u64) -> u8
     requires slot { s < geometry.now.segments }
     ensures { result ≡ state_at (frame_of geometry.now (slice_index words.now)) s }
 {
-    word::state_of(header_of(geometry, words, s))
+    word::state_of(header_at(geometry, words, s))
 }
 
 /// The version of a segment.
@@ -36,7 +36,7 @@ pub(crate) fn version_of(geometry: &Geometry, words: &[u64], s: u64) -> u8
     requires slot { s < geometry.now.segments }
     ensures { result ≡ version_in ((frame_of geometry.now (slice_index words.now)).header s) }
 {
-    word::version_of(header_of(geometry, words, s))
+    word::version_of(header_at(geometry, words, s))
 }
 
 /// Whether a segment is live: normal or splitting.
@@ -45,7 +45,7 @@ pub(crate) fn is_live(geometry: &Geometry, words: &[u64], s: u64) -> bool
     requires slot { s < geometry.now.segments }
     ensures { IsTrue result ↔ IsLive (frame_of geometry.now (slice_index words.now)) s }
 {
-    word::is_live(header_of(geometry, words, s))
+    word::is_live(header_at(geometry, words, s))
 }
 
 /// The prefix of a live segment.
@@ -59,7 +59,7 @@ pub(crate) fn prefix_of(geometry: &Geometry, words: &[u64], s: u64) -> Prefix
     ensures most { result.depth ≤ most_depth }
     ensures pattern { result.pattern < 2 ^ result.depth }
 {
-    prefix_in(header_of(geometry, words, s))
+    prefix_in(header_at(geometry, words, s))
 }
 
 /// The slot that the side link of a segment names, if it names one.

@@ -9,7 +9,7 @@ ghost use Rattle.image_rules.specs.Breach.{IsLeast};
 ghost use Rattle.image_rules.specs.Divided.{IsDivided};
 ghost use Rattle.image_rules.specs.Slots.{IsStanding};
 
-use crate::heads::{header_of, version_of};
+use crate::heads::{header_at, version_of};
 use crate::records::RecordRule;
 use image_layout::state::{self, FIRST_VERSION};
 use image_layout::{Geometry, ROOT_WORD, STATE_WORD};
@@ -22,7 +22,7 @@ fn head_in_range(geometry: &Geometry, words: &[u64], s: u64) -> bool
     requires slot { s < geometry.now.segments }
     ensures { IsTrue result ↔ HeadInRange (frame_of geometry.now (slice_index words.now)) geometry.now.depth s }
 {
-    let header = header_of(geometry, words, s);
+    let header = header_at(geometry, words, s);
     let state = state_of(header);
     let depth = depth_of(header);
     let pattern = u64::from(pattern_of(header));
@@ -36,7 +36,7 @@ fn link_in_range(geometry: &Geometry, words: &[u64], s: u64) -> bool
     requires slot { s < geometry.now.segments }
     ensures { IsTrue result ↔ LinkInRange (frame_of geometry.now (slice_index words.now)) s }
 {
-    state_of(header_of(geometry, words, s)) == FREE
+    state_of(header_at(geometry, words, s)) == FREE
         || links_within(geometry.segments(), words[geometry.link_word(s) as usize])
 }
 

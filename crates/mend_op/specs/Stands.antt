@@ -31,18 +31,18 @@ use Rattle.mend_op.specs.declared.op.MendStep.TheVariants.{Fill, Round, Finish, 
 use Rattle.mend_op.specs.declared.op.MendOp.{MendOp}
 use Rattle.mend_op.specs.Words.{first_of, key_of, renewed_head}
 use Rattle.mend_op.specs.Stages.{most, place, made}
-use Rattle.mend_op.specs.Steps.{head_at, word_at, due}
+use Rattle.mend_op.specs.Steps.{own_head_word, word_at, due}
 
 -- ---- the kind of each event
 abbrev pub kind_at : MendOp → MendStep → StepKind
 kind_at op (Fill i) = of_structure (reads (word_at op i))
 kind_at op (Round stage n rounds) = rounds_kind rounds (due op stage n) []
 kind_at op Finish = of_structure (moves finishes op.guarded.segment (finished_head op.guarded.head))
-kind_at op FinishFlush = of_call (flushes (line_of (head_at op)))
+kind_at op FinishFlush = of_call (flushes (line_of (own_head_word op)))
 kind_at op FinishFence = of_structure (settles [])
 kind_at op (Note n) = of_structure (sets (word_at op (place stage.Note n)) (slice_index op.next (place stage.Note n)))
 kind_at op Renew = of_structure (moves renews op.guarded.segment (renewed_head op.guarded.site.version op.guarded.head))
-kind_at op RenewFlush = of_call (flushes (line_of (head_at op)))
+kind_at op RenewFlush = of_call (flushes (line_of (own_head_word op)))
 kind_at op RenewFence = of_structure (settles [])
 kind_at op Give = of_structure (gives (of_segment op.guarded.segment))
 kind_at op Ended = of_call (peeks root_word)

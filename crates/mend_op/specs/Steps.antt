@@ -28,8 +28,8 @@ use Rattle.rounds.specs.Seeking.{seek}
 
 -- ---- where words stand
 -- the header word of the segment, and the word of its buckets of this number
-abbrev pub head_at : MendOp → ℕ
-head_at op = head_word op.guarded.site.geometry op.guarded.segment
+abbrev pub own_head_word : MendOp → ℕ
+own_head_word op = head_word op.guarded.site.geometry op.guarded.segment
 
 abbrev pub word_at : MendOp → ℕ → ℕ
 word_at op i = numbered_word op.guarded.site.geometry op.guarded.segment i
@@ -126,12 +126,12 @@ module _ (op : MendOp) where
   abbrev pub wanted_in : MendStep → Want
   wanted_in (Fill i) = want.Load (word_at op i)
   wanted_in (Round stage n rounds) = event_wanted rounds (due op stage n)
-  wanted_in Finish = want.Store (head_at op) (finished_head op.guarded.head)
-  wanted_in FinishFlush = want.Flush (line_of (head_at op))
+  wanted_in Finish = want.Store (own_head_word op) (finished_head op.guarded.head)
+  wanted_in FinishFlush = want.Flush (line_of (own_head_word op))
   wanted_in FinishFence = want.Fence
   wanted_in (Note n) = store_wanted (due op stage.Note n)
-  wanted_in Renew = want.Store (head_at op) (renewed_head op.guarded.site.version op.guarded.head)
-  wanted_in RenewFlush = want.Flush (line_of (head_at op))
+  wanted_in Renew = want.Store (own_head_word op) (renewed_head op.guarded.site.version op.guarded.head)
+  wanted_in RenewFlush = want.Flush (line_of (own_head_word op))
   wanted_in RenewFence = want.Fence
   wanted_in Give = want.Store (guard_of op.guarded) free_guard
   wanted_in Ended = want.Done

@@ -4,7 +4,7 @@ ghost use Rattle.std.specs.Prelude.{◌≡◌, ◌<◌, ◌≤◌, ◌↔◌, Is
 ghost use Rattle.image_layout.specs.Places.{note_words};
 ghost use Rattle.op_core.specs.declared.want.Want.TheVariants as want;
 ghost use Rattle.mend_op.specs.Stages.{most};
-ghost use Rattle.mend_op.specs.Steps.{head_at, word_at, with_word, with_stored, prepared, is_changed, changed_from, due, noting, noted_from, begin_notes, over, rounding, begin, rounded, loaded_by, filled_to, finished, noted, store_wanted, wanted, taken, begun, end_of};
+ghost use Rattle.mend_op.specs.Steps.{own_head_word, word_at, with_word, with_stored, prepared, is_changed, changed_from, due, noting, noted_from, begin_notes, over, rounding, begin, rounded, loaded_by, filled_to, finished, noted, store_wanted, wanted, taken, begun, end_of};
 
 use crate::heads::renewed_head;
 use crate::make::made;
@@ -80,8 +80,8 @@ impl MendOp {
     // ---- where words stand
 
     /// The header word of the segment.
-    fn head_at(&self) -> u64
-        ensures { result ≡ head_at self.now }
+    fn own_head_word(&self) -> u64
+        ensures { result ≡ own_head_word self.now }
     {
         head_word(&self.guarded.site.geometry, self.guarded.segment)
     }
@@ -294,7 +294,7 @@ fn store_want(next: Option<(u64, u64)>) -> Want
 fn want_of(op: &MendOp) -> Want
     ensures { result ≡ wanted op.now }
 {
-    let head = op.head_at();
+    let head = op.own_head_word();
     match &op.step {
         MendStep::Fill(number) => Want::Load(op.word_at(*number)),
         MendStep::Round(stage, number, rounds) => rounds.event(op.due(*stage, *number)),

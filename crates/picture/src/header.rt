@@ -21,8 +21,8 @@ pub struct Header {
     pub pattern: u32,
 }
 
-/// The header of the segment in slot `s`.
-pub fn header_of(geometry: &Geometry, words: &[u64], s: u64) -> Header
+/// The fields of the header of the segment in slot `s`.
+pub fn header_fields(geometry: &Geometry, words: &[u64], s: u64) -> Header
     requires whole { length words.now ≡ words_of geometry.now }
     requires slot { s < geometry.now.segments }
     ensures version { result.version ≡ version_in (slice_index words.now (header_word geometry.now s)) }

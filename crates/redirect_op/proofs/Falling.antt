@@ -20,7 +20,7 @@ use Rattle.directory_op.proofs.ends.Falling.{few_entries, entries_within, few_de
 use Rattle.redirect_op.specs.declared.step.RedirectStep.{RedirectStep}
 use Rattle.redirect_op.specs.declared.step.RedirectStep.TheVariants.{Guard, Root, Entry, Head, Store, Settle, Fence, GiveDirectory, Give, Ended}
 use Rattle.redirect_op.specs.declared.op.RedirectOp.{RedirectOp}
-use Rattle.redirect_op.specs.Steps.{shape_of, side_head, last_entry, store_to, go, settle_by, behind, rooted_at, rooted, met_head, stored_by, with_rounds, stored, settled_to, settled, wanted_in, next_in}
+use Rattle.redirect_op.specs.Steps.{shape_of, side_region_head, last_entry, store_to, go, settle_by, behind, rooted_at, rooted, met_head, stored_by, with_rounds, stored, settled_to, settled, wanted_in, next_in}
 use Rattle.redirect_op.specs.Left.{rooted_with, entries_behind, stores_left, left_at, left_of, most_events}
 
 -- ---- numbers
@@ -113,7 +113,7 @@ root_falls op n =
     let root = min n (shape_of op).depth in
     let few = entries_within root (shape_of op) (least n (shape_of op).depth) in
     let some = some_deepest (shape_of op) in
-    let head = side_head op.guarded.head in
+    let head = side_region_head op.guarded.head in
     let most = behind_few ((pattern_in head + 1) * run_of root head) (entries_there root) (side_first root head) in
     by (entries_behind (rooted_at op root) (side_first root head)) (entries_there root) (deepest_entries (shape_of op)) most few some
   where
@@ -163,7 +163,7 @@ stores_most op stores = few_most op.rounds (rounds_left op.rounds stores) (3 * s
 -- behind an entry come fewer than an area has
 behind_most : (op : RedirectOp) (index : ℕ) → suc (entries_behind op index) ≤ most_entries
 behind_most op index =
-    let head = side_head op.guarded.head in
+    let head = side_region_head op.guarded.head in
     let most = behind_few ((pattern_in head + 1) * run_of op.root head) (entries_there op.root) index in
     let all = few_entries op.root in
     by (entries_behind op index) (entries_there op.root) most_entries most all (omega arith)

@@ -33,7 +33,7 @@ use Rattle.directory_op.proofs.Words.{head_is, entry_from}
 use Rattle.redirect_op.specs.declared.step.RedirectStep.{RedirectStep}
 use Rattle.redirect_op.specs.declared.step.RedirectStep.TheVariants.{Entry, Head, Store}
 use Rattle.redirect_op.specs.declared.op.RedirectOp.{RedirectOp}
-use Rattle.redirect_op.specs.Steps.{shape_of, side_head, last_entry, go, settle_by, behind, rooted_at, rooted, met_head}
+use Rattle.redirect_op.specs.Steps.{shape_of, side_region_head, last_entry, go, settle_by, behind, rooted_at, rooted, met_head}
 use Rattle.redirect_op.specs.Stands.{first_of, IsGuarding, IsOfSide, Names, LeadsBehind, LeadBelow, StandsInRounds, ComesNext, SuitsStep}
 use Rattle.redirect_op.proofs.Regions.{is_of_side, first_of as first_entry_of, last_of, first_last, begins_before, begins_behind}
 use Rattle.redirect_op.proofs.Holding.{GoesOn, rooted_stays, guarding_stays, behind_stays}
@@ -156,7 +156,7 @@ module _ (site : Ground) (ground : IsGround site) (here : Site) (call : Call) (o
     root_settled = record { dirty = settled.dirty; flushed = settled.flushed }
 
     abbrev first_index : ℕ
-    first_index = side_first n (side_head gs.head)
+    first_index = side_first n (side_region_head gs.head)
 
     not_deep : n ≤ most_depth
     not_deep = let a = is_within in let b = ground.shape.depth in omega (arith, a, b)
@@ -188,7 +188,7 @@ module _ (site : Ground) (ground : IsGround site) (here : Site) (call : Call) (o
         least a b low = omega (arith, low)
 
     pub root_stands : SuitsStep site here call (rooted op n) (rooted op n).step root_view
-    root_stands = subst (λ k. SuitsStep site here call (rooted_at op k) (Entry (side_first k (side_head gs.head))) root_view) (sym least_is) at_root
+    root_stands = subst (λ k. SuitsStep site here call (rooted_at op k) (Entry (side_first k (side_region_head gs.head))) root_view) (sym least_is) at_root
 
   -- ---- an entry
   module _ (index : ℕ) (c : ComesNext site here gs op.root op.rounds index v) where

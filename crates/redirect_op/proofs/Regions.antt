@@ -19,7 +19,7 @@ use Rattle.world.specs.areas.Repairing.{IsEntryOfSide}
 use Rattle.world.proofs.holders.repairing.SideEntries.{stands_in_row, side_later}
 use Rattle.directory_op.specs.Places.{entries_there, run_of, side_first, side_last}
 use Rattle.directory_op.proofs.Words.{all_entries, doubled}
-use Rattle.redirect_op.specs.Steps.{side_head}
+use Rattle.redirect_op.specs.Steps.{side_region_head}
 
 -- ---- the entries of the 1-side
 module _ (head root : ℕ) (deeper : depth_in head < root) (most : root ≤ most_depth) (fits : pattern_in head < 2 ^ depth_in head) where
@@ -41,10 +41,10 @@ module _ (head root : ℕ) (deeper : depth_in head < root) (most : root ≤ most
   whole_pattern : (2 * p + 1) % 2 ^ 32 ≡ 2 * p + 1
   whole_pattern = let less = few in omega (arith, less)
 
-  side_deep : depth_in (side_head head) ≡ suc d
+  side_deep : depth_in (side_region_head head) ≡ suc d
   side_deep = header_depth 0 0 ((d + 1) % 2 ^ 8) ((2 * p + 1) % 2 ^ 32) (omega arith) (omega arith) (omega arith) ∙ whole_depth
 
-  side_region : pattern_in (side_head head) ≡ 2 * p + 1
+  side_region : pattern_in (side_region_head head) ≡ 2 * p + 1
   side_region = header_pattern 0 0 ((d + 1) % 2 ^ 8) ((2 * p + 1) % 2 ^ 32) (omega arith) (omega arith) (omega arith) ∙ whole_pattern
 
   -- how many there are
@@ -55,19 +55,19 @@ module _ (head root : ℕ) (deeper : depth_in head < root) (most : root ≤ most
   pattern = 2 * p + 1
 
   abbrev first_entry : ℕ
-  first_entry = side_first root (side_head head)
+  first_entry = side_first root (side_region_head head)
 
   abbrev last_entry : ℕ
-  last_entry = side_last root (side_head head)
+  last_entry = side_last root (side_region_head head)
 
   some_run : 0 < run
   some_run = pow_pos (root - suc d)
 
-  run_is : run_of root (side_head head) ≡ run
+  run_is : run_of root (side_region_head head) ≡ run
   run_is = ap (λ n. entries_there (root - n)) side_deep ∙ all_entries (root - suc d) (let far = most in omega (arith, far))
 
   first_is : first_entry ≡ pattern * run
-  first_is = ap (λ n. pattern_in (side_head head) * n) run_is ∙ ap (λ n. n * run) side_region
+  first_is = ap (λ n. pattern_in (side_region_head head) * n) run_is ∙ ap (λ n. n * run) side_region
 
   -- all of them are entries of the root's area
   whole_area : (pattern + 1) * run ≤ 2 ^ root
@@ -79,7 +79,7 @@ module _ (head root : ℕ) (deeper : depth_in head < root) (most : root ≤ most
 
   last_is : last_entry ≡ (pattern + 1) * run - 1
   last_is =
-      ap (λ n. min ((pattern_in (side_head head) + 1) * n) (entries_there root) - 1) run_is
+      ap (λ n. min ((pattern_in (side_region_head head) + 1) * n) (entries_there root) - 1) run_is
       ∙ ap (λ n. min ((n + 1) * run) (entries_there root) - 1) side_region
       ∙ ap (λ n. min ((pattern + 1) * run) n - 1) (all_entries root most)
       ∙ least ((pattern + 1) * run) (2 ^ root) whole_area

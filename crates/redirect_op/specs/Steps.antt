@@ -28,15 +28,15 @@ shape_of op = op.guarded.site.geometry
 -- ---- which entries
 -- a header with the depth and the pattern of the 1-side; entries are found by these two alone, so its version and its state do not matter: it has
 -- the version that no image has, and is that of a free slot
-abbrev pub side_head : ℕ → ℕ
-side_head head = one_side_head no_version free head
+abbrev pub side_region_head : ℕ → ℕ
+side_region_head head = one_side_head no_version free head
 
 -- the first and the last entry of the 1-side
 abbrev pub first_entry : RedirectOp → ℕ
-first_entry op = side_first op.root (side_head op.guarded.head)
+first_entry op = side_first op.root (side_region_head op.guarded.head)
 
 abbrev pub last_entry : RedirectOp → ℕ
-last_entry op = side_last op.root (side_head op.guarded.head)
+last_entry op = side_last op.root (side_region_head op.guarded.head)
 
 -- the slot of the side, and 0 where there is none
 abbrev pub slot_or_zero : Option ℕ → ℕ
@@ -66,7 +66,7 @@ behind op index = go op (if nat_lt index (last_entry op) then Entry (index + 1) 
 
 -- the root is this: the first entry comes next, and nothing is stored yet
 abbrev pub rooted_at : RedirectOp → ℕ → RedirectOp
-rooted_at op root = record op { root = root; rounds = rounds.begun; step = Entry (side_first root (side_head op.guarded.head)) }
+rooted_at op root = record op { root = root; rounds = rounds.begun; step = Entry (side_first root (side_region_head op.guarded.head)) }
 
 -- the root was loaded; a deeper one than the image may have counts as the deepest
 abbrev pub rooted : RedirectOp → ℕ → RedirectOp

@@ -2,7 +2,7 @@
 
 ghost use Rattle.std.specs.Prelude.{◌≡◌, ◌↔◌, IsTrue, true};
 ghost use Rattle.op_core.specs.declared.want.Want.TheVariants as want;
-ghost use Rattle.redirect_op.specs.Steps.{begun, side_head, store_to, behind, rooted, met_head, stored, settled, busy, wanted, taken, end_of, is_redirected};
+ghost use Rattle.redirect_op.specs.Steps.{begun, side_region_head, store_to, behind, rooted, met_head, stored, settled, busy, wanted, taken, end_of, is_redirected};
 
 use crate::step::{RedirectEnd, RedirectStep};
 use directory_op::places::{entry_word_at, side_first, side_last};
@@ -30,8 +30,8 @@ pub struct RedirectOp {
 
 /// A header with the depth and the pattern of the 1-side. Entries are found by these two alone, so its version and its state do not matter: it
 /// has the version that no image has, and is that of a free slot.
-fn side_head(head: u64) -> u64
-    ensures { result ≡ side_head head }
+fn side_region_head(head: u64) -> u64
+    ensures { result ≡ side_region_head head }
 {
     one_side_head(NO_VERSION, FREE, head)
 }
@@ -71,7 +71,7 @@ impl RedirectOp {
     fn pass_entry(&mut self, index: u64)
         ensures { self.new ≡ behind self.old index }
     {
-        self.step = if index < side_last(self.root, side_head(self.guarded.head)) {
+        self.step = if index < side_last(self.root, side_region_head(self.guarded.head)) {
             RedirectStep::Entry(index + 1)
         } else if self.rounds.want(None).is_some() {
             RedirectStep::Settle
@@ -87,7 +87,7 @@ impl RedirectOp {
         let root = root.min(self.guarded.site.geometry.depth());
         self.root = root;
         self.rounds = Rounds::begun();
-        self.step = RedirectStep::Entry(side_first(root, side_head(self.guarded.head)));
+        self.step = RedirectStep::Entry(side_first(root, side_region_head(self.guarded.head)));
     }
 
     /// After the load of the header of the segment that an entry names.

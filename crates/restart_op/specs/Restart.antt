@@ -34,15 +34,15 @@ abbrev pub begun : Shape → RestartOp
 begun shape = record { geometry = shape; step = Load }
 
 -- the header of a slot; a slot that the image has not gives the state word
-abbrev pub head_word : Shape → ℕ → ℕ
-head_word shape slot = if nat_lt slot shape.segments then header_word shape slot else state_word
+abbrev pub head_or_state : Shape → ℕ → ℕ
+head_or_state shape slot = if nat_lt slot shape.segments then header_word shape slot else state_word
 
 -- the event of a step
 abbrev pub wanted_in : Shape → RestartStep → Want
 wanted_in shape Load = want.Load state_word
-wanted_in shape (LoadHead first slot) = want.Load (head_word shape slot)
-wanted_in shape (StoreHead first slot head) = want.Store (head_word shape slot) head
-wanted_in shape (FlushHead slot end) = want.Flush (line_of (head_word shape slot))
+wanted_in shape (LoadHead first slot) = want.Load (head_or_state shape slot)
+wanted_in shape (StoreHead first slot head) = want.Store (head_or_state shape slot) head
+wanted_in shape (FlushHead slot end) = want.Flush (line_of (head_or_state shape slot))
 wanted_in shape (FenceHeads end) = want.Fence
 wanted_in shape (Store started) = want.Store state_word started.version
 wanted_in shape (Flush started) = want.Flush (line_of state_word)

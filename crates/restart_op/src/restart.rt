@@ -4,7 +4,7 @@ ghost use Rattle.std.specs.Prelude.{◌≡◌, ◌≤◌, ◌<◌, ◌-◌};
 ghost use Rattle.image_layout.specs.Places.{most_words};
 ghost use Rattle.op_core.specs.declared.want.Want.TheVariants as want;
 ghost use Rattle.restart_op.specs.declared.restart.RestartStep.TheVariants.{Ended};
-ghost use Rattle.restart_op.specs.Restart.{started_for, swept_through, head_word, begun, state_seen, head_stored, head_flushed, heads_fenced, wanted, taken, next_of};
+ghost use Rattle.restart_op.specs.Restart.{started_for, swept_through, head_or_state, begun, state_seen, head_stored, head_flushed, heads_fenced, wanted, taken, next_of};
 
 use image_layout::state::{FIRST_VERSION, LAST_VERSION, is_marked, version_of};
 use image_layout::{Geometry, STATE_WORD};
@@ -130,8 +130,8 @@ impl RestartOp {
     }
 
     /// The header of a slot; a slot that the image has not gives the state word.
-    fn head_word(&self, slot: u64) -> u64
-        ensures is { result ≡ head_word self.now.geometry slot }
+    fn head_or_state(&self, slot: u64) -> u64
+        ensures is { result ≡ head_or_state self.now.geometry slot }
         ensures most { result < most_words }
     {
         if slot < self.geometry.segments() {
@@ -240,9 +240,11 @@ impl Machine for RestartOp {
     fn want(&self) -> Want {
         match self.step {
             RestartStep::Load => Want::Load(STATE_WORD),
-            RestartStep::LoadHead { slot, .. } => Want::Load(self.head_word(slot)),
-            RestartStep::StoreHead { slot, head, .. } => Want::Store(self.head_word(slot), head),
-            RestartStep::FlushHead { slot, .. } => Want::Flush(line_of(self.head_word(slot))),
+            RestartStep::LoadHead { slot, .. } => Want::Load(self.head_or_state(slot)),
+            RestartStep::StoreHead { slot, head, .. } => {
+                Want::Store(self.head_or_state(slot), head)
+            }
+            RestartStep::FlushHead { slot, .. } => Want::Flush(line_of(self.head_or_state(slot))),
             RestartStep::FenceHeads { .. } => Want::Fence,
             RestartStep::Store(started) => Want::Store(STATE_WORD, u64::from(started.version)),
             RestartStep::Flush(_) => Want::Flush(line_of(STATE_WORD)),

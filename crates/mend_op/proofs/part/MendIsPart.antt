@@ -41,7 +41,7 @@ use Rattle.mend_op.specs.declared.op.MendStep.TheVariants.{Fill, Round, Finish, 
 use Rattle.mend_op.specs.declared.op.MendOp.{MendOp}
 use Rattle.mend_op.specs.Words.{renewed_head}
 use Rattle.mend_op.specs.Stages.{most, place}
-use Rattle.mend_op.specs.Steps.{head_at, word_at, due, store_wanted, wanted_in, next_in, wanted, end_at}
+use Rattle.mend_op.specs.Steps.{own_head_word, word_at, due, store_wanted, wanted_in, next_in, wanted, end_at}
 use Rattle.mend_op.specs.Stands.{kind_at, place_of, IsBefore, IsRounding, IsInStage, SuitsStep}
 use Rattle.mend_op.specs.MendPart.{outcome_at, IsOf, MendStands, mend_part, BeginsAsPart, EndsRepaired}
 use Rattle.mend_op.proofs.Counting.{falls_at, most_at}
@@ -230,12 +230,12 @@ round_some site op t n rounds v c done = c.3 (event_none rounds (due op t n) c.1
 ended_at : (site : Ground) (op : MendOp) (s : MendStep) (v : View) → SuitsStep site op s v → wanted_in op s ≡ wants.Done → s ≡ Ended
 ended_at site op (Fill i) v c done = absurd (let no : wants.Load (word_at op i) ≡ wants.Done = done in cc)
 ended_at site op (Round t n rounds) v c done = absurd (round_some site op t n rounds v c done)
-ended_at site op Finish v c done = absurd (let no : wants.Store (head_at op) (finished_head op.guarded.head) ≡ wants.Done = done in cc)
-ended_at site op FinishFlush v c done = absurd (let no : wants.Flush (line_of (head_at op)) ≡ wants.Done = done in cc)
+ended_at site op Finish v c done = absurd (let no : wants.Store (own_head_word op) (finished_head op.guarded.head) ≡ wants.Done = done in cc)
+ended_at site op FinishFlush v c done = absurd (let no : wants.Flush (line_of (own_head_word op)) ≡ wants.Done = done in cc)
 ended_at site op FinishFence v c done = absurd (let no : wants.Fence ≡ wants.Done = done in cc)
 ended_at site op (Note n) v c done = absurd (let no : wants.Store (word_at op (place stage.Note n)) (slice_index op.next (place stage.Note n)) ≡ wants.Done = sym (note_wants op n c.0) ∙ done in cc)
-ended_at site op Renew v c done = absurd (let no : wants.Store (head_at op) (renewed_head op.guarded.site.version op.guarded.head) ≡ wants.Done = done in cc)
-ended_at site op RenewFlush v c done = absurd (let no : wants.Flush (line_of (head_at op)) ≡ wants.Done = done in cc)
+ended_at site op Renew v c done = absurd (let no : wants.Store (own_head_word op) (renewed_head op.guarded.site.version op.guarded.head) ≡ wants.Done = done in cc)
+ended_at site op RenewFlush v c done = absurd (let no : wants.Flush (line_of (own_head_word op)) ≡ wants.Done = done in cc)
 ended_at site op RenewFence v c done = absurd (let no : wants.Fence ≡ wants.Done = done in cc)
 ended_at site op Give v c done = absurd (let no : wants.Store (guard_of op.guarded) 0 ≡ wants.Done = done in cc)
 ended_at site op Ended v c done = refl

@@ -24,7 +24,7 @@ use Rattle.mend_op.specs.declared.op.MendStep.TheVariants.{Fill, Round, Finish, 
 use Rattle.mend_op.specs.declared.op.MendOp.{MendOp}
 use Rattle.mend_op.specs.Words.{renewed_head}
 use Rattle.mend_op.specs.Stages.{most, place}
-use Rattle.mend_op.specs.Steps.{head_at, word_at, due, store_wanted, wanted_in}
+use Rattle.mend_op.specs.Steps.{own_head_word, word_at, due, store_wanted, wanted_in}
 use Rattle.mend_op.specs.Stands.{place_of, IsStageLine, SuitsStep}
 use Rattle.mend_op.specs.MendPart.{IsOf}
 use Rattle.mend_op.proofs.Dues.{due_is}
@@ -117,11 +117,11 @@ module _ (site : Ground) (good : IsGround site) (here : Site) (op : MendOp) (is 
   pub within_at : (t : MendStep) → SuitsStep site op t v → IsWithin site.shape (wanted_in op t)
   within_at (Fill i) c = record { word = in_image (word_at op i) (subst (λ j. j < words_of site.shape) (sym (word_is site op layout is.old.within i)) (place_within i c.0)); line = λ n same. absurd (cc) }
   within_at (Round t n rounds) c = round_within t n rounds c.1.lines
-  within_at Finish c = store_in (head_at op) (finished_head op.guarded.head) (subst (λ i. i < words_of site.shape) (sym (head_is site op layout is.old.within)) head_within)
+  within_at Finish c = store_in (own_head_word op) (finished_head op.guarded.head) (subst (λ i. i < words_of site.shape) (sym (head_is site op layout is.old.within)) head_within)
   within_at FinishFlush c = flush_in _ (subst (λ i. 8 * line_of i + 8 ≤ words_of site.shape) (sym (head_is site op layout is.old.within)) head_line)
   within_at FinishFence c = none_in wants.Fence refl (λ n same. absurd (cc))
   within_at (Note n) c = stored_within (due op stage.Note n) n refl
-  within_at Renew c = store_in (head_at op) (renewed_head op.guarded.site.version op.guarded.head) (subst (λ i. i < words_of site.shape) (sym (head_is site op layout is.old.within)) head_within)
+  within_at Renew c = store_in (own_head_word op) (renewed_head op.guarded.site.version op.guarded.head) (subst (λ i. i < words_of site.shape) (sym (head_is site op layout is.old.within)) head_within)
   within_at RenewFlush c = flush_in _ (subst (λ i. 8 * line_of i + 8 ≤ words_of site.shape) (sym (head_is site op layout is.old.within)) head_line)
   within_at RenewFence c = none_in wants.Fence refl (λ n same. absurd (cc))
   within_at Give c = record { word = guard_within; line = λ n same. absurd (cc) }

@@ -25,7 +25,7 @@ use Rattle.rounds.proofs.Settling.{settled_firm}
 use Rattle.mend_op.specs.declared.stage.Stage.TheVariants as stage
 use Rattle.mend_op.specs.declared.op.MendStep.TheVariants.{Finish, FinishFlush, FinishFence}
 use Rattle.mend_op.specs.declared.op.MendOp.{MendOp}
-use Rattle.mend_op.specs.Steps.{head_at, at_step, begin, finished}
+use Rattle.mend_op.specs.Steps.{own_head_word, at_step, begin, finished}
 use Rattle.mend_op.specs.Stands.{place_of, SuitsStep}
 use Rattle.mend_op.specs.MendPart.{IsOf, MendStands}
 use Rattle.mend_op.proofs.whole.Words.{mend_words, header_here}
@@ -85,13 +85,13 @@ module _ (site : Ground) (ground : IsGround site) (here : Site) (call : Call) (o
     }
 
   -- ---- its flush
-  pub finish_flushed : SuitsStep site op FinishFlush v → (n : ℕ) → MendStands site here call (at_step op FinishFence) (view_after site.shape (flushes (line_of (head_at op))) n v)
+  pub finish_flushed : SuitsStep site op FinishFlush v → (n : ℕ) → MendStands site here call (at_step op FinishFence) (view_after site.shape (flushes (line_of (own_head_word op))) n v)
   finish_flushed c n = record {
     is = is_at site here call op is op.next is.next_small FinishFence;
     view = record {
       is_normal = c.is_normal;
-      all = all_kept site op.guarded op.words words_of_buckets v (view_after site.shape (flushes (line_of (head_at op))) n v) refl refl refl refl refl refl c.all;
-      dirty = none_dirty (header_word site.shape s) (line_of (head_at op)) v.dirty (ap line_of (head_is site op (same_shape site here call op is) is.old.within)) c.loose;
+      all = all_kept site op.guarded op.words words_of_buckets v (view_after site.shape (flushes (line_of (own_head_word op))) n v) refl refl refl refl refl refl c.all;
+      dirty = none_dirty (header_word site.shape s) (line_of (own_head_word op)) v.dirty (ap line_of (head_is site op (same_shape site here call op is) is.old.within)) c.loose;
     };
   }
 

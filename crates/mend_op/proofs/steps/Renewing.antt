@@ -28,7 +28,7 @@ use Rattle.mend_op.specs.declared.op.MendStep.TheVariants.{Renew, RenewFlush, Re
 use Rattle.mend_op.specs.declared.op.MendOp.{MendOp}
 use Rattle.mend_op.specs.Words.{renewed_head}
 use Rattle.mend_op.specs.Stages.{made}
-use Rattle.mend_op.specs.Steps.{head_at, at_step}
+use Rattle.mend_op.specs.Steps.{own_head_word, at_step}
 use Rattle.mend_op.specs.Stands.{place_of, AreMended, KnowsOnlyOf, SuitsStep}
 use Rattle.mend_op.specs.MendPart.{IsOf, MendStands}
 use Rattle.mend_op.proofs.stages.Partly.{all_made}
@@ -136,11 +136,11 @@ module _ (site : Ground) (ground : IsGround site) (here : Site) (call : Call) (o
     }
 
   -- ---- its flush
-  pub renew_flushed : SuitsStep site op RenewFlush v → (n : ℕ) → MendStands site here call (at_step op RenewFence) (view_after site.shape (flushes (line_of (head_at op))) n v)
+  pub renew_flushed : SuitsStep site op RenewFlush v → (n : ℕ) → MendStands site here call (at_step op RenewFence) (view_after site.shape (flushes (line_of (own_head_word op))) n v)
   renew_flushed c n = record {
     is = is_at site here call op is op.next is.next_small RenewFence;
     view = (
       record { areas = c.0.areas; no_locks = c.0.no_locks; current = record { head = c.0.current.head; header = c.0.current.header; version = c.0.current.version }; known = c.0.known; idle = record { planned = c.0.idle.planned; moving = c.0.idle.moving; owed = c.0.idle.owed } },
-      none_dirty (header_word site.shape s) (line_of (head_at op)) v.dirty (ap line_of (head_is site op (same_shape site here call op is) is.old.within)) c.2,
+      none_dirty (header_word site.shape s) (line_of (own_head_word op)) v.dirty (ap line_of (head_is site op (same_shape site here call op is) is.old.within)) c.2,
     );
   }

@@ -9,7 +9,7 @@ use Rattle.world.specs.areas.Areas.{header_word}
 use Rattle.repair_op.specs.declared.guarded.Guarded.{Guarded}
 use Rattle.repair_op.specs.Guarded.{guard_of}
 use Rattle.mend_op.specs.declared.op.MendOp.{MendOp}
-use Rattle.mend_op.specs.Steps.{head_at, word_at}
+use Rattle.mend_op.specs.Steps.{own_head_word, word_at}
 use Rattle.mend_op.specs.Stands.{place_of}
 
 module _ (site : Ground) (op : MendOp) (same_shape : op.guarded.site.geometry ≡ site.shape) (within : op.guarded.segment < site.shape.segments) where
@@ -23,7 +23,7 @@ module _ (site : Ground) (op : MendOp) (same_shape : op.guarded.site.geometry �
   word_is i = ap (λ w. w + i)
       (ap (λ t. if t then bucket_at guarded.site.geometry guarded.segment 0 else root_word) (lt-ltb guarded.segment guarded.site.geometry.segments here) ∙ ap (λ (g : Shape). bucket_at g guarded.segment 0) same_shape)
 
-  pub head_is : head_at op ≡ header_word site.shape guarded.segment
+  pub head_is : own_head_word op ≡ header_word site.shape guarded.segment
   head_is = ap (λ t. if t then header_at guarded.site.geometry guarded.segment + 1 else root_word) (lt-ltb guarded.segment guarded.site.geometry.segments here) ∙ ap (λ (g : Shape). header_at g guarded.segment + 1) same_shape
 
   pub guard_is : guard_of guarded ≡ segment_guard site.shape guarded.segment

@@ -12,7 +12,7 @@ use Rattle.world.specs.areas.Areas.{header_word}
 use Rattle.restart_op.specs.declared.restart.RestartStep.{RestartStep}
 use Rattle.restart_op.specs.declared.restart.RestartStep.TheVariants.{Load, LoadHead, StoreHead, FlushHead, FenceHeads, Store, Flush, Fence, Ended}
 use Rattle.restart_op.specs.declared.restart.RestartOp.{RestartOp}
-use Rattle.restart_op.specs.Restart.{started_for, swept_through, head_word, wanted_in, next_in, wanted}
+use Rattle.restart_op.specs.Restart.{started_for, swept_through, head_or_state, wanted_in, next_in, wanted}
 use Rattle.restart_op.specs.Budget.{events_of_sweep, events_of_restart, left_in_round, left_in, BeginsWithASweep, Falls, EndsAtNone, IsStateOrHead, IsOnStateOrHead}
 use Rattle.restart_op.specs.Restarted.{restarted, left_at, RestartCounts}
 use Rattle.restart_op.proofs.restarts.Along.{IsKeptBy, along, longer}
@@ -119,10 +119,10 @@ pub ends_at_none : EndsAtNone
 ends_at_none op = none_at op.geometry op.step
 
 -- ---- which words
-head_is : (shape : Shape) (slot : ℕ) (b : Bool) → nat_lt slot shape.segments ≡ b → IsStateOrHead shape (head_word shape slot)
+head_is : (shape : Shape) (slot : ℕ) (b : Bool) → nat_lt slot shape.segments ≡ b → IsStateOrHead shape (head_or_state shape slot)
 head_is shape slot b p = go b p
   where
-    go : (b : Bool) → nat_lt slot shape.segments ≡ b → IsStateOrHead shape (head_word shape slot)
+    go : (b : Bool) → nat_lt slot shape.segments ≡ b → IsStateOrHead shape (head_or_state shape slot)
     go true p = inr (slot, ltb-true slot shape.segments p, ap (λ (c : Bool). if c then header_word shape slot else state_word) p)
     go false p = inl (ap (λ (c : Bool). if c then header_word shape slot else state_word) p)
 
@@ -130,7 +130,7 @@ on_word : (shape : Shape) (s : RestartStep) → IsOnStateOrHead shape (wanted_in
 on_word shape Load = inl refl
 on_word shape (LoadHead first slot) = head_is shape slot _ refl
 on_word shape (StoreHead first slot head) = head_is shape slot _ refl
-on_word shape (FlushHead slot end) = (head_word shape slot, head_is shape slot _ refl, refl)
+on_word shape (FlushHead slot end) = (head_or_state shape slot, head_is shape slot _ refl, refl)
 on_word shape (FenceHeads end) = tt
 on_word shape (Store started) = inl refl
 on_word shape (Flush started) = (state_word, inl refl, refl)

@@ -18,7 +18,7 @@ use Rattle.world.specs.areas.Areas.{header_word}
 use Rattle.restart_op.specs.declared.restart.Started.{Started}
 use Rattle.restart_op.specs.declared.restart.RestartStep.{RestartStep}
 use Rattle.restart_op.specs.declared.restart.RestartStep.TheVariants.{Load, LoadHead, StoreHead, FlushHead, FenceHeads, Store, Flush, Fence, Ended}
-use Rattle.restart_op.specs.Restart.{swept_through, started_for, head_word, head_stored, head_flushed}
+use Rattle.restart_op.specs.Restart.{swept_through, started_for, head_or_state, head_stored, head_flushed}
 use Rattle.restart_op.specs.Restarted.{restart_after, HasStarted}
 use Rattle.restart_op.proofs.restarts.Along.{IsKeptBy, along}
 use Rattle.restart_op.proofs.restarts.Versions.{all_swept}
@@ -29,7 +29,7 @@ pub record Leaving (base : Words) (Left : Trace → ℕ → ℕ → Type 0) : Ty
   pub fence : (es : Trace) (i x : ℕ) → Left (fenced 0 ∷ es) i x → Left es i x ⊎ ((m : ℕ) × Has (line_of i, m) (pending 0 es) × HadSince base es m i x)
   pub since : (es : Trace) (i m x : ℕ) → Has (line_of i, m) (pending 0 es) → Left (fenced 0 ∷ es) i x → HadSince base es m i x
 
-pub head_in : (shape : Shape) (slot : ℕ) → slot < shape.segments → head_word shape slot ≡ header_word shape slot
+pub head_in : (shape : Shape) (slot : ℕ) → slot < shape.segments → head_or_state shape slot ≡ header_word shape slot
 head_in shape slot within = ap (λ (b : Bool). if b then header_word shape slot else state_word) (lt-ltb slot shape.segments within)
 
 heads_apart : (f s t : ℕ) → t < s → f + 2144 * s + 1 ≡ f + 2144 * t + 1 → ⊥
@@ -387,7 +387,7 @@ module _ (shape : Shape) (some : 1 ≤ shape.segments) (base : Words) (was : Wor
       (seen_phase words es _ refl h)
   phase_on (LoadHead first slot) words es h = (
     h.0,
-    sweeps_quiet (loaded 0 (head_word shape slot)) first slot words es (λ q. cc) (λ i x w. w) refl h.1,
+    sweeps_quiet (loaded 0 (head_or_state shape slot)) first slot words es (λ q. cc) (λ i x w. w) refl h.1,
     h.2,
     ap (λ i. unversioned (words i)) (head_in shape slot h.0.1) ∙ ap unversioned (next_head slot words h.1.words_are),
   )

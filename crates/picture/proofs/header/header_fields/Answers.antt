@@ -1,6 +1,6 @@
 -- By the rules that all proofs share.
 use Rattle.std.proofs.Common.{rules}
-use Rattle.picture.proofs.header.header_of.Goals as goal
+use Rattle.picture.proofs.header.header_fields.Goals as goal
 
 pub returns-clause-version : goal.returns-clause-version
 returns-clause-version c = search rules
