@@ -224,16 +224,16 @@ abbrev pub overflow_count : ℕ → ℕ
 overflow_count w1 = bits count_from count_bits w1
 
 -- from which bit of w1 on no field has a bit, behind the fingerprint of the last note slot
-abbrev pub spare_from : ℕ
-spare_from = last_finger_from + fingerprint_bits
+abbrev pub mark_spare_from : ℕ
+mark_spare_from = last_finger_from + fingerprint_bits
 
 -- how many bits these are, up to the word's last
-abbrev pub spare_bits : ℕ
-spare_bits = word_bits - spare_from
+abbrev pub mark_spare_bits : ℕ
+mark_spare_bits = word_bits - mark_spare_from
 
 -- the bits of w1 that no field has
 abbrev pub spare_part : ℕ → ℕ
-spare_part w1 = bits spare_from spare_bits w1
+spare_part w1 = bits mark_spare_from mark_spare_bits w1
 
 -- what w1 says of the record slots: which have a record, and which of these stand in their probing bucket
 abbrev pub slots_part : ℕ → ℕ

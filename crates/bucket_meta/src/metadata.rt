@@ -41,8 +41,8 @@ pub struct Meta {
     pub ghost omember_fits: { omember < 2 ^ note_slots },
     pub ghost oindex_fits: { oindex < 2 ^ note_slots },
     pub ghost ocount_fits: { ocount < 2 ^ count_bits },
-    pub ghost fourteen: { length fps ≡ record_slots },
-    pub ghost four: { length ofps ≡ note_slots },
+    pub ghost each_finger: { length fps ≡ record_slots },
+    pub ghost each_note_finger: { length ofps ≡ note_slots },
 }
 
 /// The word that eight fingerprints make, the first one lowest.

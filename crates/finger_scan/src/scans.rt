@@ -8,7 +8,7 @@ use bucket_meta::words;
 use std::simd::prelude::*;
 
 /// The record slots of a bucket, as a set.
-const SLOTS: u64 = (1 << words::SLOTS) - 1;
+const ALL_SLOTS: u64 = (1 << words::SLOTS) - 1;
 
 /// Bit `s` is set where fingerprint `s` is the byte, and no other bit is.
 ///
@@ -23,7 +23,7 @@ pub fn scan(fps: [u8; words::SLOTS as usize], byte: u8) -> u16
         f0, f1, f2, f3, f4, f5, f6, f7, f8, f9, f10, f11, f12, f13, 0, 0,
     ]);
     let same = lanes.simd_eq(u8x16::splat(byte)).to_bitmask();
-    (same & SLOTS) as u16
+    (same & ALL_SLOTS) as u16
 }
 
 /// What [`scan`] gives, by a loop over the fingerprints.

@@ -114,7 +114,7 @@ pub fn try_on<G: Gate>(
 }
 
 /// How many events an attempt of a call itself takes at most.
-const EVENTS_OF_CALL: u64 = 700;
+const MOST_OF_ATTEMPT: u64 = 700;
 
 /// The first try of a call, by a seat that holds and owes nothing: it is never left in the midst but by a cut of the power. The engine
 /// becomes that of the call, and behind it that of the next attempt, with which [`try_on`] goes on.
@@ -148,6 +148,6 @@ pub fn try_call<G: Gate>(
         engine,
         call,
         site,
-        EVENTS_OF_CALL,
+        MOST_OF_ATTEMPT,
     )
 }

@@ -32,8 +32,8 @@ meta_of p known = record {
   omember_fits = known.3;
   oindex_fits = known.4;
   ocount_fits = known.5;
-  fourteen = known.6;
-  four = known.7;
+  each_finger = known.6;
+  each_note_finger = known.7;
 }
 
 Facts-prop : (p : Plain) → IsProp (Facts p)
@@ -50,17 +50,17 @@ same_meta a b e1 e2 e3 e4 e5 e6 e7 e8 =
     let q : Plain = (b.alloc, b.member, b.used, b.omember, b.oindex, b.ocount, b.fps, b.ofps) in
     let e : p ≡ q = cc in
     meta_by_fields p q e
-    (a.alloc_fits, a.member_fits, a.used_fits, a.omember_fits, a.oindex_fits, a.ocount_fits, a.fourteen, a.four)
-    (b.alloc_fits, b.member_fits, b.used_fits, b.omember_fits, b.oindex_fits, b.ocount_fits, b.fourteen, b.four)
+    (a.alloc_fits, a.member_fits, a.used_fits, a.omember_fits, a.oindex_fits, a.ocount_fits, a.each_finger, a.each_note_finger)
+    (b.alloc_fits, b.member_fits, b.used_fits, b.omember_fits, b.oindex_fits, b.ocount_fits, b.each_finger, b.each_note_finger)
 
 -- fields of the same words are the same
 pub words_give_meta : WordsGiveMeta
 words_give_meta a b w1 w2 w3 of_a of_b =
     same_meta a b (of_a.alloc ∙ sym of_b.alloc) (of_a.member ∙ sym of_b.member) (of_a.used ∙ sym of_b.used)
     (of_a.omember ∙ sym of_b.omember) (of_a.oindex ∙ sym of_b.oindex) (of_a.ocount ∙ sym of_b.ocount)
-    (same_number_lists a.fps b.fps (a.fourteen ∙ sym b.fourteen)
+    (same_number_lists a.fps b.fps (a.each_finger ∙ sym b.each_finger)
     (λ s h. let within : s < 14 = omega arith in of_a.fps s within ∙ sym (of_b.fps s within)))
-    (same_number_lists a.ofps b.ofps (a.four ∙ sym b.four)
+    (same_number_lists a.ofps b.ofps (a.each_note_finger ∙ sym b.each_note_finger)
     (λ i h. let within : i < 4 = omega arith in of_a.ofps i within ∙ sym (of_b.ofps i within)))
 
 -- ---- the words of given fields

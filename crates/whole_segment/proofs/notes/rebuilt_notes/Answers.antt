@@ -33,8 +33,8 @@ blank = record {
   omember_fits = lit< tt;
   oindex_fits = lit< tt;
   ocount_fits = lit< tt;
-  fourteen = refl;
-  four = refl;
+  each_finger = refl;
+  each_note_finger = refl;
 }
 
 pub returns-clause-exact : goal.returns-clause-exact
