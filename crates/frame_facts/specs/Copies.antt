@@ -30,11 +30,11 @@ module _ (shape : Shape) where
       pub fingerprint : finger_in word at r ≡ finger_in word from r
 
     -- record slot r of bucket b of segment s is taken by a record of the 1-side of s
-    pub record IsOfOneSide (s b r : ℕ) : Type 0 where
+    pub record IsRecordOfOneSide (s b r : ℕ) : Type 0 where
       pub taken : IsTaken word (bucket_at shape s b) r
       pub inside : InOneSide (frame_of shape word) s (key_hash shape (key_in word (bucket_at shape s b) r))
 
     -- SLOT BY SLOT: in n those slots are taken whose records in s are of the 1-side, by the same records
     pub record IsSlotCopy (s n : ℕ) : Type 0 where
-      pub taken : (b r : ℕ) → b < buckets → r < record_slots → IsTaken word (bucket_at shape n b) r ↔ IsOfOneSide s b r
+      pub taken : (b r : ℕ) → b < buckets → r < record_slots → IsTaken word (bucket_at shape n b) r ↔ IsRecordOfOneSide s b r
       pub same : (b r : ℕ) → b < buckets → r < record_slots → IsTaken word (bucket_at shape n b) r → HasRecordOf (bucket_at shape n b) (bucket_at shape s b) r

@@ -7,15 +7,15 @@ use Rattle.sound_image.specs.Directory.{SharesWell}
 use Rattle.segment_head.specs.declared.prefix.Prefix.{Prefix}
 
 -- the leaf is under a prefix: its hashes begin with it
-pub record IsUnder (greatest : ℕ) (prefix : Prefix) (leaf : ℕ) : Type 0 where
+pub record IsLeafUnder (greatest : ℕ) (prefix : Prefix) (leaf : ℕ) : Type 0 where
   pub from : first_under greatest prefix.depth prefix.pattern ≤ leaf
   pub to : leaf < first_under greatest prefix.depth (prefix.pattern + 1)
 
 -- the leaves under a prefix are raised to a number at least, and the others are as before
 pub record AreRaised (greatest : ℕ) (prefix : Prefix) (n : ℕ) (old new : List ℕ) : Type 0 where
-  pub under : (l : ℕ) → IsUnder greatest prefix l → slice_index old l ≤ n → slice_index new l ≡ n
+  pub under : (l : ℕ) → IsLeafUnder greatest prefix l → slice_index old l ≤ n → slice_index new l ≡ n
   pub higher : (l : ℕ) → n < slice_index old l → slice_index new l ≡ slice_index old l
-  pub others : (l : ℕ) → (IsUnder greatest prefix l → ⊥) → slice_index new l ≡ slice_index old l
+  pub others : (l : ℕ) → (IsLeafUnder greatest prefix l → ⊥) → slice_index new l ≡ slice_index old l
 
 module _ (frame : Frame) where
   -- n is one more than the depth of the deepest live segment that covers the hash, of those in slots below a limit, and

@@ -10,7 +10,7 @@ ghost use Rattle.sound_image.specs.Directory.{OwnsItsPart, SharesWell};
 ghost use Rattle.sound_image.specs.Rules.{HashesAreOwned};
 ghost use Rattle.image_rules.specs.Breach.{IsLeast};
 ghost use Rattle.image_rules.specs.Divided.{IsNumbered};
-ghost use Rattle.image_rules.specs.Leaves.{IsUnder, AreRaised, AreDeepest, AreSeen, HasTwin, ShareWellBelow, IsFirstAtFault};
+ghost use Rattle.image_rules.specs.Leaves.{IsLeafUnder, AreRaised, AreDeepest, AreSeen, HasTwin, ShareWellBelow, IsFirstAtFault};
 
 use crate::heads::{is_live, prefix_of, ready_side};
 use image_layout::{Geometry, ROOT_WORD, entries_of};
@@ -52,7 +52,7 @@ fn all_have(leaves: &[u8], greatest: u8, prefix: Prefix, n: u8) -> bool
     requires leaves { length leaves.now ≡ entries_of greatest }
     requires depth { prefix.depth ≤ greatest }
     requires pattern { prefix.pattern < 2 ^ prefix.depth }
-    ensures { IsTrue result ↔ ((l : ℕ) → IsUnder greatest prefix l → slice_index leaves.now l ≡ n) }
+    ensures { IsTrue result ↔ ((l : ℕ) → IsLeafUnder greatest prefix l → slice_index leaves.now l ≡ n) }
 {
     let from = first_leaf(greatest, prefix.depth, prefix.pattern as usize);
     let to = first_leaf(greatest, prefix.depth, prefix.pattern as usize + 1);
@@ -70,7 +70,7 @@ fn none_has(leaves: &[u8], greatest: u8, prefix: Prefix, n: u8) -> bool
     requires leaves { length leaves.now ≡ entries_of greatest }
     requires depth { prefix.depth ≤ greatest }
     requires pattern { prefix.pattern < 2 ^ prefix.depth }
-    ensures { IsTrue result ↔ ((l : ℕ) → IsUnder greatest prefix l → slice_index leaves.now l ≢ n) }
+    ensures { IsTrue result ↔ ((l : ℕ) → IsLeafUnder greatest prefix l → slice_index leaves.now l ≢ n) }
 {
     let from = first_leaf(greatest, prefix.depth, prefix.pattern as usize);
     let to = first_leaf(greatest, prefix.depth, prefix.pattern as usize + 1);

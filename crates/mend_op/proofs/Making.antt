@@ -10,7 +10,7 @@ use Rattle.image_layout.specs.Places.{Shape, homes, buckets, block, words_of_buc
 use Rattle.sound_image.specs.Records.{key_hash}
 use Rattle.whole_segment.specs.declared.loaded.Loaded.{Loaded}
 use Rattle.whole_segment.specs.Records.{first_in, third_in, key_in, uncovered_first, HasWords}
-use Rattle.whole_segment.specs.Order.{bucket_at, slot_at, position_of, own_home, own_position, is_at, is_below, stands_before}
+use Rattle.whole_segment.specs.Order.{bucket_in_order, slot_at, position_of, own_home, own_position, is_at, is_below, stands_before}
 use Rattle.whole_segment.specs.Mending.{is_spoiled, spoiled_set, without_spoiled}
 use Rattle.whole_segment.specs.Rebuilding.{Overflow, first_with, third_with, rebuilt}
 use Rattle.whole_segment.proofs.Stashing.{set_same, uncovered_first_same, rebuilt_same}
@@ -25,10 +25,10 @@ module _ (first later_first : ℕ → ℕ) (key later_key : ℕ → ℕ → ℕ)
     (keys : (b r : ℕ) → b < buckets → r < record_slots → later_key b r ≡ key b r) where
   at_same : (home k p : ℕ) → home < homes → is_at later_first later_key home k p ≡ is_at first key home k p
   at_same home k p low =
-      let near : bucket_at home p < buckets = bucket_low home low p in
+      let near : bucket_in_order home p < buckets = bucket_low home low p in
       let slot : slot_at p < record_slots = omega arith in
-      ap (λ (x : ℕ). (allocated (slot_at p) x == 1) && (later_key (bucket_at home p) (slot_at p) == k)) (words (bucket_at home p) near)
-      ∙ ap (λ (x : ℕ). (allocated (slot_at p) (first (bucket_at home p)) == 1) && (x == k)) (keys (bucket_at home p) (slot_at p) near slot)
+      ap (λ (x : ℕ). (allocated (slot_at p) x == 1) && (later_key (bucket_in_order home p) (slot_at p) == k)) (words (bucket_in_order home p) near)
+      ∙ ap (λ (x : ℕ). (allocated (slot_at p) (first (bucket_in_order home p)) == 1) && (x == k)) (keys (bucket_in_order home p) (slot_at p) near slot)
 
   below_same : (home k n : ℕ) → home < homes → is_below later_first later_key home k n ≡ is_below first key home k n
   unfolding is_below

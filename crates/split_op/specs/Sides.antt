@@ -34,16 +34,16 @@ high_fingers mark word = without_free mark word fingers_of_word rest_fingers
 -- ---- a side
 module _ (e : Enclosed) where
   -- word 1 of each bucket with the records of the 1-side alone, and without notes
-  abbrev pub side_first : ℕ → ℕ
-  side_first b = copied_mark (kept_first e b) (side_slots e b)
+  abbrev pub bare_mark : ℕ → ℕ
+  bare_mark b = copied_mark (kept_first e b) (side_slots e b)
 
   -- the notes of each home, made anew of those records that stand in the stash
   abbrev pub side_notes : ℕ → Overflow
-  side_notes = rebuilt side_first (kept_key e) (key_hash e.site.geometry)
+  side_notes = rebuilt bare_mark (kept_key e) (key_hash e.site.geometry)
 
   -- words 1 and 3 with these notes in homes, and without notes in stash buckets
   abbrev pub side_mark : ℕ → ℕ
-  side_mark b = if nat_lt b homes then first_with (side_first b) (side_notes b) else side_first b
+  side_mark b = if nat_lt b homes then first_with (bare_mark b) (side_notes b) else bare_mark b
 
   abbrev pub side_third : ℕ → ℕ
   side_third b = if nat_lt b homes then third_with (kept_third e b) (side_notes b) else slot_fingers_part (kept_third e b)

@@ -8,7 +8,7 @@ use Rattle.word_bits.specs.Bits.{bit, mask}
 use Rattle.std.proofs.lemmas.Nat.Bits.{bit_at-lt, same_from_bits_below}
 use Rattle.whole_segment.specs.Slots.{IsSetOf, set_below, set_of}
 use Rattle.whole_segment.specs.Records.{IsCovered, is_covered, covered_set}
-use Rattle.whole_segment.specs.Order.{bucket_at, slot_at, IsAt, is_at, is_below, StandsBefore, stands_before, own_home, own_position}
+use Rattle.whole_segment.specs.Order.{bucket_in_order, slot_at, IsAt, is_at, is_below, StandsBefore, stands_before, own_home, own_position}
 use Rattle.whole_segment.specs.Mending.{IsSpoiled, is_spoiled, spoiled_set}
 use Rattle.whole_segment.specs.Room.{HasNoRoom, all_below, is_full, has_only_members, has_no_members, is_crowded, nothing_moves, has_no_room}
 use Rattle.whole_segment.proofs.marking.Sets.{IsSetBelow, none_yet, one_more, no_more, whole_set}
@@ -91,8 +91,8 @@ tells_covered first key hash depth pattern b r =
 module _ (first : ℕ → ℕ) (key : ℕ → ℕ → ℕ) where
   tells_at : (home k p : ℕ) → Tells (is_at first key home k p) (IsAt first key home k p)
   tells_at home k p =
-      let taken = allocated (slot_at p) (first (bucket_at home p)) in
-      let found = key (bucket_at home p) (slot_at p) in
+      let taken = allocated (slot_at p) (first (bucket_in_order home p)) in
+      let found = key (bucket_in_order home p) (slot_at p) in
       alike (is_at first key home k p) ((taken ≡ 1) × (found ≡ k)) (IsAt first key home k p)
       (λ h. record { taken = h.0; has_key = h.1 }) (λ a. (a.taken, a.has_key)) (both (taken == 1) (found == k) (taken ≡ 1) (found ≡ k) (equal taken 1) (equal found k))
 

@@ -8,8 +8,8 @@ use Rattle.image_layout.specs.Places.{slots_of_key}
 use Rattle.image_layout.specs.Standing.{looked_at}
 
 -- the bucket of a position, for a key of this home
-abbrev pub bucket_at : ℕ → ℕ → ℕ
-bucket_at home p = looked_at home (p / record_slots)
+abbrev pub bucket_in_order : ℕ → ℕ → ℕ
+bucket_in_order home p = looked_at home (p / record_slots)
 
 -- its slot
 abbrev pub slot_at : ℕ → ℕ
@@ -32,8 +32,8 @@ module _ (key : ℕ → ℕ → ℕ) (hash : ℕ → ℕ) where
 module _ (first : ℕ → ℕ) (key : ℕ → ℕ → ℕ) where
   -- a record of key k stands at position p of this home
   pub record IsAt (home k p : ℕ) : Type 0 where
-    pub taken : allocated (slot_at p) (first (bucket_at home p)) ≡ 1
-    pub has_key : key (bucket_at home p) (slot_at p) ≡ k
+    pub taken : allocated (slot_at p) (first (bucket_in_order home p)) ≡ 1
+    pub has_key : key (bucket_in_order home p) (slot_at p) ≡ k
 
   -- THE KEY STANDS BEFORE: at a position before that of slot r of bucket b
   pub record StandsBefore (hash : ℕ → ℕ) (b r : ℕ) : Type 0 where
@@ -43,7 +43,7 @@ module _ (first : ℕ → ℕ) (key : ℕ → ℕ → ℕ) where
 
   -- ---- the same as tests
   abbrev pub is_at : ℕ → ℕ → ℕ → Bool
-  is_at home k p = is_taken (first (bucket_at home p)) (slot_at p) && (key (bucket_at home p) (slot_at p) == k)
+  is_at home k p = is_taken (first (bucket_in_order home p)) (slot_at p) && (key (bucket_in_order home p) (slot_at p) == k)
 
   -- some position below n has the key
   unfoldable pub is_below : ℕ → ℕ → ℕ → Bool

@@ -5,7 +5,7 @@ ghost use Rattle.bucket_meta.specs.Bucket.{record_slots};
 ghost use Rattle.hash_word.specs.Hash.{hash_bits};
 ghost use Rattle.image_layout.specs.Places.{homes, buckets, slots_of_key};
 ghost use Rattle.sound_image.specs.Records.{key_hash};
-ghost use Rattle.whole_segment.specs.Order.{bucket_at, position_of};
+ghost use Rattle.whole_segment.specs.Order.{bucket_in_order, position_of};
 
 use crate::Loaded;
 use bucket_meta::cleared_mark;
@@ -15,10 +15,10 @@ use image_layout::{BUCKETS, Geometry, HOMES, SECOND_STASH, SLOTS_OF_KEY};
 use word_bits::{each_fits, mask};
 
 /// The bucket of a position, for a key of this home.
-fn bucket_at(home: u8, position: u8) -> u8
+fn bucket_in_order(home: u8, position: u8) -> u8
     requires home { home < homes }
     requires position { position < slots_of_key }
-    ensures is { result ≡ bucket_at home position }
+    ensures is { result ≡ bucket_in_order home position }
     ensures bucket { result < buckets }
 {
     if position < SLOTS {
@@ -64,7 +64,7 @@ impl Loaded {
         requires position { position < slots_of_key }
         ensures { IsTrue result ↔ IsAt (first_in self.now) (key_in self.now) home key position }
     {
-        let bucket = bucket_at(home, position);
+        let bucket = bucket_in_order(home, position);
         let slot = position % SLOTS;
         self.is_taken(bucket, slot) && self.key(bucket, slot) == key
     }

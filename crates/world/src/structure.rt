@@ -2,7 +2,7 @@
 //! do nothing: each stands for the law that its contract says.
 
 ghost use Rattle.world.specs.areas.Calling.{CallersKeepLocks, CallersKeepHeldWords};
-ghost use Rattle.world.specs.areas.Keeping.{KnownIsSo, KeepsHeldWords, KeepsLocks, KeepsRecords, KeepsNotesOfHomes, KeepsOthers, KeepsAreas, KeepsSettledSlots, KeepsUsedSlots, KeepsGuards, KeepsHeldGuards, KeepsSayers, KeepsPins, KeepsSound, KeepsFacts, KeepsStructure, KeepsMedia, KeepsHolding, StructureStepsSpare, StructureStepsReplyNothing};
+ghost use Rattle.world.specs.areas.Keeping.{KnownIsSo, KeepsHeldWords, KeepsLocks, KeepsOwnedRecords, KeepsNotesOfHomes, KeepsOthers, KeepsAreas, KeepsSettledSlots, KeepsUsedSlots, KeepsGuards, KeepsHeldGuards, KeepsSayers, KeepsPins, KeepsSound, KeepsFacts, KeepsStructure, KeepsMedia, KeepsHolding, StructureStepsSpare, StructureStepsReplyNothing};
 ghost use Rattle.world.specs.areas.Bridging.{CallersKnowAsBefore, CallersKeepOthers, CallersKeepRecords, CallersKeepNotesOfHomes, CallersKeepStructure, CallersKeepMedia, CallersKeepReadersNotes};
 ghost use Rattle.world.specs.areas.Beginning.{RestartsBegin, RaisedVersionsLeaveNoneCurrent, RaisedVersionsBegin};
 ghost use Rattle.world.specs.areas.Restarting.{SoundImagesBegin};
@@ -27,7 +27,7 @@ pub fn locks_stay()
 /// A current segment that nobody has whole owns each record in it, and each key stands once there, or its mover has it under way: steps at the
 /// structure keep that, and a segment that others may rest on from then on is in order.
 pub fn records_stay()
-    ensures { KeepsRecords }
+    ensures { KeepsOwnedRecords }
 {}
 
 /// The notes of its homes stay exact, but for those that are owed, and what is owed stays so.

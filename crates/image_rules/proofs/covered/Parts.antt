@@ -14,7 +14,7 @@ use Rattle.sound_image.specs.Rules.{HashesAreOwned}
 use Rattle.segment_head.specs.declared.prefix.Prefix.{Prefix}
 use Rattle.image_rules.specs.Breach.{IsLeast}
 use Rattle.image_rules.specs.Divided.{IsNumbered, IsPrefixOf}
-use Rattle.image_rules.specs.Leaves.{IsUnder, AreDeepest, HasTwin, ShareWellBelow, IsFirstAtFault}
+use Rattle.image_rules.specs.Leaves.{IsLeafUnder, AreDeepest, HasTwin, ShareWellBelow, IsFirstAtFault}
 use Rattle.image_rules.proofs.covered.Tops.{top_of_top, one_fewer, covered_under, under_covered, under_below, leaf_hash, leaf_hash-index, leaf_hash-fits, index-below}
 
 module _ (frame : Frame) (greatest : ℕ) (most : greatest ≤ 16) (leaves : List ℕ) (are : AreDeepest frame greatest frame.segments leaves) where
@@ -45,45 +45,45 @@ module _ (frame : Frame) (greatest : ℕ) (most : greatest ≤ 16) (leaves : Lis
     -- a longer prefix, below the segment's
     module _ (longer : Prefix) (further : longer.depth ≤ greatest) (fits : longer.pattern < 2 ^ longer.depth) where
       pub owned_under : ((h : ℕ) → h < 2 ^ 64 → Covers longer.depth longer.pattern h → Owns frame s h)
-          → (l : ℕ) → IsUnder greatest longer l → slice_index leaves l ≡ prefix.depth + 1
+          → (l : ℕ) → IsLeafUnder greatest longer l → slice_index leaves l ≡ prefix.depth + 1
       owned_under owned l under =
           let below = under_below greatest longer most further l fits under in
           let hash_fits = leaf_hash-fits greatest l (omega arith) below in
-          let covers = under_covered greatest longer most further (leaf_hash greatest l) (at_leaf l (IsUnder greatest longer) under) in
+          let covers = under_covered greatest longer most further (leaf_hash greatest l) (at_leaf l (IsLeafUnder greatest longer) under) in
           let here = from_owns s (leaf_hash greatest l) hash_fits (owned (leaf_hash greatest l) hash_fits covers) in
           ap (slice_index leaves) (sym (leaf_hash-index greatest l)) ∙ here ∙ ap (λ (n : ℕ). n + 1) (sym is.depth)
 
-      pub under_owned : ((l : ℕ) → IsUnder greatest longer l → slice_index leaves l ≡ prefix.depth + 1)
+      pub under_owned : ((l : ℕ) → IsLeafUnder greatest longer l → slice_index leaves l ≡ prefix.depth + 1)
           → (h : ℕ) → h < 2 ^ 64 → Covers longer.depth longer.pattern h → CoversHash frame s h → Owns frame s h
       under_owned each h hash_fits covers over =
           owns_from s h hash_fits (record { slot = slot; live = live; covers = over })
           (each (index_of greatest h) (covered_under greatest longer most further h covers) ∙ ap (λ (n : ℕ). n + 1) is.depth)
 
       pub left_under : ((h : ℕ) → h < 2 ^ 64 → Covers longer.depth longer.pattern h → CoversHash frame s h × (Owns frame s h → ⊥))
-          → (l : ℕ) → IsUnder greatest longer l → slice_index leaves l ≢ prefix.depth + 1
+          → (l : ℕ) → IsLeafUnder greatest longer l → slice_index leaves l ≢ prefix.depth + 1
       left_under left l under same =
           let below = under_below greatest longer most further l fits under in
           let hash_fits = leaf_hash-fits greatest l (omega arith) below in
-          let covers = under_covered greatest longer most further (leaf_hash greatest l) (at_leaf l (IsUnder greatest longer) under) in
+          let covers = under_covered greatest longer most further (leaf_hash greatest l) (at_leaf l (IsLeafUnder greatest longer) under) in
           let other = left (leaf_hash greatest l) hash_fits covers in
           other.1 (owns_from s (leaf_hash greatest l) hash_fits (record { slot = slot; live = live; covers = other.0 })
           (ap (slice_index leaves) (leaf_hash-index greatest l) ∙ same ∙ ap (λ (n : ℕ). n + 1) is.depth))
 
-      pub under_left : ((l : ℕ) → IsUnder greatest longer l → slice_index leaves l ≢ prefix.depth + 1)
+      pub under_left : ((l : ℕ) → IsLeafUnder greatest longer l → slice_index leaves l ≢ prefix.depth + 1)
           → (h : ℕ) → h < 2 ^ 64 → Covers longer.depth longer.pattern h → Owns frame s h → ⊥
       under_left none h hash_fits covers owns =
           none (index_of greatest h) (covered_under greatest longer most further h covers)
           (from_owns s h hash_fits owns ∙ ap (λ (n : ℕ). n + 1) (sym is.depth))
 
     -- WITHOUT A READY SIDE
-    pub whole-part : (HasReadySide frame s → ⊥) → ((l : ℕ) → IsUnder greatest prefix l → slice_index leaves l ≡ prefix.depth + 1) → OwnsItsPart frame s
+    pub whole-part : (HasReadySide frame s → ⊥) → ((l : ℕ) → IsLeafUnder greatest prefix l → slice_index leaves l ≡ prefix.depth + 1) → OwnsItsPart frame s
     whole-part unready each =
         record {
           owns_or_splits_off = λ h fits covers. inl (under_owned prefix deep small each h fits (covers_prefix h covers) covers);
           gave_away = λ ready. absurd (unready ready);
         }
 
-    pub part-whole : (HasReadySide frame s → ⊥) → OwnsItsPart frame s → (l : ℕ) → IsUnder greatest prefix l → slice_index leaves l ≡ prefix.depth + 1
+    pub part-whole : (HasReadySide frame s → ⊥) → OwnsItsPart frame s → (l : ℕ) → IsLeafUnder greatest prefix l → slice_index leaves l ≡ prefix.depth + 1
     part-whole unready part =
         owned_under prefix deep small (λ h fits covers. own h (part.owns_or_splits_off h fits (prefix_covers h covers)))
       where
@@ -127,8 +127,8 @@ module _ (frame : Frame) (greatest : ℕ) (most : greatest ≤ 16) (leaves : Lis
           (λ (odd : top (prefix.depth + 1) h ≢ 2 * prefix.pattern). inr (omega (arith, half, odd)))
           (cases_eq (top (prefix.depth + 1) h) (2 * prefix.pattern))
 
-      pub sides-part : ((l : ℕ) → IsUnder greatest zeros l → slice_index leaves l ≡ prefix.depth + 1)
-          → ((l : ℕ) → IsUnder greatest ones l → slice_index leaves l ≢ prefix.depth + 1) → OwnsItsPart frame s
+      pub sides-part : ((l : ℕ) → IsLeafUnder greatest zeros l → slice_index leaves l ≡ prefix.depth + 1)
+          → ((l : ℕ) → IsLeafUnder greatest ones l → slice_index leaves l ≢ prefix.depth + 1) → OwnsItsPart frame s
       sides-part each none =
           record {
             owns_or_splits_off = λ h fits covers.
@@ -140,7 +140,7 @@ module _ (frame : Frame) (greatest : ℕ) (most : greatest ≤ 16) (leaves : Lis
             gave_away = λ _ h fits side owns. under_left ones (omega arith) ones_fit none h fits (ones_cover h (side_one h side)) owns;
           }
 
-      pub part-zeros : OwnsItsPart frame s → (l : ℕ) → IsUnder greatest zeros l → slice_index leaves l ≡ prefix.depth + 1
+      pub part-zeros : OwnsItsPart frame s → (l : ℕ) → IsLeafUnder greatest zeros l → slice_index leaves l ≡ prefix.depth + 1
       part-zeros part =
           owned_under zeros (omega arith) zeros_fit
           (λ h fits covers. own h (zeros_there h covers) (part.owns_or_splits_off h fits (shorter h (omega (arith, zeros_there h covers)))))
@@ -149,7 +149,7 @@ module _ (frame : Frame) (greatest : ℕ) (most : greatest ≤ 16) (leaves : Lis
           own h even (inl owns) = owns
           own h even (inr gives) = absurd (omega (arith, even, side_one h gives.1))
 
-      pub part-ones : OwnsItsPart frame s → (l : ℕ) → IsUnder greatest ones l → slice_index leaves l ≢ prefix.depth + 1
+      pub part-ones : OwnsItsPart frame s → (l : ℕ) → IsLeafUnder greatest ones l → slice_index leaves l ≢ prefix.depth + 1
       part-ones part =
           left_under ones (omega arith) ones_fit
           (λ h fits covers. (

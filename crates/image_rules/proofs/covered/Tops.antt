@@ -6,7 +6,7 @@ use Rattle.std.proofs.Math.Nat.{div-eq_of_lt-le, div-mul-le_self, lt-div-mul-add
 use Rattle.image_layout.proofs.Areas.{power_le, power_double}
 use Rattle.hash_word.specs.Hash.{top, index_of, Covers}
 use Rattle.segment_head.specs.declared.prefix.Prefix.{Prefix}
-use Rattle.image_rules.specs.Leaves.{IsUnder}
+use Rattle.image_rules.specs.Leaves.{IsLeafUnder}
 
 -- FEWER TOP BITS
 pub top_of_top : (d e h : ℕ) → d ≤ e → e ≤ 64 → top d h ≡ top e h / 2 ^ (e - d)
@@ -31,7 +31,7 @@ quotient_to x m q pos is =
 
 -- LEAVES under a prefix
 module _ (greatest : ℕ) (prefix : Prefix) (most : greatest ≤ 16) (deep : prefix.depth ≤ greatest) where
-  pub covered_under : (h : ℕ) → Covers prefix.depth prefix.pattern h → IsUnder greatest prefix (index_of greatest h)
+  pub covered_under : (h : ℕ) → Covers prefix.depth prefix.pattern h → IsLeafUnder greatest prefix (index_of greatest h)
   covered_under h covers =
       let is : top greatest h / 2 ^ (greatest - prefix.depth) ≡ prefix.pattern = sym (top_of_top prefix.depth greatest h deep (omega arith)) ∙ covers in
       record {
@@ -39,11 +39,11 @@ module _ (greatest : ℕ) (prefix : Prefix) (most : greatest ≤ 16) (deep : pre
         to = quotient_to (top greatest h) (2 ^ (greatest - prefix.depth)) prefix.pattern (pow_pos (greatest - prefix.depth)) is;
       }
 
-  pub under_covered : (h : ℕ) → IsUnder greatest prefix (index_of greatest h) → Covers prefix.depth prefix.pattern h
+  pub under_covered : (h : ℕ) → IsLeafUnder greatest prefix (index_of greatest h) → Covers prefix.depth prefix.pattern h
   under_covered h under =
       top_of_top prefix.depth greatest h deep (omega arith) ∙ div-eq_of_lt-le (2 ^ (greatest - prefix.depth)) under.from under.to
 
-  pub under_below : (l : ℕ) → prefix.pattern < 2 ^ prefix.depth → IsUnder greatest prefix l → l < 2 ^ greatest
+  pub under_below : (l : ℕ) → prefix.pattern < 2 ^ prefix.depth → IsLeafUnder greatest prefix l → l < 2 ^ greatest
   under_below l fits under =
       let more : (prefix.pattern + 1) * 2 ^ (greatest - prefix.depth) ≤ 2 ^ prefix.depth * 2 ^ (greatest - prefix.depth) =
       mul-le-mul_right (2 ^ (greatest - prefix.depth)) (omega arith) in

@@ -12,7 +12,7 @@ use Rattle.whole_segment.specs.declared.notes.Notes.{Notes}
 use Rattle.whole_segment.proofs.Stashing.{rebuilt_same, covered_first_same}
 use Rattle.enclose_op.specs.declared.enclosed.Enclosed.{Enclosed}
 use Rattle.enclose_op.specs.Whole.{kept_first, kept_third, kept_key, side_depth, side_pattern}
-use Rattle.split_op.specs.Sides.{side_word, side_first, side_notes, side_mark, side_third, marked_word, thinned_word, side_words, HasMarks, IsThinned}
+use Rattle.split_op.specs.Sides.{side_word, bare_mark, side_notes, side_mark, side_third, marked_word, thinned_word, side_words, HasMarks, IsThinned}
 use Rattle.split_op.proofs.sides.Listing.{listed_same, by_word, thinned_is}
 use Rattle.split_op.proofs.sides.Siding.{mark_home, mark_stash, third_home, third_stash, marked_other}
 
@@ -35,20 +35,20 @@ module _ (e : Enclosed) (loaded half : Loaded) (notes : Notes) (d p : ℕ) (kept
   half_third : (b : ℕ) → b < buckets → third_in half b ≡ kept_third e b
   half_third b near = ap (λ (l : List ℕ). slice_index l b) third ∙ kept.third b near
 
-  half_first : (b : ℕ) → b < buckets → first_in half b ≡ side_first e b
+  half_first : (b : ℕ) → b < buckets → first_in half b ≡ bare_mark e b
   half_first b near =
       is b near ∙ covered_first_same (kept_first e) (first_in loaded) (kept_key e) (key_in loaded) hash d p b (kept.first b near) (λ r low. kept.keys b r near low)
       ∙ ap (λ (x : ℕ). covered_first (kept_first e) (kept_key e) hash x p b) deep ∙ ap (λ (x : ℕ). covered_first (kept_first e) (kept_key e) hash (min (side_depth e) 64) x b) side
 
   half_notes : (b : ℕ) → rebuilt (first_in half) (key_in half) hash b ≡ side_notes e b
-  half_notes = rebuilt_same (side_first e) (first_in half) (kept_key e) (key_in half) hash (λ b stash near. half_first b near) half_key
+  half_notes = rebuilt_same (bare_mark e) (first_in half) (kept_key e) (key_in half) hash (λ b stash near. half_first b near) half_key
 
   -- ---- with its metadata
   module _ (words : List ℕ) (marks : HasMarks e.buckets half notes words) where
     mark_there : (b : ℕ) → b < buckets → side_word words b 1 ≡ side_mark e b
     mark_there b near = elim (cases_lt b homes) [
       | inl home ↦ marks.first b home ∙ (made b home).0 ∙ ap (λ (x : ℕ). first_with x (rebuilt (first_in half) (key_in half) hash b)) (half_first b near)
-          ∙ ap (first_with (side_first e b)) (half_notes b) ∙ sym (mark_home e b home)
+          ∙ ap (first_with (bare_mark e b)) (half_notes b) ∙ sym (mark_home e b home)
       | inr stash ↦ marks.stash b stash near ∙ half_first b near ∙ sym (mark_stash e b stash)
     ]
 

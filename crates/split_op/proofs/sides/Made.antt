@@ -15,7 +15,7 @@ use Rattle.sound_image.specs.Records.{key_hash}
 use Rattle.sound_image.specs.Records as image
 use Rattle.bucket_words.specs.Buckets.{IsTaken, key_in}
 use Rattle.bucket_words.specs.Hits.{Hit}
-use Rattle.frame_facts.specs.Copies.{HasRecordOf, IsOfOneSide}
+use Rattle.frame_facts.specs.Copies.{HasRecordOf, IsRecordOfOneSide}
 use Rattle.map_model.specs.declared.call.Call.{Call}
 use Rattle.image_layout.specs.Standing.{stashed_of}
 use Rattle.world.specs.declared.site.Site.{Site}
@@ -97,7 +97,7 @@ module _ (site : Ground) (here : Site) (call : Call) (e : Enclosed) (is : IsOf s
   own_key : (b r : ℕ) → b < buckets → r < record_slots → key_in word (bucket_at site.shape s b) r ≡ kept_key e b r
   own_key b r near low = own_record b 4 r near (omega arith) low
 
-  taken_to : (b r : ℕ) → b < buckets → r < record_slots → IsTaken word (bucket_at site.shape n b) r → IsOfOneSide site.shape word s b r
+  taken_to : (b r : ℕ) → b < buckets → r < record_slots → IsTaken word (bucket_at site.shape n b) r → IsRecordOfOneSide site.shape word s b r
   taken_to b r near low taken =
       let o = (side.taken b r near low).0 (ap (allocated r) (sym (mark_is b near)) ∙ taken) in
       record {
@@ -106,7 +106,7 @@ module _ (site : Ground) (here : Site) (call : Call) (e : Enclosed) (is : IsOf s
             (subst (λ (h : ℕ). Covers (suc (depth_in e.head)) (2 * pattern_in e.head + 1) h) (hash_is (kept_key e b r) ∙ ap (key_hash site.shape) (sym (own_key b r near low))) o.1);
       }
 
-  taken_from : (b r : ℕ) → b < buckets → r < record_slots → IsOfOneSide site.shape word s b r → IsTaken word (bucket_at site.shape n b) r
+  taken_from : (b r : ℕ) → b < buckets → r < record_slots → IsRecordOfOneSide site.shape word s b r → IsTaken word (bucket_at site.shape n b) r
   taken_from b r near low o =
       ap (allocated r) (mark_is b near)
       ∙ (side.taken b r near low).1 (

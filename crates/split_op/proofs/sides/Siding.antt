@@ -24,7 +24,7 @@ use Rattle.whole_segment.proofs.rebuilding.Written.{first_made_small, third_made
 use Rattle.world.proofs.holding.Preparing.{notes_kept_3}
 use Rattle.enclose_op.specs.declared.enclosed.Enclosed.{Enclosed}
 use Rattle.enclose_op.specs.Whole.{kept_word, kept_first, kept_third, kept_key, side_depth, side_pattern, side_slots}
-use Rattle.split_op.specs.Sides.{side_word, side_first, side_notes, side_mark, side_third, marked_word, thinned_word, side_words, IsThinned}
+use Rattle.split_op.specs.Sides.{side_word, bare_mark, side_notes, side_mark, side_third, marked_word, thinned_word, side_words, IsThinned}
 use Rattle.split_op.proofs.sides.Listing.{listed, listed_is, listed_long, listed_small, by_word, thinned_other, listed_thinned}
 use Rattle.split_op.proofs.sides.Thinning.{HasLowFingers, HasHighFingers, low_is, high_is, without_free_small}
 
@@ -65,11 +65,11 @@ module _ (e : Enclosed) where
   abbrev pattern : ℕ
   pattern = side_pattern e % 2 ^ 32
 
-  pub mark_home : (b : ℕ) → b < homes → side_mark e b ≡ first_with (side_first e b) (side_notes e b)
-  mark_home b home = ap (λ t. cond t (first_with (side_first e b) (side_notes e b)) (side_first e b)) (lt-ltb b homes home)
+  pub mark_home : (b : ℕ) → b < homes → side_mark e b ≡ first_with (bare_mark e b) (side_notes e b)
+  mark_home b home = ap (λ t. cond t (first_with (bare_mark e b) (side_notes e b)) (bare_mark e b)) (lt-ltb b homes home)
 
-  pub mark_stash : (b : ℕ) → homes ≤ b → side_mark e b ≡ side_first e b
-  mark_stash b stash = ap (λ t. cond t (first_with (side_first e b) (side_notes e b)) (side_first e b)) (le-ltb b homes stash)
+  pub mark_stash : (b : ℕ) → homes ≤ b → side_mark e b ≡ bare_mark e b
+  mark_stash b stash = ap (λ t. cond t (first_with (bare_mark e b) (side_notes e b)) (bare_mark e b)) (le-ltb b homes stash)
 
   pub third_home : (b : ℕ) → b < homes → side_third e b ≡ third_with (kept_third e b) (side_notes e b)
   third_home b home = ap (λ t. cond t (third_with (kept_third e b) (side_notes e b)) (slot_fingers_part (kept_third e b))) (lt-ltb b homes home)
@@ -85,7 +85,7 @@ module _ (e : Enclosed) where
   slots_within : (b : ℕ) → side_slots e b < 2 ^ record_slots
   slots_within b = (covered_is (kept_first e) (kept_key e) hash depth pattern b).within
 
-  first_below : (b : ℕ) → side_first e b < 2 ^ 28
+  first_below : (b : ℕ) → bare_mark e b < 2 ^ 28
   first_below b =
       let most = and_le_r (kept_first e b) (slot_bits (side_slots e b)) in
       let small = bits_small (side_slots e b) (slots_within b) in
@@ -93,13 +93,13 @@ module _ (e : Enclosed) where
 
   mark_small : (b : ℕ) → side_mark e b < 2 ^ 64
   mark_small b = elim (cases_lt b homes) [
-    | inl home ↦ subst (λ (x : ℕ). x < 2 ^ 64) (sym (mark_home b home)) (first_made_small (side_first e) (kept_third e) (kept_key e) hash b home)
+    | inl home ↦ subst (λ (x : ℕ). x < 2 ^ 64) (sym (mark_home b home)) (first_made_small (bare_mark e) (kept_third e) (kept_key e) hash b home)
     | inr stash ↦ (let same = mark_stash b stash in let below = first_below b in omega (arith, same, below))
   ]
 
   third_small : (b : ℕ) → side_third e b < 2 ^ 64
   third_small b = elim (cases_lt b homes) [
-    | inl home ↦ subst (λ (x : ℕ). x < 2 ^ 64) (sym (third_home b home)) (third_made_small (side_first e) (kept_third e) (kept_key e) hash b home)
+    | inl home ↦ subst (λ (x : ℕ). x < 2 ^ 64) (sym (third_home b home)) (third_made_small (bare_mark e) (kept_third e) (kept_key e) hash b home)
     | inr stash ↦ (let same = third_stash b stash in omega (arith, same))
   ]
 
@@ -133,15 +133,15 @@ module _ (e : Enclosed) where
       other_is b m near low no_one no_three = listed_is (marked_word e) b m near low ∙ marked_other b m no_one no_three
 
       -- the slots are those of word 1 without notes
-      low_same : (b : ℕ) → b < buckets → side_word words b 1 % 2 ^ 28 ≡ side_first e b % 2 ^ 28
+      low_same : (b : ℕ) → b < buckets → side_word words b 1 % 2 ^ 28 ≡ bare_mark e b % 2 ^ 28
       low_same b near = elim (cases_lt b homes) [
-        | inl home ↦ ap (λ (x : ℕ). x % 2 ^ 28) (mark_is b near ∙ mark_home b home) ∙ (made_keeps (side_first e) (kept_third e) (kept_key e) hash b home).slots
+        | inl home ↦ ap (λ (x : ℕ). x % 2 ^ 28) (mark_is b near ∙ mark_home b home) ∙ (made_keeps (bare_mark e) (kept_third e) (kept_key e) hash b home).slots
         | inr stash ↦ ap (λ (x : ℕ). x % 2 ^ 28) (mark_is b near ∙ mark_stash b stash)
       ]
 
       third_same : (b : ℕ) → b < buckets → side_word words b 3 % 2 ^ 48 ≡ kept_word e b 3 % 2 ^ 48
       third_same b near = elim (cases_lt b homes) [
-        | inl home ↦ ap (λ (x : ℕ). x % 2 ^ 48) (third_is b near ∙ third_home b home) ∙ (made_keeps (side_first e) (kept_third e) (kept_key e) hash b home).fingers
+        | inl home ↦ ap (λ (x : ℕ). x % 2 ^ 48) (third_is b near ∙ third_home b home) ∙ (made_keeps (bare_mark e) (kept_third e) (kept_key e) hash b home).fingers
         | inr stash ↦ ap (λ (x : ℕ). x % 2 ^ 48) (third_is b near ∙ third_stash b stash) ∙ again (kept_word e b 3)
       ]
         where
@@ -149,8 +149,8 @@ module _ (e : Enclosed) where
           again x = omega arith
 
       -- the records that stand there
-      stands : (b r k : ℕ) → Stands (side_first e) (kept_key e) b r k ↔ (Stands (kept_first e) (kept_key e) b r k × Covers depth pattern (hash k))
-      stands = copy_has (kept_first e) (side_first e) (kept_key e) hash depth pattern (λ b. small (block * b + 1))
+      stands : (b r k : ℕ) → Stands (bare_mark e) (kept_key e) b r k ↔ (Stands (kept_first e) (kept_key e) b r k × Covers depth pattern (hash k))
+      stands = copy_has (kept_first e) (bare_mark e) (kept_key e) hash depth pattern (λ b. small (block * b + 1))
           (λ b near. (side_slots e b, covered_is (kept_first e) (kept_key e) hash depth pattern b, refl))
 
       taken_there : (b r : ℕ) → b < buckets → r < record_slots → allocated r (side_word words b 1) ≡ 1
@@ -159,7 +159,7 @@ module _ (e : Enclosed) where
           let both = (stands b r (kept_key e b r)).0 (record {
             bucket = near;
             slot = low;
-            taken = sym (same_allocated r (side_word words b 1) (side_first e b) low (low_same b near)) ∙ taken;
+            taken = sym (same_allocated r (side_word words b 1) (bare_mark e b) low (low_same b near)) ∙ taken;
             has_key = refl;
           }) in
           (both.0.taken, subst (λ (d : ℕ). Covers d (2 * pattern_in e.head + 1) (hash (kept_key e b r))) depth_is (subst (λ (p : ℕ). Covers depth p (hash (kept_key e b r))) pattern_is both.1))
@@ -168,29 +168,29 @@ module _ (e : Enclosed) where
           → allocated r (side_word words b 1) ≡ 1
       taken_back b r near low o =
           let covers = subst (λ (p : ℕ). Covers depth p (hash (kept_key e b r))) (sym pattern_is) (subst (λ (d : ℕ). Covers d (2 * pattern_in e.head + 1) (hash (kept_key e b r))) (sym depth_is) o.1) in
-          same_allocated r (side_word words b 1) (side_first e b) low (low_same b near) ∙ ((stands b r (kept_key e b r)).1 (record { bucket = near; slot = low; taken = o.0; has_key = refl }, covers)).taken
+          same_allocated r (side_word words b 1) (bare_mark e b) low (low_same b near) ∙ ((stands b r (kept_key e b r)).1 (record { bucket = near; slot = low; taken = o.0; has_key = refl }, covers)).taken
 
       same_members : (b r : ℕ) → b < buckets → r < record_slots → allocated r (side_word words b 1) ≡ 1 → member r (side_word words b 1) ≡ member r (kept_first e b)
       same_members b r near low taken =
           let same = low_same b near in
-          same_member r (side_word words b 1) (side_first e b) low same
-          ∙ copied_member (kept_first e b) (side_slots e b) r (small (block * b + 1)) (slots_within b) low (sym (same_allocated r (side_word words b 1) (side_first e b) low same) ∙ taken)
+          same_member r (side_word words b 1) (bare_mark e b) low same
+          ∙ copied_member (kept_first e b) (side_slots e b) r (small (block * b + 1)) (slots_within b) low (sym (same_allocated r (side_word words b 1) (bare_mark e b) low same) ∙ taken)
 
       exact_there : (b : ℕ) → b < homes → HasExactNotes (λ c. side_word words c 1) (λ c. side_word words c 3) b (stashed_of (λ c. side_word words c 1) (kept_key e) hash b)
       exact_there b home =
           let next : ℕ = probing_of b in
           let near : next < homes = omega arith in
-          let first : (c : ℕ) → c < homes → side_word words c 1 ≡ first_with (side_first e c) (side_notes e c) = λ c low. mark_is c (omega (arith, low)) ∙ mark_home c low in
+          let first : (c : ℕ) → c < homes → side_word words c 1 ≡ first_with (bare_mark e c) (side_notes e c) = λ c low. mark_is c (omega (arith, low)) ∙ mark_home c low in
           let third : (c : ℕ) → c < homes → side_word words c 3 ≡ third_with (kept_third e c) (side_notes e c) = λ c low. third_is c (omega (arith, low)) ∙ third_home c low in
           let by : (f g u w : ℕ) → List OverflowNote → Type 0 = λ f g u w stashed. AreExact (notes_by f g 0 ++ notes_by u w 1) (overflow_count f) stashed in
-          let stashed : List OverflowNote = stashed_of (side_first e) (kept_key e) hash b in
+          let stashed : List OverflowNote = stashed_of (bare_mark e) (kept_key e) hash b in
           subst (λ (x : List OverflowNote). by (side_word words b 1) (side_word words b 3) (side_word words next 1) (side_word words next 3) x)
-          (sym (stashed_same (side_first e) (λ c. side_word words c 1) (kept_key e) (kept_key e) hash (λ c stash low. mark_is c low ∙ mark_stash c stash) (λ c r _ _. refl) b))
+          (sym (stashed_same (bare_mark e) (λ c. side_word words c 1) (kept_key e) (kept_key e) hash (λ c stash low. mark_is c low ∙ mark_stash c stash) (λ c r _ _. refl) b))
           (subst (λ (x : ℕ). by (side_word words b 1) (side_word words b 3) (side_word words next 1) x stashed) (sym (third next near))
           (subst (λ (x : ℕ). by (side_word words b 1) (side_word words b 3) x (third_with (kept_third e next) (side_notes e next)) stashed) (sym (first next near))
-          (subst (λ (x : ℕ). by (side_word words b 1) x (first_with (side_first e next) (side_notes e next)) (third_with (kept_third e next) (side_notes e next)) stashed) (sym (third b home))
-          (subst (λ (x : ℕ). by x (third_with (kept_third e b) (side_notes e b)) (first_with (side_first e next) (side_notes e next)) (third_with (kept_third e next) (side_notes e next)) stashed) (sym (first b home))
-          (made_notes (side_first e) (kept_third e) (kept_key e) hash b home)))))
+          (subst (λ (x : ℕ). by (side_word words b 1) x (first_with (bare_mark e next) (side_notes e next)) (third_with (kept_third e next) (side_notes e next)) stashed) (sym (third b home))
+          (subst (λ (x : ℕ). by x (third_with (kept_third e b) (side_notes e b)) (first_with (bare_mark e next) (side_notes e next)) (third_with (kept_third e next) (side_notes e next)) stashed) (sym (first b home))
+          (made_notes (bare_mark e) (kept_third e) (kept_key e) hash b home)))))
 
       marked_side : IsSide e words
       marked_side = record {

@@ -8,7 +8,7 @@ use Rattle.bucket_meta.specs.Bucket.{allocated}
 use Rattle.bucket_meta.specs.Marks.{copied_mark}
 use Rattle.whole_segment.specs.Slots.{AreHalves}
 use Rattle.whole_segment.specs.Records.{Stands}
-use Rattle.whole_segment.specs.Order.{bucket_at, slot_at, position_of, IsAt, StandsBefore}
+use Rattle.whole_segment.specs.Order.{bucket_in_order, slot_at, position_of, IsAt, StandsBefore}
 use Rattle.whole_segment.specs.Mending.{IsSpoiled, AreSpoiled, IsLookedFor, IsMended, without_spoiled}
 use Rattle.whole_segment.proofs.marking.MarkHalves.{are_halves}
 use Rattle.whole_segment.proofs.marking.Positions.{IsPlaceOf, position_most, position_again, place_again, bucket_low}
@@ -26,8 +26,8 @@ module _ (first : ℕ → ℕ) (key : ℕ → ℕ → ℕ) where
 
   search_more : (home k n : ℕ) → Searched home k n → Searched home k (suc n)
   search_more home k n (inl found) = inl (found.0, omega (arith, found.1), found.2)
-  search_more home k n (inr none) = elim (cases_eq (allocated (slot_at n) (first (bucket_at home n))) 1) [
-    | inl taken ↦ elim (cases_eq (key (bucket_at home n) (slot_at n)) k) [
+  search_more home k n (inr none) = elim (cases_eq (allocated (slot_at n) (first (bucket_in_order home n))) 1) [
+    | inl taken ↦ elim (cases_eq (key (bucket_in_order home n) (slot_at n)) k) [
       | inl same ↦ inl (n, omega arith, record { is_at = record { taken = taken; has_key = same }; none_before = none })
       | inr other ↦ inr (none_below (λ at. other at.has_key))
     ]
@@ -95,7 +95,7 @@ module _ (first : ℕ → ℕ) (key : ℕ → ℕ → ℕ) where
         sound bad = by bad.why
 
     -- ---- where a key stands at a position
-    stands_at : (k p : ℕ) → p < 56 → IsAt first key (home_of (hash k)) k p → Stands first key (bucket_at (home_of (hash k)) p) (slot_at p) k
+    stands_at : (k p : ℕ) → p < 56 → IsAt first key (home_of (hash k)) k p → Stands first key (bucket_in_order (home_of (hash k)) p) (slot_at p) k
     stands_at k p low at =
         record { bucket = bucket_low (home_of (hash k)) (home_of-below (hash k)) p; slot = omega arith; taken = at.taken; has_key = at.has_key }
 
@@ -114,14 +114,14 @@ module _ (first : ℕ → ℕ) (key : ℕ → ℕ → ℕ) where
         none before.position here.0 here.1
 
     module _ (k : ℕ) (own : Covers depth pattern (hash k)) where
-      at_first : (p : ℕ) → p < 56 → IsFirstAt (home_of (hash k)) k p → Stands mended key (bucket_at (home_of (hash k)) p) (slot_at p) k
+      at_first : (p : ℕ) → p < 56 → IsFirstAt (home_of (hash k)) k p → Stands mended key (bucket_in_order (home_of (hash k)) p) (slot_at p) k
       at_first p low found =
-          first_stays (bucket_at (home_of (hash k)) p) (slot_at p) k (stands_at k p low found.is_at) own
-          (none_before_by (bucket_at (home_of (hash k)) p) (slot_at p) k found.is_at.has_key
+          first_stays (bucket_in_order (home_of (hash k)) p) (slot_at p) k (stands_at k p low found.is_at) own
+          (none_before_by (bucket_in_order (home_of (hash k)) p) (slot_at p) k found.is_at.has_key
           (λ q before at. found.none_before q (subst (λ n. q < n) (position_again (home_of (hash k)) (home_of-below (hash k)) p low) before) at))
 
       by_search : (b r : ℕ) → Stands first key b r k → Searched (home_of (hash k)) k 56 → (c : ℕ) × (t : ℕ) × Stands mended key c t k
-      by_search b r stands (inl found) = (bucket_at (home_of (hash k)) found.0, slot_at found.0, at_first found.0 found.1 found.2)
+      by_search b r stands (inl found) = (bucket_in_order (home_of (hash k)) found.0, slot_at found.0, at_first found.0 found.1 found.2)
       by_search b r stands (inr none) = (
         b,
         r,
@@ -164,7 +164,7 @@ module _ (first : ℕ → ℕ) (key : ℕ → ℕ → ℕ) where
           | inl lower ↦ absurd (none_lower c t b r other one lower)
           | inr nor ↦
               let same : at_of c t ≡ at_of b r = omega (arith, not, nor) in (
-                sym (place c t other).bucket ∙ ap (bucket_at own_home) same ∙ (place b r one).bucket,
+                sym (place c t other).bucket ∙ ap (bucket_in_order own_home) same ∙ (place b r one).bucket,
                 sym (place c t other).slot ∙ ap slot_at same ∙ (place b r one).slot,
               )
         ]

@@ -4,7 +4,7 @@ use Rattle.std.specs.Prelude.{◌==◌}
 use Rattle.std.proofs.lemmas.Bool.{cases_eq, cases_lt, eq-eqb, ne_eqb}
 use Rattle.hash_word.specs.Hash.{probing_of}
 use Rattle.image_layout.specs.Standing.{looked_at}
-use Rattle.whole_segment.specs.Order.{bucket_at, slot_at, position_of}
+use Rattle.whole_segment.specs.Order.{bucket_in_order, slot_at, position_of}
 
 -- a choice by tests that are known
 first_of : (b c d e : Bool) (v w x y z : ℕ) → b ≡ true → cond b v (cond c w (cond d x (cond e y z))) ≡ v
@@ -29,19 +29,19 @@ module _ (home : ℕ) (within : home < 64) where
   probing_low = omega arith
 
   -- ---- the bucket of a position
-  pub in_home : (p : ℕ) → p < 14 → bucket_at home p ≡ home
+  pub in_home : (p : ℕ) → p < 14 → bucket_in_order home p ≡ home
   in_home p low = let n : p / 14 ≡ 0 = omega (arith, low) in ap (looked_at home) n
 
-  pub in_probing : (p : ℕ) → 14 ≤ p → p < 28 → bucket_at home p ≡ probing_of home
+  pub in_probing : (p : ℕ) → 14 ≤ p → p < 28 → bucket_in_order home p ≡ probing_of home
   in_probing p high low = let n : p / 14 ≡ 1 = omega (arith, high, low) in ap (looked_at home) n
 
-  pub in_stash : (p : ℕ) → 28 ≤ p → p < 42 → bucket_at home p ≡ 64
+  pub in_stash : (p : ℕ) → 28 ≤ p → p < 42 → bucket_in_order home p ≡ 64
   in_stash p high low = let n : p / 14 ≡ 2 = omega (arith, high, low) in ap (looked_at home) n
 
-  pub in_last : (p : ℕ) → 42 ≤ p → bucket_at home p ≡ 65
+  pub in_last : (p : ℕ) → 42 ≤ p → bucket_in_order home p ≡ 65
   in_last p high = let n : p / 14 ≡ suc (suc (suc (p / 14 - 3))) = omega (arith, high) in ap (looked_at home) n
 
-  pub bucket_low : (p : ℕ) → bucket_at home p < 66
+  pub bucket_low : (p : ℕ) → bucket_in_order home p < 66
   bucket_low p = elim (cases_lt p 14) [
     | inl low ↦ omega (arith, in_home p low, within)
     | inr high ↦ elim (cases_lt p 28) [
@@ -91,21 +91,21 @@ module _ (home : ℕ) (within : home < 64) where
   ]
 
   -- ---- there and back
-  pub position_again : (p : ℕ) → p < 56 → position_of home (bucket_at home p) (slot_at p) ≡ p
+  pub position_again : (p : ℕ) → p < 56 → position_of home (bucket_in_order home p) (slot_at p) ≡ p
   position_again p low = elim (cases_lt p 14) [
-    | inl one ↦ let e = at_home (bucket_at home p) (slot_at p) (in_home p one) in omega (arith, e, one)
+    | inl one ↦ let e = at_home (bucket_in_order home p) (slot_at p) (in_home p one) in omega (arith, e, one)
     | inr high ↦ elim (cases_lt p 28) [
-      | inl two ↦ let e = at_probing (bucket_at home p) (slot_at p) (in_probing p high two) in omega (arith, e, high, two)
+      | inl two ↦ let e = at_probing (bucket_in_order home p) (slot_at p) (in_probing p high two) in omega (arith, e, high, two)
       | inr higher ↦ elim (cases_lt p 42) [
-        | inl three ↦ let e = at_stash (bucket_at home p) (slot_at p) (in_stash p higher three) in omega (arith, e, higher, three)
-        | inr last ↦ let e = at_last (bucket_at home p) (slot_at p) (in_last p last) in omega (arith, e, last, low)
+        | inl three ↦ let e = at_stash (bucket_in_order home p) (slot_at p) (in_stash p higher three) in omega (arith, e, higher, three)
+        | inr last ↦ let e = at_last (bucket_in_order home p) (slot_at p) (in_last p last) in omega (arith, e, last, low)
       ]
     ]
   ]
 
   -- bucket b and slot r are those of position p
   pub record IsPlaceOf (b r p : ℕ) : Type 0 where
-    pub bucket : bucket_at home p ≡ b
+    pub bucket : bucket_in_order home p ≡ b
     pub slot : slot_at p ≡ r
 
   pub place_again : (b r : ℕ) → r < 14 → position_of home b r < 56 → IsPlaceOf b r (position_of home b r)

@@ -6,7 +6,7 @@ use Rattle.world.specs.Views.{View, At}
 use Rattle.world.specs.areas.Kinds.{StructureKind, view_then}
 use Rattle.world.specs.areas.Asking.{MayBeNewest, MayStandBeside, MayAt}
 use Rattle.world.specs.Invariant.{Holds}
-use Rattle.world.specs.areas.Keeping.{found_at, words_then, KeepsRecords, KeepsNotesOfHomes, KeepsOthers, StructureStepsSpare, StructureStepsReplyNothing}
+use Rattle.world.specs.areas.Keeping.{found_at, words_then, KeepsOwnedRecords, KeepsNotesOfHomes, KeepsOthers, StructureStepsSpare, StructureStepsReplyNothing}
 use Rattle.world.proofs.moving.Known.{known_is_so}
 use Rattle.world.proofs.mild.Mild.{IsMild, records, notes_of_homes, plans}
 use Rattle.world.proofs.mild.Steps.{mild_step}
@@ -38,7 +38,7 @@ module _ (site : Ground) (kind : StructureKind) (words : Words) (views : List Vi
   same : HasSame v w
   same = same_view site words v kind
 
-pub records_kept : KeepsRecords
+pub records_kept : KeepsOwnedRecords
 records_kept site kind words views j v h at may = records site words (words_then site kind j words) views j v (view_then site.shape kind (found_at site kind words) v) h at
     (mild site kind words views j v h at may)
 

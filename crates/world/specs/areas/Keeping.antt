@@ -94,8 +94,8 @@ KeepsLocks = KeepsPart (λ site words views log. Locks site words views)
 abbrev pub KeepsHeldWords : Type 0
 KeepsHeldWords = KeepsPart (λ site words views log. KnownWords site words views)
 
-abbrev pub KeepsRecords : Type 0
-KeepsRecords = KeepsPart (λ site words views log. Records site words views)
+abbrev pub KeepsOwnedRecords : Type 0
+KeepsOwnedRecords = KeepsPart (λ site words views log. Records site words views)
 
 abbrev pub KeepsNotesOfHomes : Type 0
 KeepsNotesOfHomes = KeepsPart (λ site words views log. Overflow site words views)

@@ -11,7 +11,7 @@ use Rattle.frame_facts.specs.Buckets.{IsTaken, key_in}
 use Rattle.frame_facts.specs.Slots.{SameSlot}
 use Rattle.frame_facts.specs.Hits.{Hit}
 use Rattle.frame_facts.proofs.segments.Noted.{exact_same}
-use Rattle.frame_facts.specs.Copies.{HasRecordOf, IsOfOneSide, IsSlotCopy}
+use Rattle.frame_facts.specs.Copies.{HasRecordOf, IsRecordOfOneSide, IsSlotCopy}
 use Rattle.world.specs.Ground.{IsUnder}
 use Rattle.world.proofs.holding.Known.{meta, same_key, same_value, same_finger, hit_to}
 use Rattle.world.proofs.holding.Owing.{same_notes}
@@ -78,13 +78,13 @@ module _ (shape : Shape) (word w : Words) (s n : ℕ) (head : w (head_at shape s
       fingerprint = of_side.fingerprint t ∙ o.fingerprint ∙ sym (same_finger shape word w s b of_whole r);
     }
 
-    taken_there : IsOfOneSide shape word s b r → IsOfOneSide shape w s b r
+    taken_there : IsRecordOfOneSide shape word s b r → IsRecordOfOneSide shape w s b r
     taken_there o = record {
       taken = ap (allocated r) whole_meta ∙ o.taken;
       inside = subst (λ k. InOneSide (frame_of shape w) s (key_hash shape k)) (sym whole_key) (inside_there (key_hash shape (key_in word (bucket_at shape s b) r)) o.inside);
     }
 
-    taken_back : IsOfOneSide shape w s b r → IsOfOneSide shape word s b r
+    taken_back : IsRecordOfOneSide shape w s b r → IsRecordOfOneSide shape word s b r
     taken_back o = record {
       taken = sym (ap (allocated r) whole_meta) ∙ o.taken;
       inside = inside_back (key_hash shape (key_in word (bucket_at shape s b) r)) (subst (λ k. InOneSide (frame_of shape w) s (key_hash shape k)) whole_key o.inside);
