@@ -1,9 +1,9 @@
 -- How a displacement fits the world: the kind of each of its events, and the view that its caller has in each step.
-use Rattle.std.specs.Prelude.{◌≡◌, ◌≢◌, ℕ, ◌+◌, ◌%◌, ◌<◌, ⊤, true, Option, None, Some, List, [], ◌∷◌, slice_index}
+use Rattle.std.specs.Prelude.{◌≡◌, ◌≢◌, ℕ, ◌+◌, ◌<◌, ⊤, true, Option, None, Some, List, [], ◌∷◌, slice_index}
 use Rattle.bucket_meta.specs.Bucket.{allocated, finger, record_slots, mark_place, fingers_place, rest_place, key_place}
 use Rattle.hash_word.specs.Hash.{home_of, finger_of}
 use Rattle.trace.specs.Events.{Words}
-use Rattle.image_layout.specs.Places.{root_word, block}
+use Rattle.image_layout.specs.Places.{root_word, place_in_bucket}
 use Rattle.sound_image.specs.Records.{key_hash}
 use Rattle.way.specs.Ways.{is_leading}
 use Rattle.map_model.specs.declared.call.Call.{Call}
@@ -99,7 +99,7 @@ module _ (kept : Kept) (shift : Shift) where
 module _ (kept : Kept) where
   abbrev pub kind_at : MoveStep → Kind
   kind_at (Lock direction take) = take_kind (lock_of kept (target_of direction)) take
-  kind_at (Fill direction load) = learns (lock_of kept (target_of direction) + load.next % block)
+  kind_at (Fill direction load) = learns (lock_of kept (target_of direction) + place_in_bucket load.next)
   kind_at CountSpent = refuses (call_of kept.change) reply.Spent
   kind_at (step.Make shift leg make) = make_kind (leg_kind kept shift leg) (lock_at kept shift leg) (record_of shift leg) make
   kind_at (Draw shift) = draws_place (call_of kept.change)

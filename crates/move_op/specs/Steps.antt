@@ -1,5 +1,5 @@
 -- What a displacement wants in each step, and what an answer makes of it.
-use Rattle.std.specs.Prelude.{ℕ, ◌+◌, ◌%◌, ⊤, Bool, true, false, Option, None, Some, is_none, List}
+use Rattle.std.specs.Prelude.{ℕ, ◌+◌, ⊤, Bool, true, false, Option, None, Some, is_none, List}
 use Rattle.image_layout.specs.Volatile.{counter_word}
 use Rattle.op_core.specs.declared.want.Want.{Want}
 use Rattle.op_core.specs.declared.want.Want.TheVariants as want
@@ -38,7 +38,7 @@ use Rattle.move_op.specs.declared.step.MoveStep.TheVariants.{Lock, Fill, CountSp
 use Rattle.move_op.specs.declared.step.MoveStep.TheVariants as step
 use Rattle.move_op.specs.declared.op.MoveOp.{MoveOp}
 use Rattle.move_op.specs.Shifts.{target_of, shift_in, place_of, record_of}
-use Rattle.image_layout.specs.Places.{block}
+use Rattle.image_layout.specs.Places.{place_in_bucket}
 
 -- ---- ends
 -- what is kept, and the next step
@@ -108,7 +108,7 @@ module _ (kept : Kept) where
   -- THE EVENT that it wants
   abbrev pub wanted_in : MoveStep → Want
   wanted_in (Lock direction take) = take_wanted (lock_of (target_of direction)) take
-  wanted_in (Fill direction load) = want.Load (lock_of (target_of direction) + load.next % block)
+  wanted_in (Fill direction load) = want.Load (lock_of (target_of direction) + place_in_bucket load.next)
   wanted_in CountSpent = want.Load (counter_word kept.site.geometry)
   wanted_in (step.Make shift leg make) = make_wanted (lock_at shift leg) (record_of shift leg) make
   wanted_in (Draw shift) = want.Draw

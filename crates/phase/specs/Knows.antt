@@ -1,9 +1,9 @@
 -- What a holder of locks knows, said over one function of all words, which stands in proofs alone: which words it knows, and which
 -- may be loose.
-use Rattle.std.specs.Prelude.{◌≡◌, ℕ, ◌+◌, ◌%◌, ◌-◌, ◌<◌, ◌≤◌, List, ◌⊎◌, slice_index, if◌then◌else◌}
+use Rattle.std.specs.Prelude.{◌≡◌, ℕ, ◌+◌, ◌-◌, ◌<◌, ◌≤◌, List, ◌⊎◌, slice_index, if◌then◌else◌}
 use Rattle.bucket_meta.specs.Bucket.{mark_place, rest_place}
 use Rattle.trace.specs.Events.{Words, with_word}
-use Rattle.image_layout.specs.Places.{Shape, block, bucket_at}
+use Rattle.image_layout.specs.Places.{Shape, block, place_in_bucket, bucket_at}
 use Rattle.image_layout.specs.Ranges.{is_under}
 use Rattle.map_model.specs.declared.call.Call.{Call}
 use Rattle.world.specs.Ground.{Ground, IsUnder}
@@ -43,9 +43,9 @@ with_loaded lock words word i = if is_under lock i then slice_index words (i - l
 -- a holder may load a bucket word by word, and knows each then; when all are loaded the bucket is known whole, and what was known
 -- is known still
 pub record HoldersLoad : Type 0 where
-  pub may : (site : Ground) (lock : ℕ) (load : Load) (v : View) → IsLoading lock v.known load → HasLock v.held lock → May site (learns (lock + load.next % block)) v
+  pub may : (site : Ground) (lock : ℕ) (load : Load) (v : View) → IsLoading lock v.known load → HasLock v.held lock → May site (learns (lock + place_in_bucket load.next)) v
   pub stands : (shape : Shape) (lock : ℕ) (load : Load) (v : View) (n : ℕ) → IsLoading lock v.known load
-      → HasLoaded lock (view_after shape (learns (lock + load.next % block)) n v).known (load_taken load n)
+      → HasLoaded lock (view_after shape (learns (lock + place_in_bucket load.next)) n v).known (load_taken load n)
   pub whole : (shape : Shape) (lock : ℕ) (words : List ℕ) (v : View) (i n : ℕ) → IsWhole lock words v → IsWhole lock words (view_after shape (learns i) n v)
 
 -- of any set

@@ -1,10 +1,10 @@
 -- The laws of the phases.
-use Rattle.std.specs.Prelude.{◌≡◌, ◌≢◌, ℕ, ◌+◌, ◌%◌, ◌^◌, ◌<◌, true, false, Some, List, ◌∷◌, ◌++◌}
+use Rattle.std.specs.Prelude.{◌≡◌, ◌≢◌, ℕ, ◌+◌, ◌^◌, ◌<◌, true, false, Some, List, ◌∷◌, ◌++◌}
 use Rattle.op_core.specs.declared.want.Want.TheVariants.{Load as LoadWord}
 use Rattle.op_core.specs.declared.want.Ans.TheVariants.{Value}
 use Rattle.op_core.specs.Answers.{load_of}
 use Rattle.trace.specs.Events.{Words}
-use Rattle.image_layout.specs.Places.{Shape, IsShape, header_word, words_of, block}
+use Rattle.image_layout.specs.Places.{Shape, IsShape, header_word, words_of, place_in_bucket}
 use Rattle.image_layout.specs.Volatile.{all_words_of}
 use Rattle.sound_image.specs.Records.{key_hash}
 use Rattle.bucket_words.specs.Owners.{owner_of}
@@ -110,7 +110,7 @@ BackAsksWithin = (here : Site) (hash : ℕ) → IsShape here.geometry → hash <
 
 -- ---- the load of a bucket
 abbrev pub LoadStands : Type 0
-LoadStands = (lock : ℕ) (pairs : List (ℕ × ℕ)) (load : Load) (n : ℕ) → IsLoading lock pairs load → HasLoaded lock ((lock + load.next % block, n) ∷ pairs) (load_taken load n)
+LoadStands = (lock : ℕ) (pairs : List (ℕ × ℕ)) (load : Load) (n : ℕ) → IsLoading lock pairs load → HasLoaded lock ((lock + place_in_bucket load.next, n) ∷ pairs) (load_taken load n)
 
 abbrev pub LoadFalls : Type 0
 LoadFalls = (load : Load) (n : ℕ) → loaded_left (load_taken load n) < load_left load

@@ -1,7 +1,7 @@
 //! The load of a bucket: the 31 words behind its lock word.
 
-ghost use Rattle.std.specs.Prelude.{◌≡◌, ◌≤◌, ◌+◌, ◌%◌, if◌then◌else◌};
-ghost use Rattle.image_layout.specs.Places.{most_words, block};
+ghost use Rattle.std.specs.Prelude.{◌≡◌, ◌≤◌, ◌+◌, if◌then◌else◌};
+ghost use Rattle.image_layout.specs.Places.{most_words, place_in_bucket};
 ghost use Rattle.op_core.specs.declared.want.Want.TheVariants as want;
 ghost use Rattle.phase.specs.declared.load.Loaded.TheVariants.{On, All};
 ghost use Rattle.phase.specs.Loads.{load_begun, load_taken};
@@ -48,7 +48,7 @@ impl Load {
 /// The event that it wants, in the bucket of this lock word.
 pub fn load_want(lock: u64, load: &Load) -> Want
     requires { lock ≤ most_words }
-    ensures { result ≡ want.Load (lock + load.now.next % block) }
+    ensures { result ≡ want.Load (lock + place_in_bucket load.now.next) }
 {
     Want::Load(lock + u64::from(load.next % WORDS))
 }

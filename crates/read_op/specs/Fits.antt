@@ -1,6 +1,6 @@
 -- How a get fits the world: the kind of each of its events, the view that its caller has in each step, and what each
 -- event does to that view.
-use Rattle.std.specs.Prelude.{◌≡◌, ◌≢◌, ◌⊎◌, ℕ, suc, ◌+◌, ◌%◌, ◌^◌, ◌<◌, nat_lt, ⊤, Bool, true, false, Option, None, Some, List, [], if◌then◌else◌}
+use Rattle.std.specs.Prelude.{◌≡◌, ◌≢◌, ◌⊎◌, ℕ, suc, ◌+◌, ◌^◌, ◌<◌, nat_lt, ⊤, Bool, true, false, Option, None, Some, List, [], if◌then◌else◌}
 use Rattle.op_core.specs.declared.want.Want.TheVariants.{Done}
 use Rattle.op_core.specs.declared.want.Ans.TheVariants.{Value}
 use Rattle.hash_word.specs.Hash.{home_of, finger_of}
@@ -37,7 +37,7 @@ use Rattle.read_op.specs.declared.step.Task.{Task}
 use Rattle.read_op.specs.declared.op.ReadOp.{ReadOp}
 use Rattle.read_op.specs.Places.{free_at}
 use Rattle.read_op.specs.Steps.{begun, wanted, taken, lock_of}
-use Rattle.image_layout.specs.Places.{block, buckets_of_key}
+use Rattle.image_layout.specs.Places.{place_in_bucket, buckets_of_key}
 
 -- ---- sets of buckets
 -- those that are looked at in all
@@ -94,7 +94,7 @@ module _ (task : Task) where
   abbrev pub kind_in : ReadStep → Kind
   kind_in (Way walk) = walk_kind task.site task.hash walk
   kind_in (Look s p) = looks (lock_of task s p)
-  kind_in (Fill s p load) = glances_word (lock_of task s p) (lock_of task s p + load.next % block)
+  kind_in (Fill s p load) = glances_word (lock_of task s p) (lock_of task s p + place_in_bucket load.next)
   kind_in (Count s) = if leads task s then places task.key s.value else peeks (counter_word task.site.geometry)
   kind_in (Check s placed back) = back_kind task.site task.hash s.path (validates (head_word task.site.geometry s.path.segment)) back
   kind_in (Relook s placed p) = validates (lock_of task s p)

@@ -1,5 +1,5 @@
 -- What a get wants in each step, and what an answer makes of it.
-use Rattle.std.specs.Prelude.{◌==◌, ℕ, ◌+◌, ◌%◌, Bool, true, false, if◌then◌else◌, Option, Some, None, List, slice_index}
+use Rattle.std.specs.Prelude.{◌==◌, ℕ, ◌+◌, Bool, true, false, if◌then◌else◌, Option, Some, None, List, slice_index}
 use Rattle.std.specs.Option.{option_or}
 use Rattle.hash_word.specs.Hash.{finger_of}
 use Rattle.image_layout.specs.Volatile.{counter_word}
@@ -36,7 +36,7 @@ use Rattle.read_op.specs.declared.step.Task.{Task}
 use Rattle.read_op.specs.declared.op.ReadOp.{ReadOp}
 use Rattle.phase.specs.Places.{stash_index, lock_word}
 use Rattle.read_op.specs.Places.{free_at}
-use Rattle.image_layout.specs.Places.{block}
+use Rattle.image_layout.specs.Places.{place_in_bucket}
 
 -- what a key has in a bucket of these words
 abbrev pub value_of : List ℕ → ℕ → Option ℕ
@@ -144,7 +144,7 @@ module _ (task : Task) where
   abbrev pub wanted_in : ReadStep → Want
   wanted_in (Way walk) = walk_wanted task.site task.hash walk
   wanted_in (Look seen place) = LoadWord (lock_of seen place)
-  wanted_in (Fill seen place load) = LoadWord (lock_of seen place + load.next % block)
+  wanted_in (Fill seen place load) = LoadWord (lock_of seen place + place_in_bucket load.next)
   wanted_in (Count seen) = LoadWord (counter_word task.site.geometry)
   wanted_in (Check seen placed back) = LoadWord (back_word task.site task.hash seen.path back)
   wanted_in (Relook seen placed place) = LoadWord (lock_of seen place)

@@ -1,9 +1,9 @@
 -- How it fits the world: the kind of each of its events, and the view that its caller has in each step.
-use Rattle.std.specs.Prelude.{◌≡◌, ℕ, ◌+◌, ◌%◌, ◌^◌, ◌<◌, ⊤, Bool, true, false, Option, None, Some, List, [], ◌∷◌}
+use Rattle.std.specs.Prelude.{◌≡◌, ℕ, ◌+◌, ◌^◌, ◌<◌, ⊤, Bool, true, false, Option, None, Some, List, [], ◌∷◌}
 use Rattle.bucket_meta.specs.Bucket.{overflow_count, mark_place, rest_place}
 use Rattle.hash_word.specs.Hash.{home_of, finger_of}
 use Rattle.trace.specs.Events.{Words, with_word}
-use Rattle.image_layout.specs.Places.{root_word, block}
+use Rattle.image_layout.specs.Places.{root_word, place_in_bucket}
 use Rattle.sound_image.specs.Records.{key_hash, notes_of, word_in}
 use Rattle.way.specs.Ways.{is_leading}
 use Rattle.map_model.specs.declared.call.Call.{Call}
@@ -101,7 +101,7 @@ module _ (kept : Kept) (seen : Seen) where
 
   abbrev pub kind_at : StashStep → Kind
   kind_at (Lock bucket take) = take_kind (lock_of kept (place_of bucket)) take
-  kind_at (Fill bucket load) = learns (lock_of kept (place_of bucket) + load.next % block)
+  kind_at (Fill bucket load) = learns (lock_of kept (place_of bucket) + place_in_bucket load.next)
   kind_at (step.Make make) = make_kind publish_kind (lock_of kept (place_of seen.bucket)) seen.written make
   kind_at (Note part) = note_kind part (noted kept.hash seen)
   kind_at Draw = draws_place (call_of kept.change)

@@ -1,5 +1,5 @@
 -- What is wanted in each step, and what an answer makes of it.
-use Rattle.std.specs.Prelude.{ℕ, ◌+◌, ◌%◌, ⊤, Bool, true, false, Option, None, Some, is_none, List, if◌then◌else◌}
+use Rattle.std.specs.Prelude.{ℕ, ◌+◌, ⊤, Bool, true, false, Option, None, Some, is_none, List, if◌then◌else◌}
 use Rattle.bucket_meta.specs.Bucket.{mark_place, rest_place}
 use Rattle.image_layout.specs.Volatile.{counter_word}
 use Rattle.op_core.specs.declared.want.Want.{Want}
@@ -42,7 +42,7 @@ use Rattle.stash_op.specs.declared.step.StashStep.TheVariants as step
 use Rattle.stash_op.specs.declared.step.Stage.{Stage}
 use Rattle.stash_op.specs.declared.op.StashOp.{StashOp}
 use Rattle.stash_op.specs.Search.{place_of, note_place, free_slot, record_in, noted, has_finger}
-use Rattle.image_layout.specs.Places.{block}
+use Rattle.image_layout.specs.Places.{place_in_bucket}
 
 -- ---- ends
 -- what was seen, and the next step
@@ -133,7 +133,7 @@ module _ (kept : Kept) where
     -- THE EVENT that is wanted
     abbrev pub wanted_in : StashStep → Want
     wanted_in (Lock bucket take) = take_wanted (lock_of (place_of bucket)) take
-    wanted_in (Fill bucket load) = want.Load (lock_of (place_of bucket) + load.next % block)
+    wanted_in (Fill bucket load) = want.Load (lock_of (place_of bucket) + place_in_bucket load.next)
     wanted_in (step.Make make) = make_wanted (lock_of (place_of seen.bucket)) seen.written make
     wanted_in (Note part) = note_wanted part (noted kept.hash seen)
     wanted_in Draw = want.Draw

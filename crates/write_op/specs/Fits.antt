@@ -1,9 +1,9 @@
 -- How a change fits the world: the kind of each of its events, and the view that its caller has in each step.
-use Rattle.std.specs.Prelude.{◌≡◌, ℕ, ◌+◌, ◌%◌, ◌^◌, ◌<◌, nat_le, ⊤, Bool, true, false, Option, None, Some, List, [], ◌∷◌, if◌then◌else◌}
+use Rattle.std.specs.Prelude.{◌≡◌, ℕ, ◌+◌, ◌^◌, ◌<◌, nat_le, ⊤, Bool, true, false, Option, None, Some, List, [], ◌∷◌, if◌then◌else◌}
 use Rattle.bucket_meta.specs.Bucket.{overflow_count, mark_place, rest_place}
 use Rattle.hash_word.specs.Hash.{home_of, finger_of}
 use Rattle.trace.specs.Events.{Words, with_word}
-use Rattle.image_layout.specs.Places.{root_word, block, buckets_of_key}
+use Rattle.image_layout.specs.Places.{root_word, place_in_bucket, buckets_of_key}
 use Rattle.sound_image.specs.Records.{key_hash, notes_of, word_in}
 use Rattle.map_model.specs.declared.call.Call.{Call}
 use Rattle.map_model.specs.declared.change.Effect.{Effect}
@@ -126,7 +126,7 @@ module _ (task : Task) (seen : Seen) where
   kind_at (Way walk) n = walk_kind task.site task.hash walk
   kind_at (Lock place take) n = take_kind (lock_of task seen place) take
   kind_at (Check back) n = back_kind task.site task.hash seen.path (pins seen.path.segment (home_of task.hash)) back
-  kind_at (Fill place load) n = learns (lock_of task seen place + load.next % block)
+  kind_at (Fill place load) n = learns (lock_of task seen place + place_in_bucket load.next)
   kind_at Count n = count_kind n
   kind_at (step.Make make) n = make_kind publish_kind (lock_of task seen seen.place) seen.written make
   kind_at Draw n = draws_place (call_of task.change)

@@ -1,5 +1,5 @@
 -- What a change wants in each step, and what an answer makes of it.
-use Rattle.std.specs.Prelude.{ℕ, ◌+◌, ◌%◌, nat_le, ⊤, Bool, true, false, Option, None, Some, is_none, List, if◌then◌else◌}
+use Rattle.std.specs.Prelude.{ℕ, ◌+◌, nat_le, ⊤, Bool, true, false, Option, None, Some, is_none, List, if◌then◌else◌}
 use Rattle.bucket_meta.specs.Bucket.{mark_place, rest_place}
 use Rattle.image_layout.specs.Volatile.{counter_word}
 use Rattle.sound_image.specs.Records.{key_hash}
@@ -59,7 +59,7 @@ use Rattle.write_op.specs.declared.step.WriteStep.TheVariants as step
 use Rattle.write_op.specs.declared.step.Stage.{Stage}
 use Rattle.write_op.specs.declared.op.WriteOp.{WriteOp}
 use Rattle.write_op.specs.Search.{found, room_in, visits, record_at, leaves_note, unnoted, has_finger}
-use Rattle.image_layout.specs.Places.{block}
+use Rattle.image_layout.specs.Places.{place_in_bucket}
 
 -- ---- ends
 -- what was seen, and the next step
@@ -188,7 +188,7 @@ module _ (task : Task) (seen : Seen) where
   wanted_in (Way walk) = walk_wanted task.site task.hash walk
   wanted_in (Lock place take) = take_wanted (lock_of place) take
   wanted_in (Check back) = want.Load (back_word task.site task.hash seen.path back)
-  wanted_in (Fill place load) = want.Load (lock_of place + load.next % block)
+  wanted_in (Fill place load) = want.Load (lock_of place + place_in_bucket load.next)
   wanted_in Count = want.Load (counter_word task.site.geometry)
   wanted_in (step.Make make) = make_wanted (lock_of seen.place) seen.written make
   wanted_in Draw = want.Draw
