@@ -94,11 +94,11 @@ slots_of_key = buckets_of_key * record_slots
 abbrev pub segment_slots : ℕ
 segment_slots = buckets * record_slots
 
--- the number of record slot r of bucket b among them
+-- the number of record slot r of bucket b among those
 abbrev pub slot_among_buckets : ℕ → ℕ → ℕ
 slot_among_buckets b r = record_slots * b + r
 
--- how many its stash has
+-- how many record slots the stash of a segment has
 abbrev pub stash_slots : ℕ
 stash_slots = stash_buckets * record_slots
 
@@ -110,14 +110,14 @@ note_words_of_home = 2
 abbrev pub note_words : ℕ
 note_words = note_words_of_home * homes
 
--- the home of the one of this number among them, and its number in that home
+-- of the one of this number among the words with notes: its home, and which word of that bucket it is
 abbrev pub home_of_note : ℕ → ℕ
 home_of_note n = n / note_words_of_home
 
 abbrev pub place_of_note : ℕ → ℕ
 place_of_note n = mark_place + (rest_place - mark_place) * (n % note_words_of_home)
 
--- the one of this number is the metadata word of its home
+-- whether the one of this number is the metadata word of its home
 abbrev pub is_mark_note : ℕ → Bool
 is_mark_note n = n % note_words_of_home == 0
 
@@ -144,7 +144,7 @@ slot_blocks = header_blocks + buckets
 abbrev pub segment_words : ℕ
 segment_words = block * slot_blocks
 
--- the number of its header among them
+-- which block of its slot the header is, counted from the first, which is 0
 abbrev pub header_block : ℕ
 header_block = 0
 
@@ -152,7 +152,7 @@ header_block = 0
 abbrev pub block_in_slot : ℕ → ℕ
 block_in_slot number = number / block % slot_blocks
 
--- how many words its buckets have together
+-- how many words the buckets of a segment have together
 abbrev pub words_of_buckets : ℕ
 words_of_buckets = block * buckets
 
@@ -167,8 +167,8 @@ first_among_buckets b = block * b
 abbrev pub word_among_buckets : ℕ → ℕ → ℕ
 word_among_buckets b n = first_among_buckets b + n
 
--- the bucket in which word i of them stands, and which word of its bucket it is; the second also of a word by its number in its slot, since a header is
--- one block
+-- the bucket in which word i of the words of all buckets stands, and which word of its bucket it is; the second also of a word by its number in its slot,
+-- since a header is one block, or in its bucket
 abbrev pub bucket_among : ℕ → ℕ
 bucket_among i = i / block
 
@@ -225,7 +225,8 @@ entries_of depth = 2 ^ depth
 abbrev pub depth_below : ℕ → ℕ
 depth_below depth = depth + 1
 
--- the depth of the area above that of a depth; the entry of it that has the hashes of entry i, and of one more; and which half of them entry i has, 0 or 1
+-- the depth of the area above that of a depth, and 0 of 0, which has none above; the entry of it that has the hashes of entry i, and of one more; and
+-- which half of them entry i has, 0 or 1
 abbrev pub depth_above : ℕ → ℕ
 depth_above depth = depth - 1
 
@@ -281,7 +282,7 @@ words_of shape = head_at shape shape.segments
 abbrev pub most_words : ℕ
 most_words = 35258400
 
--- the first word of bucket b of segment s; the stash buckets stand behind the homes; of these brackets, by which proofs go on
+-- the first word of bucket b of segment s; the stash buckets stand behind the homes; bracketed as proofs ask for it
 abbrev pub bucket_at : Shape → ℕ → ℕ → ℕ
 bucket_at shape s b = head_at shape s + header_words + first_among_buckets b
 

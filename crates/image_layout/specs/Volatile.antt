@@ -51,6 +51,6 @@ free_guard = 0
 abbrev pub all_words_of : Shape → ℕ
 all_words_of shape = words_of shape + guards_from + shape.segments
 
--- and this is above their number: it has 32 bits
+-- a number above that of all these words, whatever the shape
 abbrev pub words_bound : ℕ
 words_bound = 2 ^ 32

@@ -132,21 +132,21 @@ pub fn entries_of(depth: u64) -> u64
     1 << depth
 }
 
-/// The depth of the area above that of a depth; that of depth 0 has none above it.
+/// The depth of the area above that of a depth; 0 of depth 0, which has none above it.
 pub fn depth_above(depth: u64) -> u64
     ensures { result ≡ depth_above depth }
 {
     depth.saturating_sub(1)
 }
 
-/// The entry of the area above that has the hashes of this one, and of one more.
+/// The entry of the area above that has the hashes of an entry, and of one more.
 pub fn entry_above(i: u64) -> u64
     ensures { result ≡ entry_above i }
 {
     i / 2
 }
 
-/// Which half of the hashes of that one an entry has: 0 or 1.
+/// Which half of the hashes of the entry above it an entry has: 0 or 1.
 pub fn half_of_entry(i: u64) -> u64
     ensures { result ≡ half_of_entry i }
 {
@@ -190,21 +190,22 @@ pub fn bucket_of(number: u16) -> u16
     (number / BLOCK_WORDS).saturating_sub(HEADER_BLOCKS)
 }
 
-/// The first bucket behind that word: as many as the blocks before it, since the header is one block.
+/// The first bucket behind a word of a slot, by its number there: as many as the blocks before it, since the header is one block.
 pub fn bucket_behind(number: u16) -> u16
     ensures { result ≡ bucket_behind number }
 {
     1 - HEADER_BLOCKS + number / BLOCK_WORDS
 }
 
-/// The number that this word has among the words of the buckets; that of the first one for a word of the header.
+/// The number that a word of a slot has among the words of the buckets; that of the first one for a word of the header.
 pub fn among_buckets(number: u16) -> u16
     ensures { result ≡ among_buckets number }
 {
     number.saturating_sub(HEADER_WORDS)
 }
 
-/// The number that the metadata word of its bucket has among them; that of the first word for a word of the header.
+/// The number that the metadata word of the bucket of a word of a slot has among the words of the buckets; that of the first one for a
+/// word of the header.
 pub fn mark_among_buckets(number: u16) -> u16
     ensures { result ≡ mark_among_buckets number }
 {
@@ -218,14 +219,14 @@ pub fn home_of_note(number: u8) -> u8
     number / NOTE_WORDS_OF_HOME
 }
 
-/// Whether it is the metadata word of that home.
+/// Whether the one of this number among the words that have notes is the metadata word of its home.
 pub fn is_mark_note(number: u8) -> bool
     ensures { result ≡ is_mark_note number }
 {
     number % NOTE_WORDS_OF_HOME == 0
 }
 
-/// Its number in that home.
+/// Which word of its home the one of this number among the words that have notes is.
 pub fn place_of_note(number: u8) -> u8
     ensures is { result ≡ place_of_note number }
     ensures within { result < first_key }
@@ -358,7 +359,7 @@ impl Geometry {
         self.head_at(slot) + HEADER
     }
 
-    /// The word of its link.
+    /// The word of the link of the segment in this slot.
     pub fn link_word(&self, slot: u64) -> u64
         requires { slot < self.now.segments }
         ensures is { result ≡ link_word self.now slot }

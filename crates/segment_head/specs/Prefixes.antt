@@ -1,4 +1,5 @@
--- The patterns of the two sides of a segment, and the prefix of a segment beside that of its 1-side.
+-- The depth and the patterns of the two sides of a segment, the hashes of its 1-side and how many places of a deeper directory a side has, and the prefix
+-- of a segment beside that of its 1-side.
 use Rattle.std.specs.Prelude.{◌≡◌, ◌==◌, ◌&&◌, Bool, nat_lt, ℕ, ◌+◌, ◌-◌, ◌*◌, ◌^◌, ◌<◌}
 use Rattle.hash_word.specs.Hash.{Covers}
 use Rattle.segment_head.specs.declared.prefix.Prefix.{Prefix}

@@ -35,7 +35,7 @@ pub fn pattern_of_zero_side(pattern: u32) -> u64
     2 * u64::from(pattern)
 }
 
-/// That of its 1-side: the same with a 1 behind it.
+/// The pattern of the 1-side of a segment with this one: that with a 1 behind it.
 pub fn pattern_of_one_side(pattern: u32) -> u64
     ensures { result ≡ pattern_of_one_side pattern }
 {
@@ -55,7 +55,7 @@ pub fn zero_side_of(prefix: Prefix) -> Prefix
     }
 }
 
-/// That of its 1-side: one bit more, which is 1.
+/// The prefix of the 1-side of a segment with this one: one bit more, which is 1.
 pub fn one_side_of(prefix: Prefix) -> Prefix
     requires depth { prefix.depth ≤ most_depth }
     requires pattern { prefix.pattern < 2 ^ prefix.depth }

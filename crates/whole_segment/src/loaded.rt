@@ -91,7 +91,7 @@ impl Loaded {
         }
     }
 
-    /// What is loaded where these are the words of its buckets, numbered as [`first_among_buckets`] says.
+    /// What is loaded where these are the words of its buckets, numbered as `word_among_buckets` says.
     pub fn of_words(words: &[u64; WORDS_OF_BUCKETS as usize]) -> Loaded
         ensures { HasWords words.now result }
     {
