@@ -111,17 +111,24 @@ last_lock_version = 2 ^ lock_version_bits - 1
 abbrev pub spent_lock : ℕ
 spent_lock = free_lock last_lock_version
 
+-- from which bit of the metadata word on the allocation bits of record slots stand, and from which one on their membership bits: behind those
+abbrev pub allocated_from : ℕ
+allocated_from = 0
+
+abbrev pub member_from : ℕ
+member_from = allocated_from + record_slots
+
 -- 1 where record slot s, of 14, has a record
 abbrev pub allocated : ℕ → ℕ → ℕ
 allocated s w1 = bit s w1
 
 -- how many records a bucket has, by its word 1
 abbrev pub records_of : ℕ → ℕ
-records_of w1 = count_ones (bits 0 record_slots w1)
+records_of w1 = count_ones (bits allocated_from record_slots w1)
 
 -- 1 where the record of slot s stands in its probing bucket
 abbrev pub member : ℕ → ℕ → ℕ
-member s w1 = bit (record_slots + s) w1
+member s w1 = bit (member_from + s) w1
 
 -- how many bits of w1 are of the record slots: an allocation bit and a membership bit of each
 abbrev pub marks_bits : ℕ

@@ -3,23 +3,23 @@
 use Rattle.std.specs.Prelude.{◌≡◌, ◌≢◌, ℕ, ◌+◌, ◌*◌, ◌/◌, ◌%◌, ◌^◌, ◌<◌, nat_lt, slice_set, if◌then◌else◌, bit_or, bit_and}
 use Rattle.std.specs.Int.{bit_not, w64, to_le_bytes, from_le_bytes}
 use Rattle.word_bits.specs.Bits.{mask}
-use Rattle.bucket_meta.specs.Bucket.{allocated, member, finger, note_used, overflow_count, record_slots, note_slots, marks_bits, fingers_of_word, fingers_place, rest_place}
+use Rattle.bucket_meta.specs.Bucket.{allocated, member, finger, note_used, overflow_count, record_slots, note_slots, member_from, marks_bits, fingers_of_word, fingers_place, rest_place}
 
 -- the metadata word where the slot has a record that is at home: its allocation bit set, its membership bit not
 abbrev pub inserted_mark : ℕ → ℕ → ℕ
-inserted_mark w1 slot = bit_and (bit_or w1 (mask slot)) (bit_not w64 (mask (record_slots + slot)))
+inserted_mark w1 slot = bit_and (bit_or w1 (mask slot)) (bit_not w64 (mask (member_from + slot)))
 
 -- the metadata word where the slot has a record that stands in its probing bucket: both bits set
 abbrev pub member_mark : ℕ → ℕ → ℕ
-member_mark w1 slot = bit_or (bit_or w1 (mask slot)) (mask (record_slots + slot))
+member_mark w1 slot = bit_or (bit_or w1 (mask slot)) (mask (member_from + slot))
 
 -- the metadata word where the slot has no record: both bits not set
 abbrev pub removed_mark : ℕ → ℕ → ℕ
-removed_mark w1 slot = bit_and (bit_and w1 (bit_not w64 (mask slot))) (bit_not w64 (mask (record_slots + slot)))
+removed_mark w1 slot = bit_and (bit_and w1 (bit_not w64 (mask slot))) (bit_not w64 (mask (member_from + slot)))
 
 -- the allocation bits and the membership bits of a set of slots, where a metadata word has them
 abbrev pub slot_bits : ℕ → ℕ
-slot_bits slots = slots + 2 ^ record_slots * slots
+slot_bits slots = slots + 2 ^ member_from * slots
 
 -- the metadata word with these slots alone: no other slot is taken, and no overflow part is there
 abbrev pub copied_mark : ℕ → ℕ → ℕ

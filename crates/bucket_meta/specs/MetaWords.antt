@@ -1,7 +1,7 @@
 -- What the fields of a `Meta` say of the words that it was read from or written to.
 use Rattle.std.specs.Prelude.{◌≡◌, ℕ, ◌-◌, ◌<◌, ◌^◌, List, slice_index}
 use Rattle.bucket_meta.specs.declared.metadata.Meta.{Meta}
-use Rattle.bucket_meta.specs.Bucket.{mark_place, finger, note_finger, record_slots, note_slots, note_used_from, note_member_from, note_index_from, count_from, count_bits, spare_part}
+use Rattle.bucket_meta.specs.Bucket.{mark_place, finger, note_finger, record_slots, note_slots, allocated_from, member_from, note_used_from, note_member_from, note_index_from, count_from, count_bits, spare_part}
 use Rattle.word_bits.specs.Bits.{bits}
 
 -- of a list of the words of metadata alone, the one that stands at this place of its bucket
@@ -10,8 +10,8 @@ meta_word words place = slice_index words (place - mark_place)
 
 -- the fields are those of words 1 to 3 of a bucket
 pub record IsMetaOf (m : Meta) (w1 w2 w3 : ℕ) : Type 0 where
-  pub alloc : m.alloc ≡ bits 0 record_slots w1
-  pub member : m.member ≡ bits record_slots record_slots w1
+  pub alloc : m.alloc ≡ bits allocated_from record_slots w1
+  pub member : m.member ≡ bits member_from record_slots w1
   pub used : m.used ≡ bits note_used_from note_slots w1
   pub omember : m.omember ≡ bits note_member_from note_slots w1
   pub oindex : m.oindex ≡ bits note_index_from note_slots w1

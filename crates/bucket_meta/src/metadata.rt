@@ -6,9 +6,9 @@ ghost use Rattle.hash_word.specs.Hash.{fingerprint_bits};
 ghost use Rattle.bucket_meta.specs.Bucket.{mark_place, fingers_place, rest_place, record_slots, note_slots, fingers_of_word, count_bits, spare_part};
 
 use crate::words::{
-    COUNT_BITS, COUNT_FROM, FINGERS_OF_WORD, LAST_FINGER_FROM, META_WORDS, NOTE_INDEX_FROM,
-    NOTE_MEMBER_FROM, NOTE_SET_BITS, NOTE_SLOTS, NOTE_USED_FROM, SET_BITS, SLOTS,
-    UPPER_FINGERS_FROM,
+    ALLOCATED_FROM, COUNT_BITS, COUNT_FROM, FINGERS_OF_WORD, LAST_FINGER_FROM, MEMBER_FROM,
+    META_WORDS, NOTE_INDEX_FROM, NOTE_MEMBER_FROM, NOTE_SET_BITS, NOTE_SLOTS, NOTE_USED_FROM,
+    SET_BITS, SLOTS, UPPER_FINGERS_FROM,
 };
 use hash_word::FINGERPRINT_BITS;
 use word_bits::{bits_of, with_bits};
@@ -86,8 +86,8 @@ impl Meta {
         let [f0, f1, f2, f3, f4, f5, f6, f7] = w2.to_le_bytes();
         let [f8, f9, f10, f11, f12, f13, o0, o1] = w3.to_le_bytes();
         Meta {
-            alloc: bits_of(w1, 0, SET_BITS) as u16,
-            member: bits_of(w1, SET_BITS, SET_BITS) as u16,
+            alloc: bits_of(w1, ALLOCATED_FROM, SET_BITS) as u16,
+            member: bits_of(w1, MEMBER_FROM, SET_BITS) as u16,
             used: bits_of(w1, NOTE_USED_FROM, NOTE_SET_BITS) as u8,
             omember: bits_of(w1, NOTE_MEMBER_FROM, NOTE_SET_BITS) as u8,
             oindex: bits_of(w1, NOTE_INDEX_FROM, NOTE_SET_BITS) as u8,
@@ -110,7 +110,7 @@ impl Meta {
         let [f0, f1, f2, f3, f4, f5, f6, f7, f8, f9, f10, f11, f12, f13] = self.fps;
         let [o0, o1, o2, o3] = self.ofps;
         let w1 = u64::from(self.alloc);
-        let w1 = with_bits(w1, SET_BITS, u64::from(self.member));
+        let w1 = with_bits(w1, MEMBER_FROM, u64::from(self.member));
         let w1 = with_bits(w1, NOTE_USED_FROM, u64::from(self.used));
         let w1 = with_bits(w1, NOTE_MEMBER_FROM, u64::from(self.omember));
         let w1 = with_bits(w1, NOTE_INDEX_FROM, u64::from(self.oindex));

@@ -4,7 +4,7 @@ ghost use Rattle.std.specs.Prelude.{◌≡◌, ◌^◌, ◌<◌};
 ghost use Rattle.bucket_meta.specs.Bucket.{record_slots};
 ghost use Rattle.bucket_meta.specs.Marks.{slot_bits, copied_mark, cleared_mark};
 
-use crate::words::SLOTS;
+use crate::words::MEMBER_FROM;
 use word_bits::with_bits;
 
 /// The allocation bits and the membership bits of a set of slots.
@@ -12,7 +12,7 @@ fn slot_bits(slots: u64) -> u64
     requires { slots < 2 ^ record_slots }
     ensures { result ≡ slot_bits slots }
 {
-    with_bits(slots, u32::from(SLOTS), slots)
+    with_bits(slots, MEMBER_FROM, slots)
 }
 
 /// The metadata word of a copy that has these slots alone, with their membership bits and without overflow parts.

@@ -36,6 +36,12 @@ const LAST_NOTE: u8 = NOTE_SLOTS - 1;
 /// How many bits a set of note slots has.
 pub(crate) const NOTE_SET_BITS: u32 = NOTE_SLOTS as u32;
 
+/// From which bit of the metadata word on a bit of each record slot says whether it has a record.
+pub(crate) const ALLOCATED_FROM: u32 = 0;
+
+/// From which bit of it on a bit of each record slot says whether its record stands in its probing bucket.
+pub(crate) const MEMBER_FROM: u32 = ALLOCATED_FROM + SET_BITS;
+
 /// How many bits of the metadata word are of the record slots: an allocation bit and a membership bit of each.
 pub const MARKS_BITS: u32 = 2 * SET_BITS;
 
@@ -208,14 +214,14 @@ pub fn is_member(w1: u64, slot: u8) -> bool
     requires { slot < record_slots }
     ensures { result ≡ (member slot w1 == 1) }
 {
-    is_set(w1, u32::from(SLOTS + slot))
+    is_set(w1, MEMBER_FROM + u32::from(slot))
 }
 
 /// Whether no record slot has a record, by the metadata word.
 pub fn is_empty(w1: u64) -> bool
     ensures { IsTrue result ↔ ((s : ℕ) → s < record_slots → allocated s w1 ≡ 0) }
 {
-    bits_of(w1, 0, u32::from(SLOTS)) == 0
+    bits_of(w1, ALLOCATED_FROM, SET_BITS) == 0
 }
 
 /// The fingerprint of a record slot: 0 to 7 stand in word 2 of the bucket, 8 to 13 in word 3.
@@ -267,7 +273,7 @@ pub fn inserted_mark(w1: u64, slot: u8) -> u64
     ensures { result ≡ inserted_mark w1 slot }
 {
     let slot = u32::from(slot);
-    (w1 | mask(slot)) & !mask(SET_BITS + slot)
+    (w1 | mask(slot)) & !mask(MEMBER_FROM + slot)
 }
 
 /// The metadata word with the slot taken, by a record that stands in its probing bucket.
@@ -275,7 +281,7 @@ pub fn member_mark(w1: u64, slot: u8) -> u64
     ensures { result ≡ member_mark w1 slot }
 {
     let slot = u32::from(slot);
-    w1 | mask(slot) | mask(SET_BITS + slot)
+    w1 | mask(slot) | mask(MEMBER_FROM + slot)
 }
 
 /// The metadata word with the slot free.
@@ -283,7 +289,7 @@ pub fn removed_mark(w1: u64, slot: u8) -> u64
     ensures { result ≡ removed_mark w1 slot }
 {
     let slot = u32::from(slot);
-    w1 & !mask(slot) & !mask(SET_BITS + slot)
+    w1 & !mask(slot) & !mask(MEMBER_FROM + slot)
 }
 
 /// The number of the word, 2 or 3, that has a slot's fingerprint.
