@@ -4,7 +4,7 @@ ghost use Rattle.std.specs.Prelude.{◌≡◌};
 ghost use Rattle.segment_head.specs.HeadWord.{depth_in, pattern_in};
 ghost use Rattle.world.specs.areas.Kinds.{is_new_side, is_ready_side};
 
-use segment_head::prefix::{is_side, prefix_in};
+use segment_head::prefix::{depth_of_sides, is_side, prefix_in};
 use segment_head::split::side_pattern_of;
 use segment_head::word::{FRESH, depth_of, is_live, pattern_of, state_of};
 
@@ -13,7 +13,7 @@ pub(crate) fn is_new_side(head: u64, side: u64) -> bool
     ensures { result ≡ is_new_side (depth_in head) (pattern_in head) side }
 {
     state_of(side) == FRESH
-        && u16::from(depth_of(side)) == u16::from(depth_of(head)) + 1
+        && u16::from(depth_of(side)) == depth_of_sides(depth_of(head))
         && u64::from(pattern_of(side)) == side_pattern_of(head)
 }
 

@@ -18,7 +18,7 @@ pub mod split;
 pub mod version;
 pub mod word;
 
-use crate::prefix::pattern_of_one_side;
+use crate::prefix::{depth_of_sides, pattern_of_one_side};
 use crate::word::{
     FREE, FRESH, NORMAL, SPLITTING, depth_of, header_of, pattern_of, state_of, version_of,
 };
@@ -108,7 +108,7 @@ impl Head {
         ensures pattern { result.pattern < 2 ^ result.depth }
     {
         Head {
-            depth: self.depth + 1,
+            depth: depth_of_sides(self.depth) as u8,
             pattern: pattern_of_one_side(self.pattern) as u32,
             ..*self
         }

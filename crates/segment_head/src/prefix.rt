@@ -28,6 +28,13 @@ pub fn prefix_in(header: u64) -> Prefix
     }
 }
 
+/// The depth of both sides of a segment of this depth: one bit more.
+pub fn depth_of_sides(depth: u8) -> u16
+    ensures { result ≡ depth_of_sides depth }
+{
+    u16::from(depth) + 1
+}
+
 /// The pattern of the 0-side of a segment with this one: that with a 0 behind it.
 pub fn pattern_of_zero_side(pattern: u32) -> u64
     ensures { result ≡ pattern_of_zero_side pattern }
@@ -50,7 +57,7 @@ pub fn zero_side_of(prefix: Prefix) -> Prefix
     ensures pattern { result.pattern ≡ pattern_of_zero_side prefix.pattern }
 {
     Prefix {
-        depth: prefix.depth + 1,
+        depth: depth_of_sides(prefix.depth) as u8,
         pattern: pattern_of_zero_side(prefix.pattern) as u32,
     }
 }
@@ -63,7 +70,7 @@ pub fn one_side_of(prefix: Prefix) -> Prefix
     ensures pattern { result.pattern ≡ pattern_of_one_side prefix.pattern }
 {
     Prefix {
-        depth: prefix.depth + 1,
+        depth: depth_of_sides(prefix.depth) as u8,
         pattern: pattern_of_one_side(prefix.pattern) as u32,
     }
 }

@@ -5,12 +5,15 @@ ghost use Rattle.std.specs.Prelude.{◌≡◌, ◌<◌, ◌≤◌, ◌+◌, ◌^
 ghost use Rattle.segment_head.specs.HeadWord.{pattern_bits};
 ghost use Rattle.segment_head.specs.SplitHeads.{capped_side_depth, side_pattern_in, side_depth_field, zero_pattern_field, one_pattern_field, with_state, zero_side_head, finished_head, one_side_head};
 
-use crate::prefix::{pattern_of_one_side, pattern_of_zero_side};
-use crate::word::{NORMAL, PATTERN_BITS, depth_of, header_of, pattern_of, version_of};
+use crate::prefix::{depth_of_sides, pattern_of_one_side, pattern_of_zero_side};
+use crate::word::{DEPTH_BITS, NORMAL, PATTERN_BITS, depth_of, header_of, pattern_of, version_of};
 use hash_word::HASH_BITS;
 
 /// How deep a segment is at the most that can be split: its sides have one more bit of a hash.
 const DEEPEST_SPLIT: u8 = HASH_BITS - 1;
+
+/// How many depths a header may have.
+const DEPTHS: u16 = 1 << DEPTH_BITS;
 
 /// How many patterns a header may have.
 const PATTERNS: u64 = 1 << PATTERN_BITS;
@@ -19,7 +22,7 @@ const PATTERNS: u64 = 1 << PATTERN_BITS;
 pub fn capped_side_depth(head: u64) -> u8
     ensures { result ≡ capped_side_depth head }
 {
-    depth_of(head).min(DEEPEST_SPLIT) + 1
+    depth_of_sides(depth_of(head).min(DEEPEST_SPLIT)) as u8
 }
 
 /// The pattern of the 1-side, of whatever depth: that of the segment with a 1 behind it.
@@ -35,7 +38,7 @@ pub fn side_pattern_of(head: u64) -> u64
 fn side_depth_field(head: u64) -> u8
     ensures { result ≡ side_depth_field head }
 {
-    depth_of(head).wrapping_add(1)
+    (depth_of_sides(depth_of(head)) % DEPTHS) as u8
 }
 
 /// What the header of the 0-side has as its pattern: that of the segment with a 0 behind it, the lower 32 bits.

@@ -11,7 +11,7 @@ use word_bits::with_bits;
 /// How many bits the state byte has.
 const STATE_BITS: u32 = 8;
 /// How many bits the depth has.
-const DEPTH_BITS: u32 = 8;
+pub(crate) const DEPTH_BITS: u32 = 8;
 /// How many bits behind the depth no field has.
 const SPARE_BITS: u32 = 8;
 /// How many bits the pattern has.
