@@ -5,7 +5,9 @@ ghost use Rattle.directory_op.specs.Steps.{directed, next_store, stage_after, se
 ghost use Rattle.directory_op.specs.DirectoryPart.{goes_on};
 
 use crate::places::{entries_there, entry_word_at, live_head, side_first, side_last};
-use image_layout::{FREE_GUARD, POWER_ON, ROOT_WORD, depth_above, entry_above, half_of_entry};
+use image_layout::{
+    FREE_GUARD, POWER_ON, ROOT_WORD, depth_above, depth_below, entry_above, half_of_entry,
+};
 use op_core::{Ans, Machine, Want};
 use rounds::Rounds;
 use segment_head::word::depth_of;
@@ -182,7 +184,7 @@ impl DirectoryOp {
                 self.step = DirectoryStep::Ended(DirectoryEnd::Off);
             } else {
                 self.rounds = Rounds::begun();
-                self.root = root + 1;
+                self.root = depth_below(root);
                 self.step = DirectoryStep::LoadEntry(0);
             }
         } else if root > depth {

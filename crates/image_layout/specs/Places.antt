@@ -167,8 +167,8 @@ first_among_buckets b = block * b
 abbrev pub word_among_buckets : ℕ → ℕ → ℕ
 word_among_buckets b n = first_among_buckets b + n
 
--- the bucket in which word i of the words of all buckets stands, and which word of its bucket it is; the second also of a word by its number in its slot,
--- since a header is one block, or in its bucket
+-- the bucket in which word i of the words of all buckets of a segment stands, and which word of its bucket it is; the second also of a word by its number
+-- in its bucket, in its slot or among the words of all slots, since all of these begin with a whole block
 abbrev pub bucket_among : ℕ → ℕ
 bucket_among i = i / block
 

@@ -51,6 +51,6 @@ free_guard = 0
 abbrev pub all_words_of : Shape → ℕ
 all_words_of shape = words_of shape + guards_from + shape.segments
 
--- a number above that of all these words, whatever the shape
+-- a number above that of all these words, of whatever image
 abbrev pub words_bound : ℕ
 words_bound = 2 ^ 32

@@ -17,7 +17,7 @@ pub use shape::{
     LAST_OF_BUCKETS, LINK, MOST_KIND, MOST_SEGMENTS, MOST_WORDS, NOTE_WORDS, POWER_OFF, POWER_ON,
     ROOT_WORD, SECOND_STASH, SEGMENT_SLOTS, SEGMENT_WORDS, SLOTS_OF_KEY, STASH_BUCKETS,
     STASH_SLOTS, STATE_WORD, WORDS_OF_BUCKETS, among_buckets, bucket_behind, bucket_of,
-    bucket_place, depth_above, entries_of, entry_above, first_among_buckets, half_of_entry,
-    home_of_note, is_mark_note, mark_among_buckets, place_of_note, stash_bucket,
+    bucket_place, depth_above, depth_below, entries_of, entry_above, first_among_buckets,
+    half_of_entry, home_of_note, is_mark_note, mark_among_buckets, place_of_note, stash_bucket,
     word_among_buckets,
 };

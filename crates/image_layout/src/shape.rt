@@ -3,7 +3,7 @@
 ghost use Rattle.std.specs.Prelude.{◌≡◌, ◌<◌, ◌≤◌, ◌+◌, ◌*◌, ◌%◌, IfOk, IfErr};
 ghost use Rattle.bucket_meta.specs.Bucket.{first_key};
 ghost use Rattle.image_layout.specs.Volatile.{counter_word, power_word, allocation_guard, directory_guard, segment_guard, all_words_of, power_from, allocation_from, directory_from, guards_from, words_bound};
-ghost use Rattle.image_layout.specs.Places.{IsShape, first_segment, words_of, entry_at, head_at, header_word, link_word, home_of_note, place_of_note, is_mark_note, bucket_at, bucket_place, first_among_buckets, word_among_buckets, bucket_of, bucket_behind, among_buckets, mark_among_buckets, block, stash_bucket, stash_buckets, buckets, segment_words, most_power, first_segment_of_largest, most_words, most_segments, most_depth, most_kind, entries_of, depth_above, entry_above, half_of_entry};
+ghost use Rattle.image_layout.specs.Places.{IsShape, first_segment, words_of, entry_at, head_at, header_word, link_word, home_of_note, place_of_note, is_mark_note, bucket_at, bucket_place, first_among_buckets, word_among_buckets, bucket_of, bucket_behind, among_buckets, mark_among_buckets, block, stash_bucket, stash_buckets, buckets, segment_words, most_power, first_segment_of_largest, most_words, most_segments, most_depth, most_kind, entries_of, depth_below, depth_above, entry_above, half_of_entry};
 
 use bucket_meta::words::{
     BUCKET_WORDS, MARK_PLACE, REST_PLACE, SECOND_STASH_INDEX, SLOTS, STASH_INDICES,
@@ -39,7 +39,7 @@ const BUCKETS_OF_KEY: u8 = HOMES_OF_KEY + STASH_BUCKETS;
 pub const SLOTS_OF_KEY: u8 = BUCKETS_OF_KEY * SLOTS;
 /// How many buckets a segment has.
 pub const BUCKETS: u8 = HOMES + STASH_BUCKETS;
-/// The last one of them, counted from the first, which is 0.
+/// The last bucket of a segment, counted from the first, which is 0.
 pub const LAST_BUCKET: u8 = BUCKETS - 1;
 /// Which of the words of a slot for a segment is its header word, counted from the first, which is 0.
 pub const HEADER: u64 = 1;
@@ -65,7 +65,7 @@ pub const NOTE_WORDS: u8 = NOTE_WORDS_OF_HOME * HOMES;
 const REST_BEHIND_MARK: u8 = (REST_PLACE - MARK_PLACE) as u8;
 /// How many record slots a segment has, in all its buckets.
 pub const SEGMENT_SLOTS: u64 = BUCKETS as u64 * SLOTS as u64;
-/// How many its stash has.
+/// How many record slots the stash of a segment has.
 pub const STASH_SLOTS: usize = STASH_BUCKETS as usize * SLOTS as usize;
 /// The most slots for segments that an image may have.
 pub const MOST_SEGMENTS: u64 = 16384;
@@ -130,6 +130,14 @@ pub fn entries_of(depth: u64) -> u64
     ensures most { result ≤ most_power }
 {
     1 << depth
+}
+
+/// The depth of the area below that of a depth.
+pub fn depth_below(depth: u64) -> u64
+    requires { depth ≤ most_depth }
+    ensures { result ≡ depth_below depth }
+{
+    depth + 1
 }
 
 /// The depth of the area above that of a depth; 0 of depth 0, which has none above it.
