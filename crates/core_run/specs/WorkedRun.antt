@@ -2,7 +2,7 @@
 use Rattle.std.specs.Prelude.{◌≡◌, ℕ, ◌+◌, ◌==◌, true, false, None, Some, List, [], ◌∷◌, ◌++◌, map, replicate, reverse, take, if◌then◌else◌}
 use Rattle.std.specs.List.{AllByRecursion, range_with_len}
 use Rattle.trace.specs.Events.{Words, with_word, Event, Trace, loaded, stored, exchanged, drawn, flushed, fenced}
-use Rattle.image_layout.specs.Places.{Shape}
+use Rattle.image_layout.specs.Places.{Shape, block}
 use Rattle.map_model.specs.declared.call.Call.{Call}
 use Rattle.map_model.specs.declared.call.Call.TheVariants.{Insert}
 use Rattle.map_model.specs.declared.change.Effect.TheVariants as effect
@@ -134,7 +134,7 @@ standing n step = standing_with nothing.written n step
 
 -- so many words of a bucket are loaded
 abbrev pub loading : Role → ℕ → WriteStep
-loading place n = Fill place (record { words = replicate 32 0; next = n + 1 })
+loading place n = Fill place (record { words = replicate block 0; next = n + 1 })
 
 -- what is stored of its record, in the first slot
 abbrev pub its_record : Record
