@@ -1,6 +1,6 @@
 //! Words and fields determine each other, and the words that are stored of one slot leave the others.
 
-ghost use Rattle.std.specs.Prelude.{◌≡◌, ℕ, ◌^◌, ◌<◌, ◌≤◌, slice_index};
+ghost use Rattle.std.specs.Prelude.{◌≡◌, ℕ, ◌^◌, ◌<◌, ◌≤◌};
 ghost use Rattle.hash_word.specs.Hash.{fingerprint_bits};
 ghost use Rattle.bucket_meta.specs.MetaWords.{meta_word, WordsGiveMeta, MetaGivesWords};
 ghost use Rattle.bucket_meta.specs.Marks.{inserted_mark, member_mark, removed_mark, with_finger, TakesSlot, TakesSlotAsMember, FreesSlot, SetsFinger, SameNotes, KeepsUpper};

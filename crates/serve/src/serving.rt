@@ -1,6 +1,6 @@
 //! The calls of a script are served by threads.
 
-ghost use Rattle.std.specs.Prelude.{◌≡◌, ℕ, ◌+◌, ◌-◌, ◌<◌, ◌≤◌, All, IfOk, IsTrue, [], length, map, vec_capacity};
+ghost use Rattle.std.specs.Prelude.{◌≡◌, ℕ, ◌+◌, ◌<◌, ◌≤◌, All, IfOk, IsTrue, [], length, map, vec_capacity};
 ghost use Rattle.script_text.specs.Script.{most_script_lines};
 ghost use Rattle.script_text.specs.Calls.{IsLineSoFar};
 ghost use Rattle.map_model.specs.Roomed.{with_room};

@@ -1,6 +1,6 @@
 //! The notes and the counts of all homes of a segment.
 
-ghost use Rattle.std.specs.Prelude.{◌≡◌, ℕ, ◌+◌, ◌*◌, ◌<◌, ◌≤◌, List, [], ◌∷◌, ◌++◌, length, All};
+ghost use Rattle.std.specs.Prelude.{◌≡◌, ℕ, ◌+◌, ◌<◌, ◌≤◌, List, [], ◌∷◌, ◌++◌, length, All};
 ghost use Rattle.bucket_meta.specs.declared.metadata.Meta.{Meta as MetaValue};
 ghost use Rattle.image_layout.specs.Places.{homes, stash_buckets, stash_slots};
 ghost use Rattle.bucket_meta.specs.Bucket.{greatest_count};
