@@ -94,13 +94,13 @@ fn word_of(text: &str) -> Option<Word> {
 /// What stands behind `fails`.
 fn fails_of(text: &str) -> Option<Line<'_>> {
     let (part, call) = text.split_once(' ')?;
-    let call = number_of(call).ok()?;
-    match part {
-        "store" => Some(Line::Fails(Part::Store, call)),
-        "source" => Some(Line::Fails(Part::Source, call)),
-        "sink" => Some(Line::Fails(Part::Sink, call)),
-        _ => None,
-    }
+    let part = match part {
+        "store" => Part::Store,
+        "source" => Part::Source,
+        "sink" => Part::Sink,
+        _ => return None,
+    };
+    Some(Line::Fails(part, number_of(call).ok()?))
 }
 
 /// What stands behind `counts`.
@@ -146,10 +146,7 @@ fn text_of<'a>(first: u64, last: u64, mark: &str, text: &'a str) -> Option<Line<
 
 /// The first word of a line, and what stands behind the space after it.
 fn first_word(line: &str) -> (&str, &str) {
-    match line.split_once(' ') {
-        Some(parts) => parts,
-        None => (line, ""),
-    }
+    line.split_once(' ').unwrap_or((line, ""))
 }
 
 /// What stands behind `each`.

@@ -2,7 +2,7 @@
 
 use crate::line::{Line, line_of};
 use anyhow::{Result, bail};
-use std::alloc::Global;
+use std::alloc::{AllocError, Global};
 
 /// A row: its name and its lines.
 #[derive(Drop)]
@@ -24,7 +24,7 @@ pub struct File<'a> {
 
 impl<'a> File<'a> {
     // Puts a line where it belongs.
-    fn push(&mut self, alloc: Global, line: Line<'a>) -> Result<()> {
+    fn push(&mut self, alloc: Global, line: Line<'a>) -> Result<(), AllocError> {
         if let Line::Row(name) = line {
             self.rows.push(Row {
                 name,

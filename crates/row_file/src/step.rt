@@ -55,11 +55,12 @@ impl<'a> Step<'a> {
 
     // Lets a call of a part fail.
     fn fail(&mut self, part: Part, call: u64) -> Result<()> {
-        match part {
-            Part::Store => self.store_fails.push(call)?,
-            Part::Source => self.source_fails.push(call)?,
-            Part::Sink => self.sink_fails.push(call)?,
-        }
+        let fails = match part {
+            Part::Store => &mut self.store_fails,
+            Part::Source => &mut self.source_fails,
+            Part::Sink => &mut self.sink_fails,
+        };
+        fails.push(call)?;
         Ok(())
     }
 

@@ -13,13 +13,8 @@ pub const WORD_BYTES: u64 = 8;
 /// The word of an image with this number; none where the image ends before.
 pub fn word_at(image: &[u8], number: u64) -> Option<u64> {
     let first = number.checked_mul(WORD_BYTES)?;
-    let behind = first.checked_add(WORD_BYTES)?;
-    let bytes = image.get(first as usize..behind as usize)?;
-    let mut word: u64 = 0;
-    for byte in bytes.iter().rev() {
-        word = word << 8 | u64::from(*byte);
-    }
-    Some(word)
+    let bytes = image.get(first as usize..)?.first_chunk()?;
+    Some(u64::from_le_bytes(*bytes))
 }
 
 /// Sets the word of an image with this number, and answers whether the image has it.
@@ -27,15 +22,13 @@ pub(crate) fn set_word(image: &mut [u8], word: Word) -> bool {
     let Some(first) = word.number.checked_mul(WORD_BYTES) else {
         return false;
     };
-    let Some(behind) = first.checked_add(WORD_BYTES) else {
+    let Some(rest) = image.get_mut(first as usize..) else {
         return false;
     };
-    let Some(place) = image.get_mut(first as usize..behind as usize) else {
+    let Some(place) = rest.first_chunk_mut() else {
         return false;
     };
-    for (to, byte) in place.iter_mut().zip(word.value.to_le_bytes()) {
-        *to = byte;
-    }
+    *place = word.value.to_le_bytes();
     true
 }
 

@@ -1,7 +1,7 @@
 //! The texts that lines give: the numbers and the bytes that cannot be written plainly.
 
 use crate::line::Lines;
-use anyhow::{Result, bail};
+use anyhow::{Context, Result};
 
 /// The number that stands for what is between braces: the number of the range itself, or that plus a number.
 fn filled(number: u64, inside: &str) -> Option<u64> {
@@ -14,13 +14,14 @@ fn filled(number: u64, inside: &str) -> Option<u64> {
 
 /// The byte that is written as a backslash and this letter, and what stands behind the letter.
 fn escaped(piece: &str) -> Option<(char, &str)> {
-    if let Some(rest) = piece.strip_prefix('n') {
-        return Some(('\n', rest));
-    }
-    if let Some(rest) = piece.strip_prefix('r') {
-        return Some(('\r', rest));
-    }
-    Some(('\t', piece.strip_prefix('t')?))
+    let mut letters = piece.chars();
+    let byte = match letters.next()? {
+        'n' => '\n',
+        'r' => '\r',
+        't' => '\t',
+        _ => return None,
+    };
+    Some((byte, letters.as_str()))
 }
 
 /// Appends a piece without braces.
@@ -30,9 +31,7 @@ fn push_piece(text: &mut String, piece: &str) -> Result<()> {
             text.push_str(part)?;
             continue;
         }
-        let Some((byte, rest)) = escaped(part) else {
-            bail!("a backslash without n, r or t behind it");
-        };
+        let (byte, rest) = escaped(part).context("a backslash without n, r or t behind it")?;
         text.push(byte)?;
         text.push_str(rest)?;
     }
@@ -46,12 +45,8 @@ fn push_one(text: &mut String, template: &str, number: u64) -> Result<()> {
             push_piece(text, piece)?;
             continue;
         }
-        let Some((inside, rest)) = piece.split_once('}') else {
-            bail!("a brace that is not closed");
-        };
-        let Some(number) = filled(number, inside) else {
-            bail!("no number is in the braces");
-        };
+        let (inside, rest) = piece.split_once('}').context("a brace that is not closed")?;
+        let number = filled(number, inside).context("no number is in the braces")?;
         write!(text, "{number}")?;
         push_piece(text, rest)?;
     }
