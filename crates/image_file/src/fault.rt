@@ -30,12 +30,12 @@ pub enum ImageFault {
 impl fmt::Display for ImageFault {
     fn fmt<W: fmt::Write>(&self, f: &mut fmt::Formatter<W>) -> fmt::Result {
         match self {
-            ImageFault::Length => write!(f, "length"),
-            ImageFault::Magic => write!(f, "magic"),
-            ImageFault::Format => write!(f, "format"),
-            ImageFault::Geometry => write!(f, "geometry"),
+            ImageFault::Length => f.write_str("length"),
+            ImageFault::Magic => f.write_str("magic"),
+            ImageFault::Format => f.write_str("format"),
+            ImageFault::Geometry => f.write_str("geometry"),
             ImageFault::Unsound { rule, word } => write!(f, "rule {rule} word {word}"),
-            ImageFault::NoMemory => write!(f, "{}", map_model::NoMemory),
+            ImageFault::NoMemory => map_model::NoMemory.fmt(f),
         }
     }
 }
