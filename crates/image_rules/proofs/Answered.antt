@@ -1,5 +1,5 @@
 -- What follows from what an optional answer says.
-use Rattle.std.proofs.Common.{◌≡◌, ◌↔◌, refl, subst, Bool, true, false, not, IsTrue, Option, Some, None, IfSome, IfNone, Result, Ok, Err, IfErr}
+use Rattle.std.proofs.Common.{◌≡◌, ◌↔◌, ◌∙◌, refl, sym, subst, Bool, true, false, not, IsTrue, Option, Some, None, IfSome, IfNone, Result, Ok, Err, IfErr}
 
 pub if_none : {X : Type 0} {P Q : Type 0} (o : Option X) → (P → Q) → IfNone o P → IfNone o Q
 if_none None f h = f h
@@ -20,6 +20,9 @@ denied false test never = refl
 
 pub never : {P : Type 0} (b : Bool) → (IsTrue b ↔ P) → b ≡ false → P → ⊥
 never b test is p = let there : b ≡ true = test.1 p in absurd (cc)
+
+pub fails : {P : Type 0} (b : Bool) → b ≡ false → (P → b ≡ true) → IsTrue b ↔ P
+fails b is test = ((λ there. let apart : true ≡ false = sym there ∙ is in absurd (cc)), test)
 
 pub untrue : {P : Type 0} → IsTrue false → P
 untrue h = let there : false ≡ true = h in absurd (cc)

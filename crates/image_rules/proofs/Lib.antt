@@ -1,4 +1,5 @@
 pub mod Answered
+pub mod Within
 pub mod covered
 pub mod stashed
 pub mod standing

@@ -1,9 +1,14 @@
 -- What a segment covers and does not give away is its own.
-use Rattle.std.proofs.Common.{◌^◌, ◌<◌, ℕ, refl, subst, arith, slice_index}
+use Rattle.std.proofs.Common.{◌^◌, ◌<◌, ◌≤◌, ℕ, refl, subst, arith, slice_index}
 use Rattle.sound_image.specs.Segments.{frame_of}
 use Rattle.image_rules.proofs.Answered.{never}
 use Rattle.image_rules.proofs.covered.Owners.{kept-Owns, prefix-covers, covers-prefix, prefix-side, side-prefix}
 use Rattle.image_rules.proofs.directory.step_from.Goals as goal
+
+pub returns-then-s-segments : goal.returns-then-s-segments
+returns-then-s-segments c over =
+    let past : c.args.geometry.now.segments ≤ c.args.s = subst (λ (n : ℕ). n ≤ c.args.s) c.segments.ensures.is c.if-s-segments.true in
+    absurd (omega (arith, past, over.slot))
 
 pub returns-then-not-is_live : goal.returns-then-not-is_live
 returns-then-not-is_live c over = never c.is_live.result c.is_live.ensures c.if-not-is_live.true over.live

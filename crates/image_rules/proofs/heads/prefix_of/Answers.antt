@@ -4,6 +4,13 @@ use Rattle.segment_head.specs.HeadWord.{depth_in, pattern_in}
 use Rattle.image_rules.proofs.covered.Owners.{live_depth, live_pattern}
 use Rattle.image_rules.proofs.heads.prefix_of.Goals as goal
 
+pub returns-clause-is : goal.returns-clause-is
+returns-clause-is c =
+    record {
+      depth = c.prefix_in.ensures.depth ∙ ap depth_in c.header_at.ensures;
+      pattern = c.prefix_in.ensures.pattern ∙ ap pattern_in c.header_at.ensures;
+    }
+
 pub returns-clause-depth : goal.returns-clause-depth
 returns-clause-depth c =
     let same = c.prefix_in.ensures.depth ∙ ap depth_in c.header_at.ensures in

@@ -1,9 +1,18 @@
 -- A live segment that is the first of its depth and pattern raises the leaves that it covers; another one changes nothing.
-use Rattle.std.proofs.Common.{ℕ, ◌+◌, subst, refl, slice_index}
+use Rattle.std.proofs.Common.{ℕ, ◌+◌, ◌^◌, ◌∙◌, ap, sym, subst, refl, slice_index}
 use Rattle.sound_image.specs.Segments.{frame_of}
 use Rattle.image_rules.specs.Leaves.{AreRaised}
 use Rattle.image_rules.proofs.covered.LeafOwners.{live_deepest, twin_deepest}
 use Rattle.image_rules.proofs.leaves.add_segment.Goals as goal
+
+pub raise-requires-clause-leaves : goal.raise-requires-clause-leaves
+raise-requires-clause-leaves c = c.requires.leaves ∙ ap (λ (n : ℕ). 2 ^ n) (sym c.depth.ensures.is)
+
+pub returns-then-not-see_segment-clause-seen : goal.returns-then-not-see_segment-clause-seen
+returns-then-not-see_segment-clause-seen c = c.see_segment.ensures.seen
+
+pub returns-else-not-see_segment-clause-seen : goal.returns-else-not-see_segment-clause-seen
+returns-else-not-see_segment-clause-seen c = c.see_segment.ensures.seen
 
 pub returns-then-not-see_segment-clause-deepest : goal.returns-then-not-see_segment-clause-deepest
 returns-then-not-see_segment-clause-deepest c =

@@ -1,11 +1,19 @@
 -- The note is sought among all notes and in the stash.
-use Rattle.std.proofs.Common.{◌≡◌, ℕ, ◌∙◌, ap, subst, refl, arith, slice_index}
+use Rattle.std.proofs.Common.{◌≡◌, ℕ, ◌∙◌, ap, sym, subst, refl, arith, slice_index}
 use Rattle.bucket_meta.specs.Bucket.{note_finger, note_index}
 use Rattle.bucket_meta.specs.Notes.{IsNoteOn}
 use Rattle.sound_image.specs.Records.{word_in, notes_of, stashed_of}
-use Rattle.image_rules.proofs.Answered.{untrue}
+use Rattle.image_rules.proofs.Answered.{never, untrue}
 use Rattle.image_rules.proofs.stashed.Counts.{sought_often}
 use Rattle.image_rules.proofs.notes.is_named.Goals as goal
+
+pub returns-then-not-is_note_on : goal.returns-then-not-is_note_on
+returns-then-not-is_note_on c = (
+  (λ _ on. absurd
+      (never c.is_note_on.result c.is_note_on.ensures c.if-not-is_note_on.true
+      (subst (λ (w : ℕ). IsNoteOn w c.args.side c.args.note_slot) (sym c.meta_in-w1.ensures) on))),
+  (λ _. refl),
+)
 
 pub returns-then-noted-stashed : goal.returns-then-noted-stashed
 returns-then-noted-stashed c =

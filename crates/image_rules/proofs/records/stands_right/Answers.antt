@@ -7,6 +7,7 @@ use Rattle.hash_word.specs.Hash.{home_of, probing_of, finger_of}
 use Rattle.bucket_meta.specs.Bucket.{finger, member}
 use Rattle.sound_image.specs.Records.{word_in, slot_hash}
 use Rattle.image_rules.proofs.Answered.{untrue}
+use Rattle.image_rules.proofs.Within.{in_bucket}
 use Rattle.image_rules.proofs.records.stands_right.Goals as goal
 use Rattle.image_rules.proofs.records.stands_right.Goals.{then-is_member, else-is_member}
 
@@ -15,6 +16,15 @@ is_one n test = grind (arith, nat_tests, test)
 
 is_other : (n : ℕ) → false ≡ (n == 1) → n ≢ 1
 is_other n test = grind (arith, nat_tests, test)
+
+pub bounds-words-at : goal.bounds-words-at
+bounds-words-at c = in_bucket _ _ _ _ c.requires.whole c.bucket_word-at.ensures.within (omega arith)
+
+pub bounds-words-at-2 : goal.bounds-words-at-2
+bounds-words-at-2 c = in_bucket _ _ _ _ c.requires.whole c.bucket_word-at.ensures.within (omega arith)
+
+pub bounds-words-at-3 : goal.bounds-words-at-3
+bounds-words-at-3 c = in_bucket _ _ _ _ c.requires.whole c.bucket_word-at.ensures.within (omega arith)
 
 pub returns-then-finger_of-finger : goal.returns-then-finger_of-finger
 returns-then-finger_of-finger c = (
