@@ -1,5 +1,5 @@
 -- The set of stash buckets to visit has those that notes name, and over exact data each that a record stands in.
-use Rattle.std.proofs.Common.{◌≡◌, ℕ, zero, suc, ◌+◌, ◌*◌, ◌<◌, Bool, false, IsTrue, ◌↔◌, List, [], ◌∷◌, ◌++◌, length, sym, ◌∙◌, inl, inr, arith, below_more, Option, Some, None, is_some, MatchOption, Contains}
+use Rattle.std.proofs.Common.{◌≡◌, ℕ, zero, suc, ◌+◌, ◌*◌, ◌<◌, Bool, true, false, IsTrue, ◌↔◌, List, [], ◌∷◌, ◌++◌, length, sym, ◌∙◌, inl, inr, arith, below_more, Option, Some, None, is_some, MatchOption, Contains}
 use borrow.Author.Count.{below_none}
 use Rattle.std.proofs.Math.Nat.{eq-zero-or-pos}
 use Rattle.std.specs.Prelude.{slice_index_or}
@@ -21,6 +21,10 @@ has_by_note_slot None answer meta side note e nowhere =
     (λ yes. absurd (cc (e, yes)), λ some. absurd (omega (arith, some, not_held meta side note nowhere)))
 has_by_note_slot (Some k) answer meta side note e lowest =
     (λ yes. held meta side k note lowest.here lowest.within, λ some. e)
+
+pub named_by_first : (note : OverflowNote) (first second : List OverflowNote) (x : Bool) → x ≡ true → (IsTrue x ↔ (0 < how_often note first))
+    → IsTrue x ↔ (0 < how_often note (first ++ second))
+named_by_first note first second x has by_first = (λ _. omega (arith, how_often-append note first second, by_first.0 has), λ _. has)
 
 pub named_by_second : (note : OverflowNote) (first second : List OverflowNote) (x y : Bool) → x ≡ false → (IsTrue x ↔ (0 < how_often note first)) → (IsTrue y ↔ (0 < how_often note second))
     → IsTrue y ↔ (0 < how_often note (first ++ second))
