@@ -38,14 +38,15 @@ pub enum ScriptFault {
 
 impl fmt::Display for ScriptFault {
     fn fmt<W: fmt::Write>(&self, f: &mut fmt::Formatter<W>) -> fmt::Result {
-        match self {
-            ScriptFault::Word { line } => write!(f, "line {line}: not one of the forms"),
-            ScriptFault::Number { line } => write!(f, "line {line}: not a number"),
-            ScriptFault::Caller { line } => write!(f, "line {line}: no such caller"),
-            ScriptFault::Order { line } => write!(f, "line {line}: out of order"),
-            ScriptFault::TooLong { line } => write!(f, "line {line}: too many bytes or lines"),
-            ScriptFault::NoMemory => write!(f, "{}", map_model::NoMemory),
-        }
+        let (line, what) = match self {
+            ScriptFault::Word { line } => (line, "not one of the forms"),
+            ScriptFault::Number { line } => (line, "not a number"),
+            ScriptFault::Caller { line } => (line, "no such caller"),
+            ScriptFault::Order { line } => (line, "out of order"),
+            ScriptFault::TooLong { line } => (line, "too many bytes or lines"),
+            ScriptFault::NoMemory => return write!(f, "{}", map_model::NoMemory),
+        };
+        write!(f, "line {line}: {what}")
     }
 }
 

@@ -29,6 +29,9 @@ lines-preserved c = record {
 whole : (c : goal.After-new) → IsScript c.args.mode c.args.bytes.now c.new.result
 whole c = rw c.new.ensures (read_all _ _ _ _ _ _ c.lines.invariant.short c.lines.invariant.read (none_left _ (sym c.is_empty.ensures ∙ c.lines-test.false)))
 
+pub returns-clause-good : goal.returns-clause-good
+returns-clause-good c = whole c
+
 pub returns-clause-so_far : goal.returns-clause-so_far
 returns-clause-so_far c = all_so_far _ _ c.new.result (whole c)
 
@@ -37,3 +40,12 @@ returns-clause-ordered c = script_ordered _ _ c.new.result (whole c)
 
 pub returns-in-BadWord-clause-refused : goal.returns-in-BadWord-clause-refused
 returns-in-BadWord-clause-refused c = first_bad _ _ _ c.first_line.result.1.now _ _ _ _ _ _ c.lines.invariant.short c.lines.invariant.read c.first_line.ensures c.reading_of.ensures c.in-BadWord.ensures
+
+pub returns-in-BadNumber-clause-refused : goal.returns-in-BadNumber-clause-refused
+returns-in-BadNumber-clause-refused c = first_bad _ _ _ c.first_line.result.1.now _ _ _ _ _ _ c.lines.invariant.short c.lines.invariant.read c.first_line.ensures c.reading_of.ensures c.in-BadNumber.ensures
+
+pub returns-in-BadCaller-clause-refused : goal.returns-in-BadCaller-clause-refused
+returns-in-BadCaller-clause-refused c = first_bad _ _ _ c.first_line.result.1.now _ _ _ _ _ _ c.lines.invariant.short c.lines.invariant.read c.first_line.ensures c.reading_of.ensures c.in-BadCaller.ensures
+
+pub returns-in-BadOrder-clause-refused : goal.returns-in-BadOrder-clause-refused
+returns-in-BadOrder-clause-refused c = first_bad _ _ _ c.first_line.result.1.now _ _ _ _ _ _ c.lines.invariant.short c.lines.invariant.read c.first_line.ensures c.reading_of.ensures c.in-BadOrder.ensures
