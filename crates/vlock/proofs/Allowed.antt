@@ -1,10 +1,10 @@
 -- The law of a kind of step is what a step on the table owes.
-use Rattle.std.proofs.Common.{◌≡◌, inl, inr, ℕ, ◌+◌, ◌*◌, ◌%◌, ◌^◌, ◌<◌, List, [], ◌∷◌, get_or, set, cond, Bool, true, false, refl, sym, ap, ◌∙◌, subst, arith, length-set}
+use Rattle.std.proofs.Common.{◌≡◌, ◌⊎◌, inl, inr, ℕ, ◌+◌, ◌%◌, ◌^◌, ◌<◌, List, [], ◌∷◌, get_or, set, cond, Bool, true, false, refl, sym, ap, ◌∙◌, subst, arith, length-set}
 use Rattle.std.specs.Prelude.{◌==◌}
 use prog.Atomic.{either}
 use Rattle.atomic_table.specs.Table.{Me, keeps, Allows}
 use Rattle.trace.specs.Events.{Words, with_word}
-use Rattle.image_layout.specs.Places.{Shape, words_of}
+use Rattle.image_layout.specs.Places.{Shape}
 use Rattle.image_layout.specs.Volatile.{all_words_of, power_word}
 use Rattle.op_core.specs.declared.want.Want.{Want}
 use Rattle.op_core.specs.declared.want.Want.TheVariants.{Load, Store, Exchange, Flush, Fence, Draw, Power}
@@ -118,6 +118,16 @@ either_cond : (c : Bool) (n b : ℕ) → either c b n ≡ cond c b n
 either_cond true n b = refl
 either_cond false n b = refl
 
+-- a load, a flush, a fence and a look at the power leave the word as it is
+abbrev pub IsOfLoad : Want → Type 0
+IsOfLoad want = ((i : ℕ) × (want ≡ Load i)) ⊎ (((l : ℕ) × (want ≡ Flush l)) ⊎ ((want ≡ Fence) ⊎ (want ≡ Power)))
+
+left_as_is : (shape : Shape) (want : Want) → IsOfLoad want → (n : ℕ) → n ≡ left_by shape want n
+left_as_is shape want (inl (i, is)) n = ap (λ (w : Want). left_by shape w n) (sym is)
+left_as_is shape want (inr (inl (l, is))) n = ap (λ (w : Want). left_by shape w n) (sym is)
+left_as_is shape want (inr (inr (inl is))) n = ap (λ (w : Want). left_by shape w n) (sym is)
+left_as_is shape want (inr (inr (inr is))) n = ap (λ (w : Want). left_by shape w n) (sym is)
+
 -- ---- what each call of the table owes: `key` is the table's, `site` and `want` are named by who calls, and `given` is the event
 module _ (key : Opening) (site : Ground) (want given : Want) (kind : ℕ → StepKind) (slots id words : ℕ) (m : Me ℕ Watch) (same : ground_of key ≡ site) (is : given ≡ want)
     (whole : words ≡ all_words_of key.geometry) (inside : word_of key.geometry given < all_words_of key.geometry) (none : m.1 ≡ []) (may : MayDo site want kind m.0.view) where
@@ -125,9 +135,8 @@ module _ (key : Opening) (site : Ground) (want given : Want) (kind : ℕ → Ste
   abbrev IsOwed : ℕ → (ℕ → ℕ) → Type 0
   IsOwed i f = (i < words) × Allows (Kept (ground_of key)) slots id m i f (Acted site want kind m)
 
-  named : (u : Want) (i : ℕ) (f : ℕ → ℕ) → given ≡ u → i ≡ word_of key.geometry u → ((n : ℕ) → f n ≡ left_by key.geometry u n) → IsOwed i f
-  named u i f e at does =
-      let there : i ≡ word_of key.geometry given = at ∙ ap (λ (w : Want). word_of key.geometry w) (sym e) in
+  named : (u : Want) (i : ℕ) (f : ℕ → ℕ) → given ≡ u → i ≡ word_of key.geometry given → ((n : ℕ) → f n ≡ left_by key.geometry u n) → IsOwed i f
+  named u i f e there does =
       let owed : (z : Ground) → ground_of key ≡ z → MayDo z want kind m.0.view → Allows (Kept (ground_of key)) slots id m i f (Acted z want kind m) = λ z q can.
       subst (λ (y : Ground). Allows (Kept (ground_of key)) slots id m i f (Acted y want kind m)) q
       (subst (λ (n : ℕ). Allows (Kept (ground_of key)) slots id m n f (Acted (ground_of key) want kind m)) (ap (λ (w : Want). word_of key.geometry w) (sym is) ∙ sym there)
@@ -136,27 +145,14 @@ module _ (key : Opening) (site : Ground) (want given : Want) (kind : ℕ → Ste
       (λ n. does n ∙ ap (λ (w : Want). left_by key.geometry w n) (sym e ∙ is)))) in
       (omega (arith, there, whole, inside), owed site same may)
 
-  pub for_load : (i : ℕ) → given ≡ Load i → IsOwed i (λ n. n)
-  for_load i e = named (Load i) i (λ n. n) e refl (λ n. refl)
+  pub for_load : (i : ℕ) → i ≡ word_of key.geometry given → IsOfLoad given → IsOwed i (λ n. n)
+  for_load i there of_load = named given i (λ n. n) refl there (left_as_is key.geometry given of_load)
 
-  pub for_store : (i x : ℕ) → given ≡ Store i x → IsOwed i (λ _. x)
-  for_store i x e = named (Store i x) i (λ _. x) e refl (λ n. refl)
+  pub for_store : (i j x : ℕ) → i ≡ word_of key.geometry given → given ≡ Store j x → IsOwed i (λ _. x)
+  for_store i j x there e = named (Store j x) i (λ _. x) e there (λ n. refl)
 
-  pub for_exchange : (i a b : ℕ) → given ≡ Exchange i a b → IsOwed i (λ n. either (n == a) b n)
-  for_exchange i a b e = named (Exchange i a b) i (λ n. either (n == a) b n) e refl (λ n. either_cond (n == a) n b)
+  pub for_exchange : (i j a b : ℕ) → i ≡ word_of key.geometry given → given ≡ Exchange j a b → IsOwed i (λ n. either (n == a) b n)
+  for_exchange i j a b there e = named (Exchange j a b) i (λ n. either (n == a) b n) e there (λ n. either_cond (n == a) n b)
 
-  pub for_draw : (i : ℕ) → given ≡ Draw → i ≡ words_of key.geometry → IsOwed i (λ n. (n + 1) % 2 ^ 64)
-  for_draw i e at = named Draw i (λ n. (n + 1) % 2 ^ 64) e at (λ n. refl)
-
-  pub for_flush : (l : ℕ) → given ≡ Flush l → IsOwed (8 * l) (λ n. n)
-  for_flush l e = named (Flush l) (8 * l) (λ n. n) e refl (λ n. refl)
-
-  pub for_fence : (i : ℕ) → given ≡ Fence → i ≡ words_of key.geometry → IsOwed i (λ n. n)
-  for_fence i e at = named Fence i (λ n. n) e at (λ n. refl)
-
-  pub for_power : (i : ℕ) → given ≡ Power → i ≡ words_of key.geometry + 1 → IsOwed i (λ n. n)
-  for_power i e at = named Power i (λ n. n) e at (λ n. refl)
-
-  -- the first word of a line has a number of 64 bits
-  pub line_fits : (l : ℕ) → given ≡ Flush l → words_of key.geometry < 2 ^ 32 → key.geometry.segments < 2 ^ 32 → 8 * l < 2 ^ 64
-  line_fits l e most segments = let h : 8 * l < all_words_of key.geometry = subst (λ (w : Want). word_of key.geometry w < all_words_of key.geometry) e inside in omega (arith, h, most, segments)
+  pub for_draw : (i : ℕ) → i ≡ word_of key.geometry given → given ≡ Draw → IsOwed i (λ n. (n + 1) % 2 ^ 64)
+  for_draw i there e = named Draw i (λ n. (n + 1) % 2 ^ 64) e there (λ n. refl)

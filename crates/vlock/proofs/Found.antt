@@ -4,7 +4,7 @@ use Rattle.std.specs.Prelude.{◌==◌, ◌&&◌}
 use Rattle.std.proofs.lemmas.Bool.{eq-eqb}
 use Rattle.std.specs.Cmp.Derive.{both_true}
 use Rattle.hash_word.specs.Hash.{index_of}
-use Rattle.segment_head.specs.HeadWord.{version_in, normal, is_live, HasLiveState}
+use Rattle.segment_head.specs.HeadWord.{version_in, is_live, HasLiveState}
 use Rattle.segment_head.proofs.Headers.{live_test}
 use Rattle.trace.specs.Events.{Words}
 use Rattle.image_layout.specs.Places.{root_word, entry_at, head_at}
@@ -136,3 +136,10 @@ module _ (site : Ground) (hash root index segment header version : ℕ) (p a b q
   -- it may call on, and has no answer where it had none
   pub may_on : MayCall p.view → MayCall q.view × (p.view.answer ≡ None → q.view.answer ≡ None)
   may_on may = (subst MayCall (sym end_view) may, λ none. ap (λ (v : View). v.answer) end_view ∙ none)
+
+  -- no call ended on the way, and the view is as it was but for what it relies on and what it noted
+  pub past_on : q.past ≡ p.past
+  past_on = ap (λ (w : Watch). w.past) at_head.0 ∙ (ap (λ (w : Watch). w.past) at_entry.0 ∙ ap (λ (w : Watch). w.past) at_root.0)
+
+  pub beside_on : IsBesideWay p.view q.view
+  beside_on = subst (λ (v : View). IsBesideWay p.view v) (sym end_view) refl

@@ -12,6 +12,20 @@ use image_layout::Geometry;
 use op_core::{Ans, Want};
 use trace::LINE_WORDS;
 
+/// The word that an event is on.
+fn word_of(geometry: &Geometry, want: Want) -> usize
+    requires { word_of geometry.now want < all_words_of geometry.now }
+    ensures { result ≡ word_of geometry.now want }
+{
+    let counter = geometry.words() as usize;
+    match want {
+        Want::Load(word) | Want::Store(word, _) | Want::Exchange(word, ..) => word as usize,
+        Want::Flush(line) => LINE_WORDS * line as usize,
+        Want::Power => geometry.power_word() as usize,
+        Want::Fence | Want::Draw | Want::Done => counter,
+    }
+}
+
 /// One event, as one atomic step. It gives the value that its word was found to have.
 ///
 /// `about` is not read: at a call with `Brand` the ghosts of `N` are made from the numbers in it. A flush is a load of the
@@ -32,17 +46,14 @@ pub fn step<N: Acting, E>(
     ensures view { Tells N.ground N.want N.kind seat.old.me.0 result seat.new.me.0 }
 {
     let _ = about;
-    let counter = geometry.words() as usize;
+    let word = word_of(geometry, want);
     match want {
-        Want::Load(word) => image.load::<Acts<N>>(seat, word as usize),
-        Want::Store(word, new) => image.swap::<Acts<N>>(seat, word as usize, new),
-        Want::Exchange(word, old, new) => {
-            image.compare_exchange::<Acts<N>>(seat, word as usize, old, new)
+        Want::Store(_, new) => image.swap::<Acts<N>>(seat, word, new),
+        Want::Exchange(_, old, new) => image.compare_exchange::<Acts<N>>(seat, word, old, new),
+        Want::Draw => image.fetch_add::<Acts<N>>(seat, word, 1),
+        Want::Load(_) | Want::Flush(_) | Want::Fence | Want::Power => {
+            image.load::<Acts<N>>(seat, word)
         }
-        Want::Draw => image.fetch_add::<Acts<N>>(seat, counter, 1),
-        Want::Flush(line) => image.load::<Acts<N>>(seat, LINE_WORDS * line as usize),
-        Want::Fence => image.load::<Acts<N>>(seat, counter),
-        Want::Power => image.load::<Acts<N>>(seat, geometry.power_word() as usize),
         Want::Done => unreachable!(),
     }
 }

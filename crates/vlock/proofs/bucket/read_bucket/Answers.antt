@@ -17,6 +17,15 @@ may_load : (shape given : Shape) (segment bucket lock : ℕ) (v w : View) → (s
 may_load shape given segment bucket lock v w place is same beside may =
     ((segment, bucket, place.0, place.1, is ∙ ap (λ (g : Shape). bucket_at g segment bucket) same), may_call v w beside may)
 
+pub look-before-requires-clause-table : goal.look-before-requires-clause-table
+look-before-requires-clause-table c = c.requires.table
+
+pub returns-then-is_locked-clause-table : goal.returns-then-is_locked-clause-table
+returns-then-is_locked-clause-table c = c.look-before.ensures.table
+
+pub returns-then-is_locked-clause-past : goal.returns-then-is_locked-clause-past
+returns-then-is_locked-clause-past c = ap (λ (w : Watch). w.past) c.look-before.ensures.view.0
+
 pub returns-then-is_locked-clause-view : goal.returns-then-is_locked-clause-view
 returns-then-is_locked-clause-view c = looked (ground_of c.args.image.now.key) c.bucket_at-lock.result c.look-before.result c.args.seat.now.me.0 _ c.look-before.ensures.view c.requires.caller.1
 
@@ -44,6 +53,9 @@ loop-i-init c =
       reading = starts site lock c.look-before.result _ p _ c.look-before.ensures.view (even_of _ c.if-is_locked.ensures) refl refl c.requires.caller.1;
     }
 
+pub glance-requires-clause-table : goal.glance-requires-clause-table
+glance-requires-clause-table c = c.loop-i.invariant.table
+
 pub glance-requires-clause-lock : goal.glance-requires-clause-lock
 glance-requires-clause-lock c =
     may_load c.args.image.now.key.geometry c.args.geometry.now c.args.segment c.args.bucket c.bucket_at-lock.result c.args.seat.now.me.0.view c.loop-i.seat.me.0.view c.requires.place c.bucket_at-lock.ensures.is c.requires.geometry
@@ -63,10 +75,19 @@ loop-i-preserved c =
       reading = goes_on site o.view lock c.look-before.result c.loop-i.words c.loop-i.i c.glance.result p _ (search rules) (search rules) i.reading c.glance.ensures.view;
     }
 
+pub validate-after-requires-clause-table : goal.validate-after-requires-clause-table
+validate-after-requires-clause-table c = c.loop-i.invariant.table
+
 pub validate-after-requires-clause-lock : goal.validate-after-requires-clause-lock
 validate-after-requires-clause-lock c =
     may_load c.args.image.now.key.geometry c.args.geometry.now c.args.segment c.args.bucket c.bucket_at-lock.result c.args.seat.now.me.0.view c.loop-i.seat.me.0.view c.requires.place c.bucket_at-lock.ensures.is c.requires.geometry
     c.loop-i.invariant.reading.same_view c.requires.caller.0
+
+pub returns-then-is_locked-2-clause-table : goal.returns-then-is_locked-2-clause-table
+returns-then-is_locked-2-clause-table c = c.validate-after.ensures.table
+
+pub returns-then-is_locked-2-clause-past : goal.returns-then-is_locked-2-clause-past
+returns-then-is_locked-2-clause-past c = ap (λ (w : Watch). w.past) c.validate-after.ensures.view.0 ∙ c.loop-i.invariant.past
 
 pub returns-then-is_locked-2-clause-view : goal.returns-then-is_locked-2-clause-view
 returns-then-is_locked-2-clause-view c =
@@ -90,6 +111,12 @@ returns-then-is_locked-2-clause-read c =
       ),
     )
 
+pub returns-then-after-before-clause-table : goal.returns-then-after-before-clause-table
+returns-then-after-before-clause-table c = c.validate-after.ensures.table
+
+pub returns-then-after-before-clause-past : goal.returns-then-after-before-clause-past
+returns-then-after-before-clause-past c = ap (λ (w : Watch). w.past) c.validate-after.ensures.view.0 ∙ c.loop-i.invariant.past
+
 pub returns-then-after-before-clause-view : goal.returns-then-after-before-clause-view
 returns-then-after-before-clause-view c =
     validated_view (ground_of c.args.image.now.key) c.args.seat.now.me.0.view c.bucket_at-lock.result c.validate-after.result c.loop-i.seat.me.0 _ c.validate-after.ensures.view c.loop-i.invariant.reading.same_view c.requires.caller.1
@@ -108,6 +135,12 @@ returns-then-after-before-clause-read c =
       last_load site lock c.look-before.result c.validate-after.result c.loop-i.words c.loop-i.i (λ n. of_call (validates lock)) o p _ (search rules) (search rules) i.reading.even i.took c.validate-after.ensures.view,
       notes_bucket site o.view lock c.look-before.result c.validate-after.result c.loop-i.words c.loop-i.i p _ i.reading (search rules) c.validate-after.ensures.view (search rules) c.requires.caller.1,
     ))
+
+pub returns-else-after-before-clause-table : goal.returns-else-after-before-clause-table
+returns-else-after-before-clause-table c = c.validate-after.ensures.table
+
+pub returns-else-after-before-clause-past : goal.returns-else-after-before-clause-past
+returns-else-after-before-clause-past c = ap (λ (w : Watch). w.past) c.validate-after.ensures.view.0 ∙ c.loop-i.invariant.past
 
 pub returns-else-after-before-clause-view : goal.returns-else-after-before-clause-view
 returns-else-after-before-clause-view c =
