@@ -1,11 +1,10 @@
 //! Changes of key 5 on the words of a new image with one segment, and on such words that another caller changes. Each is told by its call.
 use crate::memory::Memory;
-use crate::rows::Follows;
+use crate::rows::{Follows, first_word, numbers};
 use bucket_meta::words::MARK_PLACE;
 use map_model::{Change, Effect};
 use op_core::{Machine, Want};
 use phase::Held;
-use row_file::number_of;
 use std::test::Fail;
 use write_op::{WriteEnd, WriteOp};
 
@@ -15,10 +14,12 @@ impl Follows for WriteOp {
     type Stand = (Option<WriteEnd>, Option<(Held, [u64; 4])>);
 
     fn begun(memory: &mut Memory, case: &str) -> Result<WriteOp, Fail> {
-        let effect = match case.split_once(' ') {
-            Some(("insert", value)) => Effect::Insert(number_of(value)?),
-            Some((_, value)) => Effect::Update(number_of(value)?),
-            None => Effect::Remove,
+        let (call, rest) = first_word(case);
+        let [value, _, _, _] = numbers(rest)?;
+        let effect = match call {
+            "insert" => Effect::Insert(value),
+            "update" => Effect::Update(value),
+            _ => Effect::Remove,
         };
         Ok(WriteOp::new(Change { key: 5, effect }, memory.site))
     }

@@ -1,11 +1,10 @@
 //! Attempts on the words of a table of one segment in which `1 insert 5 7` was done, and calls that split or repair a segment of an image of two
 //! slots.
 use crate::memory::Memory;
-use crate::rows::Deeds;
+use crate::rows::{Deeds, first_word, numbers};
 use engine::{End, Engine};
 use map_model::Call;
 use op_core::{Ans, Want};
-use row_file::number_of;
 use std::alloc::Global;
 use std::test::Fail;
 
@@ -25,30 +24,46 @@ impl Attempts {
             last: None,
         }
     }
+
+    /// The end of the last one, where it has ended.
+    fn end(&self) -> Option<End> {
+        let Some(engine) = &self.engine else {
+            return None;
+        };
+        match engine.next() {
+            Want::Done => Some(engine.end()),
+            _ => None,
+        }
+    }
+}
+
+/// The reply of an attempt that ended so, and whether it is to be made again.
+fn reply_told(alloc: Global, end: End) -> Result<String, Fail> {
+    let (reply, again) = (end.reply(), end.is_again());
+    Ok(format!(in alloc; "{reply:?} {again}")?)
 }
 
 /// The call of these words.
 fn call_of(text: &str) -> Result<Call, Fail> {
-    let Some((word, numbers)) = text.split_once(' ') else {
-        return Err(Fail::new("no call"));
-    };
-    match (word, numbers.split_once(' ')) {
-        ("get", None) => Ok(Call::Get(number_of(numbers)?)),
-        ("remove", None) => Ok(Call::Remove(number_of(numbers)?)),
-        ("insert", Some((key, value))) => Ok(Call::Insert(number_of(key)?, number_of(value)?)),
-        ("update", Some((key, value))) => Ok(Call::Update(number_of(key)?, number_of(value)?)),
+    let (word, rest) = first_word(text);
+    let [key, value, _, _] = numbers(rest)?;
+    match word {
+        "get" => Ok(Call::Get(key)),
+        "remove" => Ok(Call::Remove(key)),
+        "insert" => Ok(Call::Insert(key, value)),
+        "update" => Ok(Call::Update(key, value)),
         _ => Err(Fail::new("no call")),
     }
 }
 
 impl Deeds for Attempts {
     fn begin(&mut self, memory: &mut Memory, case: &str) -> Result<(), Fail> {
-        let Some((which, call)) = case.split_once(' ') else {
-            return Err(Fail::new("no attempt"));
-        };
+        let (which, call) = first_word(case);
         let call = call_of(call)?;
         let mut engine = Engine::of(call, memory.site);
-        if let (true, Some(last)) = (which == "next", self.last) {
+        if which == "next"
+            && let Some(last) = self.last
+        {
             engine.renew(call, memory.site, last);
         }
         self.engine = Some(engine);
@@ -60,8 +75,9 @@ impl Deeds for Attempts {
             return Want::Done;
         };
         let want = engine.next();
-        if want != Want::Done {
-            engine.take(memory.answer(want));
+        match want {
+            Want::Done => {}
+            _ => engine.take(memory.answer(want)),
         }
         want
     }
@@ -71,19 +87,12 @@ impl Deeds for Attempts {
     }
 
     fn told(&mut self, alloc: Global, what: &str) -> Result<String, Fail> {
-        let Some(engine) = &self.engine else {
-            return Err(Fail::new("no attempt"));
-        };
-        if engine.next() != Want::Done {
-            return Err(Fail::new("no end"));
+        self.last = self.end();
+        match self.last {
+            Some(end) if what == "reply" => reply_told(alloc, end),
+            Some(end) => Ok(format!(in alloc; "{end:?}")?),
+            None => Err(Fail::new("no end")),
         }
-        let end = engine.end();
-        self.last = Some(end);
-        if what == "reply" {
-            let (reply, again) = (end.reply(), end.is_again());
-            return Ok(format!(in alloc; "{reply:?} {again}")?);
-        }
-        Ok(format!(in alloc; "{end:?}")?)
     }
 }
 

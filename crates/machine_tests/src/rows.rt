@@ -73,12 +73,10 @@ impl<M: Follows + Drop> Deeds for Followed<M> {
             return Want::Done;
         };
         let want = op.want();
-        if want != Want::Done {
-            let ans = match ans {
-                Some(ans) => ans,
-                None => memory.answer(want),
-            };
-            op.take(ans);
+        match (want, ans) {
+            (Want::Done, _) => {}
+            (_, Some(ans)) => op.take(ans),
+            (_, None) => op.take(memory.answer(want)),
         }
         want
     }
@@ -103,12 +101,22 @@ impl<M: Follows + Drop> Deeds for Followed<M> {
     }
 }
 
+/// The first word, and what stands behind the space after it.
+pub fn first_word(text: &str) -> (&str, &str) {
+    match text.split_once(' ') {
+        Some(parts) => parts,
+        None => (text, ""),
+    }
+}
+
 /// Four numbers with spaces between them, of which the last ones may be left out, and are 0 then.
 pub fn numbers(text: &str) -> Result<[u64; 4], Fail> {
     let mut numbers = [0; 4];
-    for (place, word) in text.split_ascii_whitespace().enumerate() {
+    let mut place = 0;
+    for word in text.split_ascii_whitespace() {
         if place < 4 {
             numbers[place] = number_of(word)?;
+            place += 1;
         }
     }
     Ok(numbers)
@@ -145,21 +153,23 @@ fn has(memory: &Memory, text: &str) -> Result<bool, Fail> {
 
 /// A memory for an image of so many slots and of this greatest depth, of this version, where this caller runs.
 fn memory_of(text: &str) -> Result<Memory, Fail> {
-    let told = numbers(text)?;
+    let [segments, depth, version, caller] = numbers(text)?;
     Ok(Memory::new(Site {
-        geometry: Geometry::new(told[0], told[1], IDENTITY_KIND)?,
-        version: u8::try_from(told[2])?,
-        caller: u8::try_from(told[3])?,
+        geometry: Geometry::new(segments, depth, IDENTITY_KIND)?,
+        version: (version % 256) as u8,
+        caller: (caller % 256) as u8,
     }))
 }
 
 /// The answer of these words, as `Value 5` or `Passed`.
 fn answer(text: &str) -> Result<Ans, Fail> {
-    match text.split_once(' ') {
-        Some(("Value", value)) => Ok(Ans::Value(number_of(value)?)),
-        Some(("Lost", value)) => Ok(Ans::Lost(number_of(value)?)),
-        None if text == "Won" => Ok(Ans::Won),
-        None if text == "Passed" => Ok(Ans::Passed),
+    let (word, rest) = first_word(text);
+    let [value, _, _, _] = numbers(rest)?;
+    match word {
+        "Value" => Ok(Ans::Value(value)),
+        "Lost" => Ok(Ans::Lost(value)),
+        "Won" => Ok(Ans::Won),
+        "Passed" => Ok(Ans::Passed),
         _ => Err(Fail::new("no answer")),
     }
 }
@@ -189,6 +199,23 @@ fn event(
     }
 }
 
+/// The same of a text in which a `#` may stand for this number.
+fn event_at(
+    alloc: Global,
+    deeds: &mut impl Deeds,
+    memory: &mut Memory,
+    text: &str,
+    at: u64,
+) -> Result<bool, Fail> {
+    match text.split_once('#') {
+        Some((before, behind)) => {
+            let text = format!(in alloc; "{before}{at}{behind}")?;
+            event(alloc, deeds, memory, text.as_str())
+        }
+        None => event(alloc, deeds, memory, text),
+    }
+}
+
 /// Does the events of a pattern with this number in them, and says whether they are these.
 fn events_at(
     alloc: Global,
@@ -198,14 +225,7 @@ fn events_at(
     at: u64,
 ) -> Result<bool, Fail> {
     for part in pattern.split("; ") {
-        let same = match part.split_once('#') {
-            Some((before, behind)) => {
-                let text = format!(in alloc; "{before}{at}{behind}")?;
-                event(alloc, deeds, memory, text.as_str())?
-            }
-            None => event(alloc, deeds, memory, part)?,
-        };
-        if !same {
+        if !event_at(alloc, deeds, memory, part, at)? {
             return Ok(false);
         }
     }
@@ -241,7 +261,7 @@ fn events(
 fn run(deeds: &mut impl Deeds, memory: &mut Memory) {
     memory.events = 0;
     for _ in 0..40_000u64 {
-        if deeds.event(memory, None) == Want::Done {
+        if matches!(deeds.event(memory, None), Want::Done) {
             return;
         }
     }

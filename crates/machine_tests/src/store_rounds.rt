@@ -35,8 +35,9 @@ impl Deeds for Stores {
 
     fn event(&mut self, _memory: &mut Memory, _ans: Option<Ans>) -> Want {
         let want = self.rounds.event(self.next);
-        if want != Want::Done {
-            self.rounds.take(self.next);
+        match want {
+            Want::Done => {}
+            _ => self.rounds.take(self.next),
         }
         want
     }

@@ -1,6 +1,6 @@
 //! The file format's own examples: a stash full of notes, a key that stands twice after a cut, and segments without room.
 use crate::memory::Memory;
-use crate::rows::{Deeds, numbers};
+use crate::rows::{Deeds, first_word, numbers};
 use bucket_meta::{cleared_mark, copied_mark};
 use image_layout::{BUCKETS, Geometry, HOMES, SECOND_STASH};
 use op_core::{Ans, Want};
@@ -108,10 +108,7 @@ impl Segments {
 
 impl Deeds for Segments {
     fn begin(&mut self, memory: &mut Memory, case: &str) -> Result<(), Fail> {
-        let (word, rest) = match case.split_once(' ') {
-            Some((word, rest)) => (word, rest),
-            None => (case, ""),
-        };
+        let (word, rest) = first_word(case);
         let told = numbers(rest)?;
         if !self.lays(word, &told) {
             self.answer = self.answered(&memory.site.geometry, word, &told);
