@@ -24,13 +24,13 @@ fn new_device(alloc: Global) -> Result<Device, Fail> {
 fn has_word(device: &Device, w: u64) -> bool
     ensures { result ≡ true → w < all_words_of device.now.shape }
 {
-    w < device.geometry().words() + 5
+    w < device.geometry().all_words() as u64
 }
 
 /// Stores a value, where there are such a word and such a caller.
-fn store(device: &mut Device, caller: u8, w: u64, v: u64) -> &'static str {
-    if has_word(device, w) && caller <= device.callers() {
-        device.store(caller, w, v);
+fn store(device: &mut Device, caller: u64, w: u64, v: u64) -> &'static str {
+    if has_word(device, w) && caller <= u64::from(device.callers()) {
+        device.store(caller as u8, w, v);
         "done"
     } else {
         "none"
@@ -38,13 +38,13 @@ fn store(device: &mut Device, caller: u8, w: u64, v: u64) -> &'static str {
 }
 
 /// Flushes a line, where there are such a line and such a caller, who may flush one more.
-fn flush(device: &mut Device, caller: u8, line: u64) -> &'static str {
+fn flush(device: &mut Device, caller: u64, line: u64) -> &'static str {
     if line < 276
         && 8 * line + 8 <= device.geometry().words()
-        && caller <= device.callers()
-        && device.unfenced(caller) < 8
+        && caller <= u64::from(device.callers())
+        && device.unfenced(caller as u8) < 8
     {
-        device.flush(caller, line);
+        device.flush(caller as u8, line);
         "done"
     } else {
         "none"
@@ -52,9 +52,9 @@ fn flush(device: &mut Device, caller: u8, line: u64) -> &'static str {
 }
 
 /// Fences, where there is such a caller.
-fn fence(device: &mut Device, caller: u8) -> &'static str {
-    if caller <= device.callers() {
-        device.fence(caller);
+fn fence(device: &mut Device, caller: u64) -> &'static str {
+    if caller <= u64::from(device.callers()) {
+        device.fence(caller as u8);
         "done"
     } else {
         "none"
@@ -85,14 +85,8 @@ fn exchange_told(
     }
 }
 
-/// What a cut with this choice leaves of the six words, of which none has settled.
-fn cut_told(alloc: Global, choice: u64) -> Result<String, Fail> {
-    let mut device = new_device(alloc)?;
-    for (place, value) in STORED {
-        store(&mut device, 1, place, value);
-    }
-    let medium = device.cut(choice);
-    let words = medium.words.as_slice();
+/// The six words as they stand in an image.
+fn left_of(alloc: Global, words: &[u64]) -> Result<String, Fail> {
     let mut left = Vec::new(alloc);
     for (place, _) in STORED {
         if let Some(word) = words.get(place as usize) {
@@ -100,6 +94,16 @@ fn cut_told(alloc: Global, choice: u64) -> Result<String, Fail> {
         }
     }
     shown(alloc, &left.as_slice())
+}
+
+/// What a cut with this choice leaves of the six words, of which none has settled.
+fn cut_told(alloc: Global, choice: u64) -> Result<String, Fail> {
+    let mut device = new_device(alloc)?;
+    for (place, value) in STORED {
+        store(&mut device, 1, place, value);
+    }
+    let medium = device.cut(choice);
+    left_of(alloc, medium.words.as_slice())
 }
 
 /// A memory, and the state of a stream.
@@ -121,9 +125,9 @@ impl TellsOfNumbers for Runs {
     fn told(&mut self, alloc: Global, name: &str, numbers: &[u64]) -> Result<String, Fail> {
         let done = match (name, numbers) {
             ("new", []) => self.begin(alloc)?,
-            ("store", [caller, w, v]) => { store(&mut self.device, u8::try_from(*caller)?, *w, *v) }
-            ("flush", [caller, line]) => flush(&mut self.device, u8::try_from(*caller)?, *line),
-            ("fence", [caller]) => fence(&mut self.device, u8::try_from(*caller)?),
+            ("store", [caller, w, v]) => store(&mut self.device, *caller, *w, *v),
+            ("flush", [caller, line]) => flush(&mut self.device, *caller, *line),
+            ("fence", [caller]) => fence(&mut self.device, *caller),
             ("word", [w]) => return values_told(alloc, &self.device, *w),
             ("unfenced", [caller]) => {
                 return shown(alloc, &self.device.unfenced(u8::try_from(*caller)?));

@@ -17,22 +17,41 @@ fn pieced(alloc: Global, room: usize, bytes: &[u8]) -> Result<Words, Fail> {
     Ok(words)
 }
 
+/// Whether the image of these bytes is the same where its words come in pieces of one word.
+fn is_same_in_pieces(alloc: Global, bytes: &[u8]) -> Result<bool, Fail> {
+    let medium = from_words(alloc, pieced(alloc, 1, bytes)?)?;
+    let again = to_bytes(alloc, &medium)?;
+    Ok(again.as_slice() == bytes)
+}
+
+/// Why no words are no image.
+fn fault_of_none(alloc: Global) -> Result<Option<ImageFault>, Fail> {
+    Ok(from_words(alloc, pieced(alloc, 0, &[])?).err())
+}
+
 #[test]
 fn words_in_pieces(rt: HostRuntime) -> Result<(), Fail> {
     let alloc = rt.alloc();
     let medium = format(alloc, Geometry::new(1, 0, IDENTITY_KIND)?)?;
-    let kept = read_of_written(alloc, &medium).is_ok();
+    holds(
+        read_of_written(alloc, &medium).is_ok(),
+        "what was made is read",
+    )?;
     let bytes = to_bytes(alloc, &medium)?;
-    let again = to_bytes(alloc, &from_words(alloc, pieced(alloc, 1, &bytes)?)?)?;
-    let same = again.as_slice() == bytes.as_slice();
-    let none = from_words(alloc, pieced(alloc, 0, &[])?).err();
-    holds(kept, "what was made is read")?;
-    holds(same, "pieces of one word are the words")?;
-    holds(none == Some(ImageFault::Length), "no words are no image")
+    holds(
+        is_same_in_pieces(alloc, &bytes)?,
+        "pieces of one word are the words",
+    )
 }
 
 #[test]
-fn faults_are_told(rt: HostRuntime) -> Result<(), Fail> {
+fn no_words_are_no_image(rt: HostRuntime) -> Result<(), Fail> {
+    let fault = fault_of_none(rt.alloc())?;
+    holds(fault == Some(ImageFault::Length), "no words are no image")
+}
+
+/// All faults as they are told.
+fn faults_told(alloc: Global) -> Result<String, Fail> {
     let broken = ImageFault::Unsound {
         rule: Rule::Records,
         word: 100,
@@ -45,10 +64,16 @@ fn faults_are_told(rt: HostRuntime) -> Result<(), Fail> {
         broken,
         ImageFault::NoMemory,
     ];
-    let mut told = format!(in rt.alloc(); "{} {}", ScriptFault::NoMemory, NoMemory)?;
+    let mut told = format!(in alloc; "{} {}", ScriptFault::NoMemory, NoMemory)?;
     for fault in faults {
         write!(told, ", {fault}")?;
     }
+    Ok(told)
+}
+
+#[test]
+fn faults_are_told(rt: HostRuntime) -> Result<(), Fail> {
+    let told = faults_told(rt.alloc())?;
     assert_eq!(rt;
         told.as_str(),
         "out of memory out of memory, length, magic, format, geometry, rule 4 word 100, out of memory"

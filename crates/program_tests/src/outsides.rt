@@ -2,82 +2,121 @@
 // tell of: pieces of any length, interrupts, a reason that is kept, and a real file.
 mod files;
 
-use crate::rows::holds;
+use crate::rows::{Tells, first_word, script_of, shown, walk};
 use outside::{
     MemSink, MemSource, MemStore, Sink, Source, StdSink, StdSource, Store, StoreFault, put_all,
     take_all,
 };
+use row_file::number_of;
+use std::alloc::Global;
 use std::io::{BufWriter, ErrorKind, Read, Write};
 use std::test::Fail;
 use std::{fs, io};
 
+// The bytes as a text, or why there are none.
+fn bytes_told(alloc: Global, bytes: Result<Vec<u8>, StoreFault>) -> Result<String, Fail> {
+    match bytes {
+        Ok(bytes) => Ok(String::from_utf8(bytes)?),
+        Err(fault) => shown(alloc, &fault),
+    }
+}
+
+impl Tells for MemStore {
+    fn told(&mut self, alloc: Global, asked: &str) -> Result<String, Fail> {
+        let (name, text) = first_word(asked);
+        match name {
+            "read" => bytes_told(alloc, self.read_all(alloc, number_of(text)?)),
+            "write" if self.writes < u64::MAX => shown(alloc, &self.write_all(text.as_bytes())),
+            "bytes" => bytes_told(alloc, Ok(self.bytes.as_slice().to_vec(alloc)?)),
+            "counts" => shown(alloc, &(self.faults, self.writes)),
+            _ => Err(Fail::new(name)),
+        }
+    }
+}
+
+impl Tells for MemSource {
+    fn told(&mut self, alloc: Global, asked: &str) -> Result<String, Fail> {
+        let (name, text) = first_word(asked);
+        match name {
+            "pull" => {
+                let mut piece = [0; 2];
+                let count = self.pull(&mut piece);
+                shown(alloc, &(count, piece))
+            }
+            "take" => bytes_told(alloc, take_all(alloc, self, number_of(text)?)),
+            "faults" => shown(alloc, &self.faults),
+            _ => Err(Fail::new(name)),
+        }
+    }
+}
+
+impl Tells for MemSink {
+    fn told(&mut self, alloc: Global, asked: &str) -> Result<String, Fail> {
+        let (name, text) = first_word(asked);
+        match name {
+            "put" => shown(alloc, &put_all(self, text.as_bytes())),
+            "push" => shown(alloc, &self.push(text.as_bytes())),
+            "bytes" => bytes_told(alloc, Ok(self.bytes.as_slice().to_vec(alloc)?)),
+            "faults" => shown(alloc, &self.faults),
+            _ => Err(Fail::new(name)),
+        }
+    }
+}
+
 #[test]
 fn store_in_memory(rt: HostRuntime) -> Result<(), Fail> {
-    let alloc = rt.alloc();
-    let mut store = MemStore::new(alloc, b"abc", 4, &[2, 5])?;
-    holds(
-        store.read_all(alloc, 9)?.as_slice() == b"abc".as_slice(),
-        "all is read",
-    )?;
-    holds(store.write_all(b"xy").is_err(), "the second call fails")?;
-    holds(store.write_all(b"defg").is_ok(), "four bytes fit")?;
-    holds(
-        store.read_all(alloc, 1)?.as_slice() == b"de".as_slice(),
-        "one byte is read past the limit",
-    )?;
-    let fault = store.read_all(alloc, 9).err();
-    holds(fault == Some(StoreFault::Failed), "the fifth call fails")?;
-    holds(
-        store.write_all(b"hijkl").is_err(),
-        "five bytes are past the room",
-    )?;
-    holds(
-        store.bytes.as_slice() == b"defg".as_slice(),
-        "a write that failed leaves what was there",
-    )?;
-    holds(
-        [store.faults, store.writes] == [3, 3],
-        "faults and writes are counted",
-    )
+    let mut store = MemStore::new(rt.alloc(), b"abc", 4, &[2, 5])?;
+    walk(rt.alloc(), &mut store, STORE)
 }
 
 #[test]
 fn source_in_memory(rt: HostRuntime) -> Result<(), Fail> {
-    let alloc = rt.alloc();
-    let fails = [1].to_vec(alloc)?;
-    let mut source = MemSource::new(b"abcdef".to_vec(alloc)?, fails);
-    let mut piece = [0; 2];
-    holds(source.pull(&mut piece).is_err(), "the first call fails")?;
-    holds(source.faults == 1, "its fault is counted")?;
-    holds(source.pull(&mut piece) == Ok(2), "two bytes come")?;
-    holds(piece == *b"ab", "they are the first two")?;
-    holds(
-        take_all(alloc, &mut source, 2)?.as_slice() == b"cde".as_slice(),
-        "one is taken past the limit",
-    )?;
-    holds(
-        take_all(alloc, &mut source, 2)?.as_slice() == b"f".as_slice(),
-        "the last byte is left",
-    )
+    let fails = [1].to_vec(rt.alloc())?;
+    let mut source = MemSource::new(b"abcdef".to_vec(rt.alloc())?, fails);
+    walk(rt.alloc(), &mut source, SOURCE)
 }
 
 #[test]
 fn sink_in_memory(rt: HostRuntime) -> Result<(), Fail> {
-    let alloc = rt.alloc();
-    let mut sink = MemSink::new(alloc, 5, [2].to_vec(alloc)?)?;
-    holds(put_all(&mut sink, b"abc").is_ok(), "three bytes fit")?;
-    holds(put_all(&mut sink, b"d").is_err(), "the second call fails")?;
-    holds(
-        put_all(&mut sink, b"def").is_err(),
-        "three more are past the room",
-    )?;
-    holds(sink.push(b"de") == Ok(2), "two more fit")?;
-    holds(
-        sink.bytes.as_slice() == b"abcde".as_slice(),
-        "what was taken stands in order",
-    )?;
-    holds(sink.faults == 2, "faults are counted")
+    let mut sink = MemSink::new(rt.alloc(), 5, [2].to_vec(rt.alloc())?)?;
+    walk(rt.alloc(), &mut sink, SINK)
 }
+
+/// A store that holds `abc`, has room for four bytes, and fails at its second and fifth call. `counts` tells the faults and the writes.
+const STORE: &str = "\
+# All is read, the second call fails, and four bytes fit.
+read 9 -> abc
+write xy -> Err(Failed)
+write defg -> Ok(())
+# One byte is read past the limit.
+read 1 -> de
+# The fifth call fails, and five bytes are past the room. A write that failed leaves what was there.
+read 9 -> Failed
+write hijkl -> Err(Failed)
+bytes -> defg
+counts -> (3, 3)
+";
+
+/// A source of `abcdef` that fails at its first call. `pull` has room for two bytes, and tells their numbers.
+const SOURCE: &str = "\
+pull -> (Err(Failed), [0, 0])
+faults -> 1
+pull -> (Ok(2), [97, 98])
+# One byte is taken past the limit, and the last one is left.
+take 2 -> cde
+take 2 -> f
+";
+
+/// A sink that has room for five bytes and fails at its second call.
+const SINK: &str = "\
+put abc -> Ok(())
+put d -> Err(Failed)
+# Three more are past the room, and two more fit.
+put def -> Err(Failed)
+push de -> Ok(2)
+bytes -> abcde
+faults -> 2
+";
 
 // A reader that gives three bytes at a time, is interrupted before each, and fails where it meets an exclamation mark.
 #[derive(Drop)]
@@ -110,26 +149,12 @@ fn dripping(rest: &[u8]) -> Drip<'_> {
     }
 }
 
-#[test]
-fn source_over_a_reader(rt: HostRuntime) -> Result<(), Fail> {
-    let mut whole = StdSource::new(dripping(b"1 get 5\n"));
-    let all = take_all(rt.alloc(), &mut whole, 99)?;
-    let mut broken = StdSource::new(dripping(b"1 get !"));
-    let fault = take_all(rt.alloc(), &mut broken, 99).err();
-    let reason = broken.trouble.map(|reason| reason.kind());
-    holds(
-        all.as_slice() == b"1 get 5\n".as_slice(),
-        "all pieces are taken",
-    )?;
-    holds(
-        [whole.faults, broken.faults] == [0, 1],
-        "an interrupt is no fault",
-    )?;
-    holds(
-        fault == Some(StoreFault::Failed),
-        "a reader that fails is told",
-    )?;
-    holds(reason == Some(ErrorKind::Other), "its reason is kept")
+// What is taken of a reader that drips these bytes, how many faults there were, and the reason that is kept.
+fn dripped(alloc: Global, bytes: &[u8]) -> Result<String, Fail> {
+    let mut source = StdSource::new(dripping(bytes));
+    let taken = take_all(alloc, &mut source, 99);
+    let reason = source.trouble.map(|reason| reason.kind());
+    shown(alloc, &(taken, source.faults, reason))
 }
 
 // A writer that takes two bytes at a time, and is interrupted before each, and once in each flush.
@@ -163,37 +188,69 @@ impl Write for Slow {
     }
 }
 
-#[test]
-fn interrupted_writes_are_made_again(rt: HostRuntime) -> Result<(), Fail> {
+// What comes of a sink over such a writer, whether it took each byte once, and how many faults there were.
+fn slowed(alloc: Global, bytes: &[u8]) -> Result<String, Fail> {
     let mut sink = StdSink::new(Slow {
-        taken: Vec::new(rt.alloc()),
+        taken: Vec::new(alloc),
         interrupted: false,
     });
-    holds(
-        put_all(&mut sink, b"1 1 ABSENT @0\n").is_ok(),
-        "all is taken",
-    )?;
-    holds(
-        sink.inner.taken.as_slice() == b"1 1 ABSENT @0\n".as_slice(),
-        "each byte once",
-    )?;
-    holds(sink.faults == 0, "an interrupt is no fault")
+    let put = put_all(&mut sink, bytes);
+    let same = sink.inner.taken.as_slice() == bytes;
+    shown(alloc, &(put, same, sink.faults))
+}
+
+// What comes of a sink over a writer with room for four bytes, and how many faults there were.
+fn narrowed(alloc: Global, bytes: &[u8]) -> Result<String, Fail> {
+    let mut room = [0u8; 4];
+    let mut sink = StdSink::new(room.as_mut_slice());
+    let put = put_all(&mut sink, bytes);
+    shown(alloc, &(put, sink.faults))
+}
+
+// What comes of a sink over a file, and whether what it took is in the file at once.
+fn filed(rt: &HostRuntime, bytes: &[u8]) -> Result<String, Fail> {
+    let file = fs::create(rt, "sink.img")?;
+    let mut sink = StdSink::new(BufWriter::new(rt.alloc(), file)?);
+    let put = put_all(&mut sink, bytes);
+    let found = fs::read_to_string(rt, "sink.img")?;
+    shown(rt.alloc(), &(put, found.as_bytes() == bytes))
+}
+
+// Readers and writers of std.
+#[derive(Drop)]
+struct Streams<'a> {
+    rt: &'a HostRuntime,
+}
+
+impl<'a> Tells for Streams<'a> {
+    fn told(&mut self, alloc: Global, asked: &str) -> Result<String, Fail> {
+        let (name, text) = first_word(asked);
+        let bytes = script_of(alloc, text)?;
+        match name {
+            "drip" => dripped(alloc, &bytes),
+            "slow" => slowed(alloc, &bytes),
+            "narrow" => narrowed(alloc, &bytes),
+            "file" => filed(self.rt, &bytes),
+            _ => Err(Fail::new(name)),
+        }
+    }
 }
 
 #[test]
-fn sink_over_a_writer(rt: HostRuntime) -> Result<(), Fail> {
-    let file = fs::create(&rt, "sink.img")?;
-    let mut sink = StdSink::new(BufWriter::new(rt.alloc(), file)?);
-    let put = put_all(&mut sink, b"1 1 ABSENT @0\n");
-    let found = fs::read_to_string(&rt, "sink.img")?;
-    let mut full = [0u8; 4];
-    let mut narrow = StdSink::new(full.as_mut_slice());
-    let refused = put_all(&mut narrow, b"12345");
-    fs::remove_file(&rt, "sink.img")?;
-    holds(put.is_ok() && refused.is_err(), "a full writer is told")?;
-    holds(
-        found.as_str() == "1 1 ABSENT @0\n",
-        "what was taken is in the file at once",
-    )?;
-    holds(narrow.faults == 1, "a write that failed is counted")
+fn readers_and_writers_of_std(rt: HostRuntime) -> Result<(), Fail> {
+    walk(rt.alloc(), &mut Streams { rt: &rt }, STREAMS)?;
+    Ok(fs::remove_file(&rt, "sink.img")?)
 }
+
+/// A source or a sink, and its bytes, with a `;` for a line feed.
+const STREAMS: &str = "\
+# All pieces are taken, and an interrupt is no fault.
+drip 1 get 5; -> (Ok([49, 32, 103, 101, 116, 32, 53, 10]), 0, None)
+# A reader that fails is told, and its reason is kept.
+drip 1 get ! -> (Err(Failed), 1, Some(Other))
+# Interrupted writes are made again.
+slow 1 1 ABSENT @0; -> (Ok(()), true, 0)
+# A sink over a file; and a full writer, where the write that failed is counted.
+file 1 1 ABSENT @0; -> (Ok(()), true)
+narrow 12345 -> (Err(Failed), 1)
+";

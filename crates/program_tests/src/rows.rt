@@ -18,15 +18,6 @@ pub trait TellsOfNumbers {
     fn told(&mut self, alloc: Global, name: &str, numbers: &[u64]) -> Result<String, Fail>;
 }
 
-/// What a row asks and what has to be told then; of a row that says what is meant, nothing.
-fn parts_of(row: &str) -> Result<Option<(&str, &str)>, Fail> {
-    match row.split_once(" -> ") {
-        Some(parts) => Ok(Some(parts)),
-        None if row.starts_with("# ") => Ok(None),
-        None => Err(Fail::new(row)),
-    }
-}
-
 /// Fails where something else is told than a row says.
 fn judge(row: &str, told: &str, wanted: &str) -> Result<(), Fail> {
     if told == wanted {
@@ -35,14 +26,45 @@ fn judge(row: &str, told: &str, wanted: &str) -> Result<(), Fail> {
     Err(Fail::new(format_args!("{row}, and not {told}")))
 }
 
+/// Asks what a row asks, and fails where something else is told than it says. A row that says what is meant asks nothing.
+fn ask(alloc: Global, subject: &mut impl Tells, row: &str) -> Result<(), Fail> {
+    match row.split_once(" -> ") {
+        Some((asked, wanted)) => judge(row, subject.told(alloc, asked)?.as_str(), wanted),
+        None => holds(row.starts_with("# "), row),
+    }
+}
+
 /// Walks all rows of a text, and fails at the first to which something else is told.
 pub fn walk(alloc: Global, subject: &mut impl Tells, text: &str) -> Result<(), Fail> {
     for row in text.lines() {
-        if let Some((asked, wanted)) = parts_of(row)? {
-            judge(row, subject.told(alloc, asked)?.as_str(), wanted)?;
-        }
+        ask(alloc, subject, row)?;
     }
     Ok(())
+}
+
+/// What is told to a name and the numbers behind it.
+fn told_of_numbers(
+    alloc: Global,
+    subject: &mut impl TellsOfNumbers,
+    asked: &str,
+) -> Result<String, Fail> {
+    let (name, rest) = first_word(asked);
+    let numbers = numbers(alloc, rest)?;
+    subject.told(alloc, name, &numbers)
+}
+
+/// The same for a row that asks by a name and numbers.
+fn ask_numbers(alloc: Global, subject: &mut impl TellsOfNumbers, row: &str) -> Result<(), Fail> {
+    match row.split_once(" -> ") {
+        Some((asked, wanted)) => {
+            judge(
+                row,
+                told_of_numbers(alloc, subject, asked)?.as_str(),
+                wanted,
+            )
+        }
+        None => holds(row.starts_with("# "), row),
+    }
 }
 
 /// The same for rows that ask by a name and numbers.
@@ -52,11 +74,7 @@ pub fn walk_numbers(
     text: &str,
 ) -> Result<(), Fail> {
     for row in text.lines() {
-        if let Some((asked, wanted)) = parts_of(row)? {
-            let (name, rest) = first_word(asked);
-            let numbers = numbers(alloc, rest)?;
-            judge(row, subject.told(alloc, name, &numbers)?.as_str(), wanted)?;
-        }
+        ask_numbers(alloc, subject, row)?;
     }
     Ok(())
 }
@@ -100,14 +118,15 @@ pub fn numbers(alloc: Global, text: &str) -> Result<Vec<u64>, Fail> {
 
 /// A script that is written in one line, with a `;` for each of its line feeds; or so many line feeds behind `lines`.
 pub fn script_of(alloc: Global, text: &str) -> Result<Vec<u8>, Fail> {
+    let mut script = Vec::new(alloc);
     if let Some(count) = text.strip_prefix("lines ") {
-        return Ok(vec![in alloc; b'\n'; usize::try_from(number_of(count)?)?]?);
-    }
-    let mut script = text.as_bytes().to_vec(alloc)?;
-    for byte in script.iter_mut() {
-        if *byte == b';' {
-            *byte = b'\n';
+        for _ in 0..number_of(count)? {
+            script.push(b'\n')?;
         }
+        return Ok(script);
+    }
+    for byte in text.as_bytes() {
+        script.push(if *byte == b';' { b'\n' } else { *byte })?;
     }
     Ok(script)
 }

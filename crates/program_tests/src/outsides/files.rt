@@ -1,9 +1,8 @@
 //! What no clause says of a file. The tests may start in one folder: each makes files of its own there, most of them in folders of their own.
-ghost use Rattle.std.specs.Prelude.{◌≡◌, IfOk};
-
-use crate::rows::{Tells, holds, said, shown, walk};
+use crate::rows::{Tells, first_word, said, shown, walk};
 use outside::{Failed, FileStore, Purpose, Store, Trouble};
-use std::alloc::{AllocError, Global};
+use row_file::number_of;
+use std::alloc::Global;
 use std::fs::Permissions;
 use std::os::unix::fs::{MetadataExt, PermissionsExt, symlink};
 use std::test::Fail;
@@ -12,78 +11,120 @@ use std::{fs, io};
 // The number in the name of a second file: `.dash-new-7`.
 const CHOSEN: u64 = 7;
 
-// A store of the file of this name.
-fn store<'a>(
-    rt: &'a HostRuntime,
-    path: &str,
-    purpose: Purpose,
-) -> Result<FileStore<'a, HostRuntime>, AllocError>
-    ensures { IfOk result (λ image. image.writes ≡ 0) }
-{
-    FileStore::new(rt, rt.alloc(), path, purpose, CHOSEN)
+// Why a call on a store failed.
+fn reason(alloc: Global, image: &FileStore<'_, HostRuntime>) -> Result<String, Fail> {
+    match image.trouble() {
+        Some(Trouble::Refused(step, _)) => Ok(format!(in alloc; "{step:?} refused")?),
+        Some(trouble) => shown(alloc, &trouble),
+        None => said(alloc, "none"),
+    }
 }
 
-#[test]
-fn file_is_replaced(rt: HostRuntime) -> Result<(), Fail> {
-    let alloc = rt.alloc();
+// What is read, or why not.
+fn read(alloc: Global, image: &mut FileStore<'_, HostRuntime>) -> Result<String, Fail> {
+    match image.read_all(alloc, 9) {
+        Ok(bytes) => Ok(String::from_utf8(bytes)?),
+        Err(_) => reason(alloc, image),
+    }
+}
+
+// That bytes are written, or why not.
+fn write(
+    alloc: Global,
+    image: &mut FileStore<'_, HostRuntime>,
+    bytes: &[u8],
+) -> Result<String, Fail> {
+    if image.writes >= u64::MAX {
+        return Err(Fail::new("no more writes are counted"));
+    }
+    match image.write_all(bytes) {
+        Ok(()) => said(alloc, "done"),
+        Err(Failed) => reason(alloc, image),
+    }
+}
+
+// 200000 bytes, which count to 250 again and again.
+fn many_bytes(alloc: Global) -> Result<Vec<u8>, Fail> {
     let mut bytes = Vec::new(alloc);
     for number in 0..200_000u32 {
         bytes.push((number % 251) as u8)?;
     }
-    let mut image = store(&rt, "large.img", Purpose::Writing)?;
-    holds(image.write_all(b"the old bytes").is_ok(), "a file is made")?;
-    holds(image.write_all(&bytes).is_ok(), "it is replaced")?;
-    holds(
-        image.read_all(alloc, 200_000)?.as_slice() == bytes.as_slice(),
-        "all is read",
-    )?;
-    holds(
-        image.read_all(alloc, 99_999)?.len() == 100_000,
-        "one byte is read past the limit",
-    )?;
-    holds([image.faults, image.writes] == [0, 2], "writes are counted")
+    Ok(bytes)
 }
 
-// Why a call on a store failed.
-fn reason(alloc: Global, image: &FileStore<'_, HostRuntime>) -> Result<String, AllocError> {
-    match image.trouble() {
-        Some(Trouble::Refused(step, _)) => format!(in alloc; "{step:?} refused"),
-        Some(trouble) => format!(in alloc; "{trouble:?}"),
-        None => format!(in alloc; "none"),
+// How many of them are read up to this limit, and whether they are the first ones.
+fn many_read(
+    alloc: Global,
+    image: &mut FileStore<'_, HostRuntime>,
+    limit: u64,
+) -> Result<String, Fail> {
+    let found = image.read_all(alloc, limit)?;
+    let bytes = many_bytes(alloc)?;
+    shown(alloc, &(found.len(), bytes.as_slice().starts_with(&found)))
+}
+
+// What a deed on a store comes to.
+fn deed(
+    alloc: Global,
+    image: &mut FileStore<'_, HostRuntime>,
+    name: &str,
+    text: &str,
+) -> Result<String, Fail> {
+    match name {
+        "read" => read(alloc, image),
+        "write" => write(alloc, image, text.as_bytes()),
+        "counts" => shown(alloc, &(image.faults, image.writes)),
+        "write-many" => write(alloc, image, &many_bytes(alloc)?),
+        "read-many" => many_read(alloc, image, number_of(text)?),
+        _ => Err(Fail::new(name)),
     }
 }
 
 // What has a name: nothing, a link, or a file with its bytes.
-fn found(rt: &HostRuntime, path: &str) -> io::Result<String> {
+fn found(rt: &HostRuntime, path: &str) -> Result<String, Fail> {
     if !fs::exists(rt, path)? {
-        return Ok(String::from_str(rt.alloc(), "nothing")?);
+        return said(rt.alloc(), "nothing");
     }
     if fs::symlink_metadata(rt, path)?.is_symlink() {
-        return Ok(String::from_str(rt.alloc(), "a link")?);
+        return said(rt.alloc(), "a link");
     }
-    fs::read_to_string(rt, path)
+    Ok(fs::read_to_string(rt, path)?)
 }
 
 // The bits of a file's mode, the set-id bits among them.
-fn mode_of(rt: &HostRuntime, path: &str) -> io::Result<u32> {
-    Ok(fs::metadata(rt, path)?.mode() & 0o7777)
+fn mode_of(rt: &HostRuntime, path: &str) -> Result<String, Fail> {
+    let mode = fs::metadata(rt, path)?.mode() & 0o7777;
+    Ok(format!(in rt.alloc(); "{mode:o}")?)
 }
 
-// Makes or changes a folder or a file, and answers whether the words say so.
-fn change(rt: &HostRuntime, words: &[&str]) -> io::Result<bool> {
-    match *words {
-        ["folder", path] => fs::create_dir(rt, path)?,
-        ["file", path, text] => fs::write(rt, path, text.as_bytes())?,
-        ["link", path, to] => symlink(rt, to, path)?,
-        ["rename", path, to] => fs::rename(rt, path, to)?,
-        ["remove", path] => fs::remove_file(rt, path)?,
-        ["mode", path, mode] => match u32::from_str_radix(mode, 8) {
-            Ok(mode) => fs::set_permissions(rt, path, Permissions::from_mode(mode))?,
-            Err(_) => return Ok(false),
-        },
-        _ => return Ok(false),
+// Gives a file these bits, in octal digits.
+fn set_mode(rt: &HostRuntime, path: &str, mode: &str) -> io::Result<()> {
+    match u32::from_str_radix(mode, 8) {
+        Ok(mode) => fs::set_permissions(rt, path, Permissions::from_mode(mode)),
+        Err(_) => Err(io::Error::other("no mode")),
     }
-    Ok(true)
+}
+
+// Makes or changes a folder or a file.
+fn change(rt: &HostRuntime, name: &str, path: &str, text: &str) -> io::Result<()> {
+    match name {
+        "folder" => fs::create_dir(rt, path),
+        "file" => fs::write(rt, path, text.as_bytes()),
+        "link" => symlink(rt, text, path),
+        "rename" => fs::rename(rt, path, text),
+        "remove" => fs::remove_file(rt, path),
+        "mode" => set_mode(rt, path, text),
+        _ => Err(io::Error::other("no such change")),
+    }
+}
+
+// What is asked of a file by its path, or what a change of it comes to.
+fn file_told(rt: &HostRuntime, name: &str, path: &str, text: &str) -> Result<String, Fail> {
+    match name {
+        "at" => found(rt, path),
+        "bits" => mode_of(rt, path),
+        _ => shown(rt.alloc(), &change(rt, name, path, text).is_ok()),
+    }
 }
 
 // Stores of files, by their numbers from 0.
@@ -95,44 +136,23 @@ struct Stores<'a> {
 
 impl<'a> Stores<'a> {
     // Makes a store more, and tells its number.
-    fn open(&mut self, path: &str, purpose: Purpose) -> Result<usize, Fail> {
+    fn open(&mut self, path: &str, purpose: Purpose) -> Result<String, Fail> {
         let number = self.images.len();
-        let image = store(self.rt, path, purpose)?;
-        if self.images.push(image).is_err() {
-            return Err(Fail::new("out of memory"));
+        let image = FileStore::new(self.rt, self.rt.alloc(), path, purpose, CHOSEN)?;
+        match self.images.push(image) {
+            Ok(()) => shown(self.rt.alloc(), &number),
+            Err(_) => Err(Fail::new("out of memory")),
         }
-        Ok(number)
     }
 
-    // What is read, or why not.
-    fn read(&mut self, alloc: Global, number: usize) -> Result<String, Fail> {
-        let Some(image) = self.images.get_mut(number) else {
-            return Err(Fail::new("no store"));
+    // What a deed on the store of this number comes to; or, where it is no number, what is told of a file.
+    fn deed(&mut self, alloc: Global, name: &str, rest: &str) -> Result<String, Fail> {
+        let (first, text) = first_word(rest);
+        let Ok(number) = number_of(first) else {
+            return file_told(self.rt, name, first, text);
         };
-        match image.read_all(alloc, 9) {
-            Ok(bytes) => Ok(String::from_utf8(bytes)?),
-            Err(_) => Ok(reason(alloc, image)?),
-        }
-    }
-
-    // That bytes are written, or why not.
-    fn write(&mut self, alloc: Global, number: usize, text: &str) -> Result<String, Fail> {
-        let Some(image) = self.images.get_mut(number) else {
-            return Err(Fail::new("no store"));
-        };
-        if image.writes >= u64::MAX {
-            return Err(Fail::new("no more writes are counted"));
-        }
-        match image.write_all(text.as_bytes()) {
-            Ok(()) => said(alloc, "done"),
-            Err(Failed) => Ok(reason(alloc, image)?),
-        }
-    }
-
-    // How many calls failed, and how many were writes.
-    fn counts(&self, alloc: Global, number: usize) -> Result<String, Fail> {
-        match self.images.get(number) {
-            Some(image) => shown(alloc, &(image.faults, image.writes)),
+        match self.images.get_mut(number as usize) {
+            Some(image) => deed(alloc, image, name, text),
             None => Err(Fail::new("no store")),
         }
     }
@@ -140,20 +160,15 @@ impl<'a> Stores<'a> {
 
 impl<'a> Tells for Stores<'a> {
     fn told(&mut self, alloc: Global, asked: &str) -> Result<String, Fail> {
-        let words: Vec<&str> = asked.split(' ').collect(alloc)?;
-        match *words.as_slice() {
-            ["reader", path] => shown(alloc, &self.open(path, Purpose::Reading)?),
-            ["writer", path] => shown(alloc, &self.open(path, Purpose::Writing)?),
-            ["read", number] => self.read(alloc, number.parse()?),
-            ["write", number, text] => self.write(alloc, number.parse()?, text),
-            ["counts", number] => self.counts(alloc, number.parse()?),
-            ["at", path] => Ok(found(self.rt, path)?),
-            ["mode", path] => Ok(format!(in alloc; "{:o}", mode_of(self.rt, path)?)?),
-            ["close"] => {
+        let (name, rest) = first_word(asked);
+        match name {
+            "reader" => self.open(rest, Purpose::Reading),
+            "writer" => self.open(rest, Purpose::Writing),
+            "close" => {
                 self.images.clear();
                 said(alloc, "done")
             }
-            _ => shown(alloc, &change(self.rt, &words)?),
+            _ => self.deed(alloc, name, rest),
         }
     }
 }
@@ -168,7 +183,16 @@ fn stores_of_files(rt: HostRuntime) -> Result<(), Fail> {
 }
 
 /// What is done, and what it comes to: `reader` and `writer` make a store and tell its number, and a change of a folder or a file is told by `true`.
+/// `write-many` writes many bytes, and `read-many` tells how many are read up to a limit, and whether they are the first ones of those.
 const ROWS: &str = "\
+# A file is made, and replaced by many bytes, which come back. One byte is read past the limit, and writes are counted.
+writer large.img -> 0
+write 0 the old bytes -> done
+write-many 0 -> done
+read-many 0 200000 -> (200000, true)
+read-many 0 99999 -> (100000, true)
+counts 0 -> (0, 2)
+close -> done
 # A file that is not there: so it is told, and each later call fails.
 writer nowhere/edge.img -> 0
 read 0 -> Missing
@@ -223,28 +247,28 @@ file mode/edge.img old -> true
 mode mode/edge.img 600 -> true
 writer mode/edge.img -> 0
 write 0 new -> done
-mode mode/edge.img -> 600
+bits mode/edge.img -> 600
 close -> done
 remove mode/edge.img -> true
 file mode/edge.img old -> true
 mode mode/edge.img 640 -> true
 writer mode/edge.img -> 0
 write 0 new -> done
-mode mode/edge.img -> 640
+bits mode/edge.img -> 640
 close -> done
 remove mode/edge.img -> true
 file mode/edge.img old -> true
 mode mode/edge.img 666 -> true
 writer mode/edge.img -> 0
 write 0 new -> done
-mode mode/edge.img -> 666
+bits mode/edge.img -> 666
 close -> done
 remove mode/edge.img -> true
 file mode/edge.img old -> true
 mode mode/edge.img 4755 -> true
 writer mode/edge.img -> 0
 write 0 new -> done
-mode mode/edge.img -> 4755
+bits mode/edge.img -> 4755
 close -> done
 remove mode/edge.img -> true
 file mode/edge.img old -> true
