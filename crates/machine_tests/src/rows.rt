@@ -156,8 +156,8 @@ fn memory_of(text: &str) -> Result<Memory, Fail> {
     let [segments, depth, version, caller] = numbers(text)?;
     Ok(Memory::new(Site {
         geometry: Geometry::new(segments, depth, IDENTITY_KIND)?,
-        version: (version % 256) as u8,
-        caller: (caller % 256) as u8,
+        version: u8::try_from(version)?,
+        caller: u8::try_from(caller)?,
     }))
 }
 
