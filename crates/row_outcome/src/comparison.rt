@@ -45,7 +45,7 @@ pub fn line_difference(
             return Ok(Some(line_told(alloc, number, line, other)?));
         }
     }
-    Ok(Some(format!(in alloc; "the ends of lines differ")?))
+    Ok(Some(String::from_str(alloc, "the ends of lines differ")?))
 }
 
 /// That a word is this, and not that; none where the image does not have it.

@@ -6,7 +6,7 @@ use crate::comparison::{line_difference, word_difference};
 use anyhow::Result;
 use command_line::{DONE, SINK_FAILED};
 use row_file::{Counts, Step};
-use std::alloc::Global;
+use std::alloc::{AllocError, Global};
 
 /// What a run left.
 #[derive(Drop)]
@@ -30,6 +30,46 @@ fn must_keep(command: &str, status: u8) -> bool
 }
 
 impl Outcome {
+    /// What differs in the status and in the lines, in words.
+    fn told_difference(&self, alloc: Global, step: &Step) -> Result<Option<String>, AllocError>
+        ensures status { IfOk result (λ difference. IsNone difference → self.now.status ≡ step.now.status) }
+        ensures written { IfOk result (λ difference. IsNone difference → self.now.written.items ≡ string_bytes step.now.written) }
+    {
+        if u64::from(self.status) != step.status {
+            let came = self.status;
+            let wanted = step.status;
+            return Ok(Some(format!(in alloc; "the status is {came}, and not {wanted}")?));
+        }
+        match str::from_utf8(&self.written) {
+            Ok(written) => line_difference(alloc, written, step.written.as_str()),
+            Err(_) => Ok(Some(String::from_str(alloc, "what is written is no text")?)),
+        }
+    }
+
+    /// What differs in the store and in what was counted, in words.
+    fn store_difference(
+        &self,
+        alloc: Global,
+        command: &str,
+        before: &[u8],
+        step: &Step,
+    ) -> Result<Option<String>, AllocError>
+        ensures { IfOk result (λ difference. IsNone difference → self.now.status ≢ DONE → self.now.status ≢ SINK_FAILED → self.now.image.items ≡ before.now) }
+    {
+        if must_keep(command, self.status) && self.image.as_slice() != before {
+            return Ok(Some(String::from_str(alloc, "the store was changed")?));
+        }
+        let counts = self.counts;
+        if step.counts.is_some_and(|wanted| wanted != counts) {
+            return Ok(Some(format!(in alloc; "what is counted is {counts:?}")?));
+        }
+        let count = self.image.len() as u64;
+        if step.bytes.is_some_and(|bytes| bytes != count) {
+            return Ok(Some(format!(in alloc; "{count} bytes are left")?));
+        }
+        word_difference(alloc, before, &self.image, &step.left, step.others)
+    }
+
     /// What differs after a run of one command of this step on a store that was `before`, in words; none where all is as it must be.
     ///
     /// # Errors
@@ -46,28 +86,10 @@ impl Outcome {
         ensures written { IfOk result (λ difference. IsNone difference → self.now.written.items ≡ string_bytes step.now.written) }
         ensures kept { IfOk result (λ difference. IsNone difference → self.now.status ≢ DONE → self.now.status ≢ SINK_FAILED → self.now.image.items ≡ before.now) }
     {
-        if u64::from(self.status) != step.status {
-            let (came, wanted) = (self.status, step.status);
-            return Ok(Some(format!(in alloc; "the status is {came}, and not {wanted}")?));
-        }
-        let Ok(written) = str::from_utf8(&self.written) else {
-            return Ok(Some(format!(in alloc; "what is written is no text")?));
-        };
-        if let Some(difference) = line_difference(alloc, written, step.written.as_str())? {
+        if let Some(difference) = self.told_difference(alloc, step)? {
             return Ok(Some(difference));
         }
-        if must_keep(command, self.status) && self.image.as_slice() != before {
-            return Ok(Some(format!(in alloc; "the store was changed")?));
-        }
-        let counts = self.counts;
-        if step.counts.is_some_and(|wanted| wanted != counts) {
-            return Ok(Some(format!(in alloc; "what is counted is {counts:?}")?));
-        }
-        let count = self.image.len() as u64;
-        if step.bytes.is_some_and(|bytes| bytes != count) {
-            return Ok(Some(format!(in alloc; "{count} bytes are left")?));
-        }
-        let left = word_difference(alloc, before, &self.image, &step.left, step.others)?;
+        let left = self.store_difference(alloc, command, before, step)?;
         Ok(left)
     }
 }
