@@ -74,8 +74,9 @@ impl Device {
         ensures begins { IfOk result (λ device. IsTraceOf (slice_index medium.words) [] device) }
     {
         let total = medium.geometry.all_words();
-        let newest = padded(alloc, medium.words.as_slice(), total)?;
-        let settled = padded(alloc, medium.words.as_slice(), total)?;
+        let words = medium.words.as_slice();
+        let newest = padded(alloc, words, total)?;
+        let settled = padded(alloc, words, total)?;
         let flushes = Vec::with_capacity(alloc, LINES * (usize::from(callers) + 1))?;
         Ok(Device {
             geometry: medium.geometry,

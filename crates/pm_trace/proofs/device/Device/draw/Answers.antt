@@ -1,8 +1,9 @@
 -- A draw replaces the counter by one more.
 use Rattle.std.proofs.Common.{◌≡◌, ℕ, ◌+◌, ◌%◌, ◌^◌, ◌<◌, ◌∙◌, ◌∷◌, length, ap, subst, sym, arith}
 use Rattle.std.specs.Prelude.{slice_index, slice_set}
-use Rattle.std.proofs.lemmas.Grind.{common_steps, get_or_default_zero}
+use Rattle.std.proofs.lemmas.Grind.{get_or_default_zero}
 use Rattle.image_layout.specs.Places.{words_of}
+use Rattle.image_layout.specs.Volatile.{counter_word}
 use Rattle.trace.specs.Events.Event.{drawn}
 use Rattle.pm_trace.specs.contracts.device.Device.{the_view}
 use Rattle.pm_trace.specs.Memory.{Memory}
@@ -23,4 +24,16 @@ returns-clause-follows c caller start es traced =
     (subst (λ x. IsTraceOf start (drawn caller counter ∷ es) (record (the_view c.self.inside) { newest = slice_set items counter ((x + 1) % 2 ^ 64) })) (sym place) drew)
 
 pub returns-clause-place : goal.returns-clause-place
-returns-clause-place c = grind (arith, common_steps)
+returns-clause-place c =
+    let items = c.self.inside.newest.items in
+    let counter : ℕ = c.words-counter.result in
+    let within : counter < length items = omega (arith, c.self.invariant.0, c.words-counter.ensures.is) in
+    c.index-place.ensures ∙ get_or_default_zero items counter c.index-place.result.now within
+    ∙ ap (slice_index items) c.words-counter.ensures.is
+    ∙ ap (λ (m : Memory). slice_index m.newest (counter_word m.shape)) c.self.view_is
+
+pub returns-clause-shape : goal.returns-clause-shape
+returns-clause-shape c = ap (λ (m : Memory). m.shape) c.self.view_is
+
+pub returns-clause-callers : goal.returns-clause-callers
+returns-clause-callers c = ap (λ (m : Memory). m.callers) c.self.view_is

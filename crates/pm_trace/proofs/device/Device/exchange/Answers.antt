@@ -1,5 +1,5 @@
 -- An exchange that finds what it expected replaces one of the newest words, and another one is a load.
-use Rattle.std.proofs.Common.{subst, sym, ◌<◌, rules}
+use Rattle.std.proofs.Common.{ap, subst, sym, refl, ◌<◌}
 use Rattle.pm_trace.specs.contracts.device.Device.{the_view}
 use Rattle.image_layout.specs.Volatile.{all_words_of}
 use Rattle.pm_trace.specs.Memory.{Memory}
@@ -17,4 +17,16 @@ returns-clause-won_follows c start es traced =
     (subst (λ m. IsTraceOf start es m) (sym c.self.view_is) traced)
 
 pub returns-then-seen-expected-clause-lost : goal.returns-then-seen-expected-clause-lost
-returns-then-seen-expected-clause-lost c = search rules
+returns-then-seen-expected-clause-lost c = refl
+
+pub returns-then-seen-expected-clause-shape : goal.returns-then-seen-expected-clause-shape
+returns-then-seen-expected-clause-shape c = refl
+
+pub returns-then-seen-expected-clause-callers : goal.returns-then-seen-expected-clause-callers
+returns-then-seen-expected-clause-callers c = refl
+
+pub returns-clause-shape : goal.returns-clause-shape
+returns-clause-shape c = ap (λ (m : Memory). m.shape) c.self.view_is
+
+pub returns-clause-callers : goal.returns-clause-callers
+returns-clause-callers c = ap (λ (m : Memory). m.callers) c.self.view_is

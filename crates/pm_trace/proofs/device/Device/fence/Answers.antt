@@ -7,7 +7,7 @@ use Rattle.trace.specs.Listed.{Has}
 use Rattle.pm_trace.specs.contracts.device.Device.{the_view}
 use Rattle.pm_trace.specs.declared.flushes.Flush.{Flush}
 use Rattle.image_layout.specs.Volatile.{all_words_of}
-use Rattle.pm_trace.specs.Memory.{flushes_of}
+use Rattle.pm_trace.specs.Memory.{Memory, flushes_of}
 use Rattle.pm_trace.specs.TraceOf.{IsTraceOf}
 use Rattle.pm_trace.specs.FlushLists.{IsFlush, settled_by, left_by}
 use Rattle.pm_trace.proofs.Settles.{Fits, length-settled_by}
@@ -50,3 +50,9 @@ returns-clause-follows c start es traced =
     subst (λ fs. IsTraceOf start (fenced c.args.caller ∷ es) (record (the_view d) { settled = take d.settled.len (c.settle.new.words ++ drop (length c.settle.new.words) d.settled.items); flushes = fs })) (sym c.fence.ensures.items)
     (subst (λ ws. IsTraceOf start (fenced c.args.caller ∷ es) (record (the_view d) { settled = ws; flushes = left_by c.args.caller d.flushes.items })) (sym settled)
     (fence_follows (the_view d) c.args.caller fit start es (subst (λ m. IsTraceOf start es m) (sym c.self.view_is) traced)))
+
+pub returns-clause-shape : goal.returns-clause-shape
+returns-clause-shape c = ap (λ (m : Memory). m.shape) c.self.view_is
+
+pub returns-clause-callers : goal.returns-clause-callers
+returns-clause-callers c = ap (λ (m : Memory). m.callers) c.self.view_is

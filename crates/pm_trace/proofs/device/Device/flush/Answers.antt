@@ -62,3 +62,9 @@ returns-clause-follows c start es traced =
     c.copy_from_slice.ensures.after ∙ ap (λ xs. slice_range xs (8 * c.args.line) (8 * c.args.line + 8)) c.as_slice-newest.ensures.value in
     subst (λ fs. IsTraceOf start (flushed c.args.caller c.args.line ∷ es) (record (the_view d) { flushes = fs })) (sym c.add.ensures.items)
     (flush_follows (the_view d) new words start es (subst (λ m. IsTraceOf start es m) (sym c.self.view_is) traced))
+
+pub returns-clause-shape : goal.returns-clause-shape
+returns-clause-shape c = ap (λ (m : Memory). m.shape) c.self.view_is
+
+pub returns-clause-callers : goal.returns-clause-callers
+returns-clause-callers c = ap (λ (m : Memory). m.callers) c.self.view_is

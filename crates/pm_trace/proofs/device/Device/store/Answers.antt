@@ -1,5 +1,5 @@
 -- A store replaces one of the newest words.
-use Rattle.std.proofs.Common.{subst, sym, ◌<◌}
+use Rattle.std.proofs.Common.{ap, subst, sym, ◌<◌}
 use Rattle.pm_trace.specs.contracts.device.Device.{the_view}
 use Rattle.image_layout.specs.Volatile.{all_words_of}
 use Rattle.pm_trace.specs.Memory.{Memory}
@@ -12,3 +12,9 @@ returns-clause-follows c start es traced =
     let within : c.args.w < all_words_of c.self.inside.geometry = subst (λ (m : Memory). c.args.w < all_words_of m.shape) (sym c.self.view_is) c.requires.word in
     store_follows (the_view c.self.inside) c.args.caller c.args.w c.args.v (subst (λ n. c.args.w < n) (sym c.self.invariant.0) within) start es
     (subst (λ m. IsTraceOf start es m) (sym c.self.view_is) traced)
+
+pub returns-clause-shape : goal.returns-clause-shape
+returns-clause-shape c = ap (λ (m : Memory). m.shape) c.self.view_is
+
+pub returns-clause-callers : goal.returns-clause-callers
+returns-clause-callers c = ap (λ (m : Memory). m.callers) c.self.view_is
