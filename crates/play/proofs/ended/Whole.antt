@@ -7,7 +7,6 @@ use Rattle.std.proofs.lemmas.List.FromFn.{length-map-range_with_len}
 use Rattle.image_layout.specs.Places.{Shape}
 use Rattle.map_model.specs.declared.call.Call.{Call}
 use Rattle.map_model.specs.declared.call.Call.TheVariants.{Get, Insert, Update, Remove}
-use Rattle.sound_image.specs.Image.{IsSoundImage}
 use Rattle.core_run.specs.Engines.{IsServedImage, IsWordCall}
 use Rattle.reply_text.specs.declared.left.Session.{Session}
 use Rattle.script_text.specs.declared.line.Line.{Line}

@@ -1,7 +1,8 @@
 -- The caller at the index takes the answer to its event, and goes on with its attempt, or ends it.
-use Rattle.std.proofs.Common.{◌≡◌, ◌+◌, Some, None, false, refl, sym, ap, ◌∙◌, add-one, subst}
+use Rattle.std.proofs.Common.{◌≡◌, ◌+◌, Some, None, false, refl, sym, ap, ◌∙◌, add-one, arith, subst}
 use Rattle.std.specs.Prelude.{slice_get}
 use Rattle.std.proofs.lemmas.List.{set-set}
+use Rattle.std.proofs.lemmas.Option.{slice_get_within}
 use Rattle.image_layout.specs.Places.{Shape}
 use Rattle.image_rules.proofs.Answered.{never}
 use Rattle.pm_trace.specs.Memory.{Memory}
@@ -10,6 +11,36 @@ use Rattle.play.specs.declared.caller.Caller.{Caller as PlayCaller}
 use Rattle.play.proofs.driven.Listed.{at_index}
 use Rattle.play.proofs.driven.RunStateParts.{WasDone, has_gone_on, has_come, comes, call_left}
 use Rattle.play.proofs.run_state.RunState.do_call_deed.Goals as goal
+
+pub overflow_cast-index : goal.overflow_cast-index
+overflow_cast-index c = let few = c.requires.few in record { fits = omega arith }
+
+pub do_event-ans-requires : goal.do_event-ans-requires
+do_event-ans-requires c = c.requires.may
+
+pub index_mut-caller-requires : goal.index_mut-caller-requires
+index_mut-caller-requires c =
+    let runs = c.requires.runs in
+    let within = slice_get_within c.args.self.now.callers.items c.args.index runs.caller runs.is_there in
+    let is_len = c.args.self.now.callers.ok.0 in
+    omega arith
+
+pub take_answer-has_ended-requires-clause-current : goal.take_answer-has_ended-requires-clause-current
+take_answer-has_ended-requires-clause-current c =
+    let runs = c.requires.runs in
+    let r : PlayCaller = c.index_mut-caller.result.now in
+    let same : runs.caller ≡ r = at_index c.args.self.now.callers.items c.args.index runs.caller r runs.is_there c.index_mut-caller.ensures.value in
+    subst (λ (q : PlayCaller). slice_get q.calls.items q.ended ≡ Some c.args.call) same runs.is_current
+
+pub take_answer-has_ended-requires-clause-runs : goal.take_answer-has_ended-requires-clause-runs
+take_answer-has_ended-requires-clause-runs c =
+    let runs = c.requires.runs in
+    let r : PlayCaller = c.index_mut-caller.result.now in
+    let same : runs.caller ≡ r = at_index c.args.self.now.callers.items c.args.index runs.caller r runs.is_there c.index_mut-caller.ensures.value in
+    (runs.engine, ap (λ (q : PlayCaller). q.engine) (sym same) ∙ runs.its_engine)
+
+pub end_attempt-ending-requires-clause-few : goal.end_attempt-ending-requires-clause-few
+end_attempt-ending-requires-clause-few c = c.requires.few
 
 pub returns-then-not-has_ended : goal.returns-then-not-has_ended
 returns-then-not-has_ended c runs t s caller is opened there =

@@ -14,3 +14,9 @@ pub push-requires-clause-has_spare : goal.push-requires-clause-has_spare
 push-requires-clause-has_spare c =
     let here : c.args.index + 1 - 1 ≡ c.args.index = omega arith in
     subst (λ (o : Option Roomed). IfSome o (λ (kept : Roomed). 0 < kept.spare)) (sym (ap (λ (n : ℕ). slice_get c.args.self.now.lists n) here ∙ c.requires.room.1)) c.requires.room.2
+
+pub overflow_cast-index : goal.overflow_cast-index
+overflow_cast-index c = let few = c.requires.few in record { fits = omega arith }
+
+pub overflow_add-index : goal.overflow_add-index
+overflow_add-index c = let few = c.requires.few in record { fits = omega arith }
