@@ -1,10 +1,11 @@
 //! Changes of key 5 on the words of a new image with one segment, and on such words that another caller changes. Each is told by its call.
 use crate::memory::Memory;
-use crate::rows::{Follows, first_word, numbers};
+use crate::rows::{Follows, numbers};
 use bucket_meta::words::MARK_PLACE;
 use map_model::{Change, Effect};
 use op_core::{Machine, Want};
 use phase::Held;
+use row_file::first_word;
 use std::test::Fail;
 use write_op::{WriteEnd, WriteOp};
 

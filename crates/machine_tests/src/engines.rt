@@ -1,10 +1,11 @@
 //! Attempts on the words of a table of one segment in which `1 insert 5 7` was done, and calls that split or repair a segment of an image of two
 //! slots.
 use crate::memory::Memory;
-use crate::rows::{Deeds, first_word, numbers};
+use crate::rows::{Deeds, numbers};
 use engine::{End, Engine};
 use map_model::Call;
 use op_core::{Ans, Want};
+use row_file::first_word;
 use std::alloc::Global;
 use std::test::Fail;
 

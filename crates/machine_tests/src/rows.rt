@@ -23,7 +23,7 @@
 use crate::memory::Memory;
 use image_layout::{Geometry, IDENTITY_KIND};
 use op_core::{Ans, Machine, Want};
-use row_file::number_of;
+use row_file::{first_word, number_of};
 use std::alloc::Global;
 use std::fmt::Debug;
 use std::test::Fail;
@@ -98,14 +98,6 @@ impl<M: Follows + Drop> Deeds for Followed<M> {
         };
         let stand = op.stands();
         Ok(format!(in alloc; "{stand:?}")?)
-    }
-}
-
-/// The first word, and what stands behind the space after it.
-pub fn first_word(text: &str) -> (&str, &str) {
-    match text.split_once(' ') {
-        Some(parts) => parts,
-        None => (text, ""),
     }
 }
 

@@ -1,9 +1,10 @@
 //! The file format's own examples: a stash full of notes, a key that stands twice after a cut, and segments without room.
 use crate::memory::Memory;
-use crate::rows::{Deeds, first_word, numbers};
+use crate::rows::{Deeds, numbers};
 use bucket_meta::{cleared_mark, copied_mark};
 use image_layout::{BUCKETS, Geometry, HOMES, SECOND_STASH};
 use op_core::{Ans, Want};
+use row_file::first_word;
 use std::alloc::Global;
 use std::test::Fail;
 use whole_segment::{Loaded, rebuilt_notes};

@@ -2,12 +2,12 @@
 // tell of: pieces of any length, interrupts, a reason that is kept, and a real file.
 mod files;
 
-use crate::rows::{Tells, first_word, script_of, shown, walk};
+use crate::rows::{Tells, script_of, shown, walk};
 use outside::{
     MemSink, MemSource, MemStore, Sink, Source, StdSink, StdSource, Store, StoreFault, put_all,
     take_all,
 };
-use row_file::number_of;
+use row_file::{first_word, number_of};
 use std::alloc::Global;
 use std::io::{BufWriter, ErrorKind, Read, Write};
 use std::test::Fail;

@@ -1,7 +1,7 @@
 //! Cases as rows of a text, and the loop that walks them: every test function is proved, and to that a row adds nothing.
 //!
 //! A row is what is asked, ` -> `, and what has to be told then. What is meant stands behind `# `.
-use row_file::number_of;
+use row_file::{first_word, number_of};
 use std::alloc::Global;
 use std::fmt::Debug;
 use std::test::Fail;
@@ -97,14 +97,6 @@ pub fn shown(alloc: Global, value: &impl Debug) -> Result<String, Fail> {
 /// A number in hexadecimal digits.
 pub fn hex(alloc: Global, number: u64) -> Result<String, Fail> {
     Ok(format!(in alloc; "{number:x}")?)
-}
-
-/// The first word of what is asked, and what stands behind the space after it.
-pub fn first_word(asked: &str) -> (&str, &str) {
-    match asked.split_once(' ') {
-        Some(parts) => parts,
-        None => (asked, ""),
-    }
 }
 
 /// Numbers with spaces between them.

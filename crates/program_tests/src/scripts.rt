@@ -1,5 +1,6 @@
 //! Edges of the grammar; what is expected was worked out by hand.
-use crate::rows::{Tells, first_word, script_of, shown, walk};
+use crate::rows::{Tells, script_of, shown, walk};
+use row_file::first_word;
 use script_text::{Mode, parse};
 use std::alloc::Global;
 use std::test::Fail;

@@ -144,9 +144,9 @@ fn text_of<'a>(first: u64, last: u64, mark: &str, text: &'a str) -> Option<Line<
     }
 }
 
-/// The first word of a line, and what stands behind the space after it.
-fn first_word(line: &str) -> (&str, &str) {
-    line.split_once(' ').unwrap_or((line, ""))
+/// The first word of a text, and what stands behind the space after it: nothing where there is no space.
+pub fn first_word(text: &str) -> (&str, &str) {
+    text.split_once(' ').unwrap_or((text, ""))
 }
 
 /// What stands behind `each`.

@@ -1,7 +1,7 @@
 //! What no clause says of a file. The tests may start in one folder: each makes files of its own there, most of them in folders of their own.
-use crate::rows::{Tells, first_word, said, shown, walk};
+use crate::rows::{Tells, said, shown, walk};
 use outside::{Failed, FileStore, Purpose, Store, Trouble};
-use row_file::number_of;
+use row_file::{first_word, number_of};
 use std::alloc::Global;
 use std::fs::Permissions;
 use std::os::unix::fs::{MetadataExt, PermissionsExt, symlink};
