@@ -1,11 +1,11 @@
 //! Changes of key 5 on the words of a new image with one segment, and on such words that another caller changes. Each is told by its call.
 use crate::memory::Memory;
-use crate::rows::{Follows, numbers};
+use crate::rows::Follows;
 use bucket_meta::words::MARK_PLACE;
 use map_model::{Change, Effect};
 use op_core::{Machine, Want};
 use phase::Held;
-use row_file::first_word;
+use row_file::{first_word, number_of};
 use std::test::Fail;
 use write_op::{WriteEnd, WriteOp};
 
@@ -15,11 +15,9 @@ impl Follows for WriteOp {
     type Stand = (Option<WriteEnd>, Option<(Held, [u64; 4])>);
 
     fn begun(memory: &mut Memory, case: &str) -> Result<WriteOp, Fail> {
-        let (call, rest) = first_word(case);
-        let [value, _, _, _] = numbers(rest)?;
-        let effect = match call {
-            "insert" => Effect::Insert(value),
-            "update" => Effect::Update(value),
+        let effect = match first_word(case) {
+            ("insert", value) => Effect::Insert(number_of(value)?),
+            ("update", value) => Effect::Update(number_of(value)?),
             _ => Effect::Remove,
         };
         Ok(WriteOp::new(Change { key: 5, effect }, memory.site))

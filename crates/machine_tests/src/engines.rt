@@ -1,11 +1,11 @@
 //! Attempts on the words of a table of one segment in which `1 insert 5 7` was done, and calls that split or repair a segment of an image of two
 //! slots.
 use crate::memory::Memory;
-use crate::rows::{Deeds, numbers};
+use crate::rows::Deeds;
 use engine::{End, Engine};
 use map_model::Call;
 use op_core::{Ans, Want};
-use row_file::first_word;
+use row_file::{first_word, number_of};
 use std::alloc::Global;
 use std::test::Fail;
 
@@ -47,12 +47,13 @@ fn reply_told(alloc: Global, end: End) -> Result<String, Fail> {
 /// The call of these words.
 fn call_of(text: &str) -> Result<Call, Fail> {
     let (word, rest) = first_word(text);
-    let [key, value, _, _] = numbers(rest)?;
-    match word {
-        "get" => Ok(Call::Get(key)),
-        "remove" => Ok(Call::Remove(key)),
-        "insert" => Ok(Call::Insert(key, value)),
-        "update" => Ok(Call::Update(key, value)),
+    let (key, value) = first_word(rest);
+    let key = number_of(key)?;
+    match (word, value) {
+        ("get", "") => Ok(Call::Get(key)),
+        ("remove", "") => Ok(Call::Remove(key)),
+        ("insert", value) => Ok(Call::Insert(key, number_of(value)?)),
+        ("update", value) => Ok(Call::Update(key, number_of(value)?)),
         _ => Err(Fail::new("no call")),
     }
 }

@@ -1,19 +1,24 @@
 //! Stale segments in slot 0, with a ready side in slot 1 or without one: the events by which entries are redirected, what is handed on, and the
 //! ends. Each is told by its header, with the slot of the side behind it.
 use crate::memory::Memory;
-use crate::rows::{Follows, numbers};
+use crate::rows::Follows;
 use redirect_op::{RedirectEnd, RedirectOp};
 use repair_op::Guarded;
+use row_file::{first_word, number_of};
 use std::test::Fail;
 
 /// The stale segment of slot 0 with this header, and the slot of its side behind it.
 pub fn guarded(memory: &Memory, case: &str) -> Result<Guarded, Fail> {
-    let [head, side, _, _] = numbers(case)?;
+    let (head, side) = first_word(case);
     Ok(Guarded {
         site: memory.site,
         segment: 0,
-        head,
-        side: if case.contains(' ') { Some(side) } else { None },
+        head: number_of(head)?,
+        side: if side.is_empty() {
+            None
+        } else {
+            Some(number_of(side)?)
+        },
     })
 }
 

@@ -155,13 +155,11 @@ fn memory_of(text: &str) -> Result<Memory, Fail> {
 
 /// The answer of these words, as `Value 5` or `Passed`.
 fn answer(text: &str) -> Result<Ans, Fail> {
-    let (word, rest) = first_word(text);
-    let [value, _, _, _] = numbers(rest)?;
-    match word {
-        "Value" => Ok(Ans::Value(value)),
-        "Lost" => Ok(Ans::Lost(value)),
-        "Won" => Ok(Ans::Won),
-        "Passed" => Ok(Ans::Passed),
+    match first_word(text) {
+        ("Value", value) => Ok(Ans::Value(number_of(value)?)),
+        ("Lost", value) => Ok(Ans::Lost(number_of(value)?)),
+        ("Won", "") => Ok(Ans::Won),
+        ("Passed", "") => Ok(Ans::Passed),
         _ => Err(Fail::new("no answer")),
     }
 }
