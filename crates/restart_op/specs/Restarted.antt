@@ -10,6 +10,7 @@ use Rattle.image_layout.specs.StateWord.{first_version, last_image_version}
 use Rattle.image_layout.specs.Volatile.{all_words_of}
 use Rattle.map_model.specs.Map.{Map}
 use Rattle.map_model.specs.Weave.{first_caller, keeper_number}
+use Rattle.sound_image.specs.Segments.{frame_of, IsClean}
 use Rattle.sound_image.specs.Image.{IsSoundImage}
 use Rattle.session.specs.Left.{HasPairsOf}
 use Rattle.bucket_words.specs.Hits.{find}
@@ -21,7 +22,7 @@ use Rattle.world.specs.Wants.{word_of}
 use Rattle.world.specs.World.{World, fresh_view}
 use Rattle.world.specs.areas.Areas.{header_word}
 use Rattle.world.specs.areas.Beginning.{Begins}
-use Rattle.world.specs.areas.Restarting.{IsRestartOf}
+use Rattle.world.specs.areas.Restarting.{KeepsVersion, RaisesVersion, IsRestartOf}
 use Rattle.restart_op.specs.declared.restart.Started.{Started}
 use Rattle.restart_op.specs.declared.restart.RestartStep.{RestartStep}
 use Rattle.restart_op.specs.declared.restart.RestartStep.TheVariants.{Load, Ended}
@@ -86,11 +87,14 @@ pub record HasStarted (shape : Shape) (started : Started) (before after : Words)
   pub heads : started.swept ≡ true → (s : ℕ) → s < shape.segments → after (header_word shape s) ≡ unversioned (before (header_word shape s))
   pub others : (i : ℕ) → i ≢ state_word → (started.swept ≡ true → (s : ℕ) → s < shape.segments → i ≢ header_word shape s) → after i ≡ before i
 
--- a restart has ended, by the state word that it found; its version is one of an image
+-- a restart has ended, by the state word that it found: a clean image keeps its version and its headers, and of any other the version is then above that of
+-- each header; and in either case the version is one of an image
 pub record IsStarted (shape : Shape) (words : List ℕ) : Type 0 where
   pub ended : (restarted_wholly shape words).op.step ≡ Ended (started_for (slice_index words state_word))
   pub wants_no_more : wanted (restarted_wholly shape words).op ≡ Done
   pub left : HasStarted shape (started_for (slice_index words state_word)) (slice_index words) (words_at_end shape words)
+  pub kept : IsClean (frame_of shape (slice_index words)) → KeepsVersion shape (slice_index words) (words_at_end shape words)
+  pub raised : (IsClean (frame_of shape (slice_index words)) → ⊥) → RaisesVersion shape (slice_index words) (words_at_end shape words)
   pub some : first_version ≤ (started_for (slice_index words state_word)).version
   pub fits : (started_for (slice_index words state_word)).version ≤ last_image_version
 

@@ -26,7 +26,7 @@ use Rattle.restart_op.specs.Restarted.{left_at, restarted_wholly, words_at_end, 
 use Rattle.restart_op.proofs.images.Frames.{IsReversioned}
 use Rattle.restart_op.proofs.Opened.{open_structure, open_rest, open_own, open_found, same_find, had_there}
 use Rattle.restart_op.proofs.restarts.Counting.{restart_counts}
-use Rattle.restart_op.proofs.restarts.Versions.{some_and_fits, marker_clear, kept_or_raised, is_left, started_alike, started_fits}
+use Rattle.restart_op.proofs.restarts.Versions.{some_and_fits, marker_clear, kept_or_raised, kept_of_clean, raised_of_others, is_left, started_alike, started_fits}
 use Rattle.restart_op.proofs.restarts.Phases.{IsStored, Phase, has_started, phase_at}
 use Rattle.restart_op.proofs.restarts.Cuts.{leaving_now}
 
@@ -142,6 +142,8 @@ ends_started shape words image =
       ended = ended shape words image;
       wants_no_more = wants_no_more shape words image;
       left = left shape words image;
+      kept = kept_of_clean shape words image (words_at_end shape words) (left shape words image);
+      raised = raised_of_others shape words image (words_at_end shape words) (left shape words image);
       some = version.0;
       fits = upto_last (started_for (slice_index words state_word)).version version.1;
     }

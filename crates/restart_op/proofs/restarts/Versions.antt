@@ -8,7 +8,7 @@ use Rattle.segment_head.specs.Versions.{unversioned}
 use Rattle.trace.specs.Events.{Words}
 use Rattle.image_layout.specs.Places.{Shape, state_word}
 use Rattle.image_layout.specs.StateWord.{marker_in, IsMarked}
-use Rattle.sound_image.specs.Segments.{frame_of, image_version}
+use Rattle.sound_image.specs.Segments.{frame_of, image_version, IsClean}
 use Rattle.sound_image.specs.Image.{IsSoundImage}
 use Rattle.world.specs.areas.Areas.{header_word}
 use Rattle.world.specs.areas.Restarting.{SameButVersion, KeepsVersion, RaisesVersion, IsLeftOf}
@@ -125,13 +125,16 @@ module _ (shape : Shape) (words : List ℕ) (image : IsSoundImage shape words) (
   pub marker_clear : marker_in (other state_word) ≡ 0
   marker_clear = let state = left.state in let low = some_and_fits.1 in omega (arith, state, low)
 
+  kept_by : IsClosedWith (word state_word) started → KeepsVersion shape word other
+  kept_by closed = record {
+    clean = closed.marked;
+    version = version_is some_and_fits.1 ∙ ap (λ (s : Started). s.version) closed.keeps;
+    headers = kept_head (ap (λ (s : Started). s.swept) closed.keeps);
+  }
+
   pub kept_or_raised : KeepsVersion shape word other ⊎ RaisesVersion shape word other
   kept_or_raised = elim one [
-    | inl closed ↦ inl (record {
-      clean = closed.marked;
-      version = version_is some_and_fits.1 ∙ ap (λ (s : Started). s.version) closed.keeps;
-      headers = kept_head (ap (λ (s : Started). s.swept) closed.keeps);
-    })
+    | inl closed ↦ inl (kept_by closed)
     | inr o ↦ elim o [
       | inl swept ↦ inr (λ s slot.
           let h = left.heads (ap (λ (s : Started). s.swept) swept.sweeps) s slot in
@@ -151,6 +154,22 @@ module _ (shape : Shape) (words : List ℕ) (image : IsSoundImage shape words) (
 
       above : (has was now : ℕ) → has ≤ was → now ≡ was + 1 → has < now
       above has was now past is = omega (arith, past, is)
+
+  -- it is kept of a clean image, and raised of any other
+  pub kept_of_clean : IsClean (frame_of shape word) → KeepsVersion shape word other
+  kept_of_clean clean = elim one [
+    | inl closed ↦ kept_by closed
+    | inr o ↦ elim o [
+      | inl swept ↦ absurd (both (marker_in (word state_word)) clean swept.unmarked)
+      | inr raised ↦ absurd (both (marker_in (word state_word)) clean raised.unmarked)
+    ]
+  ]
+    where
+      both : (marker : ℕ) → marker ≡ 1 → marker ≡ 0 → ⊥
+      both marker one none = omega (arith, one, none)
+
+  pub raised_of_others : (IsClean (frame_of shape word) → ⊥) → RaisesVersion shape word other
+  raised_of_others unclean = elim kept_or_raised [ inl kept ↦ absurd (unclean kept.clean) | inr raised ↦ raised ]
 
   heads_alike : (s : ℕ) → s < shape.segments → SameButVersion (other (header_word shape s)) (word (header_word shape s))
   heads_alike s slot = elim one [
