@@ -4,3 +4,4 @@ pub mod Turning
 pub mod Standing
 pub mod Resting
 pub mod Ending
+pub mod Lone

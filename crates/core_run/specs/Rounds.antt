@@ -1,7 +1,7 @@
 -- The end rule: callers take turns, round after round, till no call is left. After the first round each caller stands between two attempts or waits
 -- for the guard of the directory; after the second all stand between two attempts; and from then on each turn of a caller that has a call left
--- ends that call.
-use Rattle.std.specs.Prelude.{◌≡◌, ℕ, suc, ◌+◌, ◌≤◌, ◌⊎◌, true, false, None, Some, List, slice_get}
+-- ends that call. Where one caller alone has calls, each of its turns does so.
+use Rattle.std.specs.Prelude.{◌≡◌, ◌≢◌, ℕ, suc, ◌+◌, ◌≤◌, ◌⊎◌, true, false, None, Some, List, [], slice_get}
 use Rattle.map_model.specs.declared.call.Call.{Call}
 use Rattle.map_model.specs.Weave.{first_caller}
 use Rattle.engine.specs.declared.engine.Engine.{Engine}
@@ -90,3 +90,17 @@ RoundsEnd = (t : Setup) (most n : ℕ) (s : State) → IsSetup t → most_of t �
 -- and there are no more than events
 abbrev pub RoundsAreEnough : Type 0
 RoundsAreEnough = (t : Setup) (s : State) → IsSetup t → IsRun t s → s.keeper ≡ Open → all_behind s.core.callers + 2 ≤ most_of t
+
+-- no caller but the one at place j has calls
+abbrev pub HasAllCalls : Setup → ℕ → Type 0
+HasAllCalls t j = (i : ℕ) (calls : List Call) → i ≢ j → slice_get t.scripts i ≡ Some calls → calls ≡ []
+
+-- WHERE ONE CALLER ALONE HAS CALLS its turn ends its call, in the first round already, whatever was done before
+abbrev pub OneCallersTurnEndsCall : Type 0
+OneCallersTurnEndsCall = (t : Setup) (most j : ℕ) (s : State) (c : Caller) (call : Call) → IsSetup t → HasAllCalls t j → most_of t ≤ most → IsRun t s → s.keeper ≡ Open
+    → slice_get s.core.callers j ≡ Some c → current c ≡ Some call → HasAnswered j c s (turn_of t most (suc j) s)
+
+-- so as many rounds as there are calls left are enough
+abbrev pub OneCallersRoundsEnd : Type 0
+OneCallersRoundsEnd = (t : Setup) (most j n : ℕ) (s : State) → IsSetup t → HasAllCalls t j → most_of t ≤ most → IsRun t s → s.keeper ≡ Open
+    → all_behind s.core.callers ≤ n → HasRunOut t most (rounds t.shape most n s)

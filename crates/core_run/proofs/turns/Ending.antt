@@ -72,12 +72,12 @@ says_no o never = refl
 
 module _ (laws : TurnLaws) (t : Setup) (is : IsSetup t) (most : ℕ) (low : most_of t ≤ most) where
   -- ---- the turn of a caller with a call
-  abbrev AllResting : Watched → Type 0
+  abbrev pub AllResting : Watched → Type 0
   AllResting w = (i : ℕ) → IsResting w i
 
-  record StepsAlone (k : ℕ) (w : Watched) : Type 0 where
-    alone : IsAlone t.shape k w
-    others : (i : ℕ) → i ≢ k → IsResting w i
+  pub record StepsAlone (k : ℕ) (w : Watched) : Type 0 where
+    pub alone : IsAlone t.shape k w
+    pub others : (i : ℕ) → i ≢ k → IsResting w i
 
   -- while its call goes on, and once that has ended: so many calls are behind, and so many of its caller's
   record InCall (b n k : ℕ) (core : Core) : Type 0 where
@@ -89,12 +89,12 @@ module _ (laws : TurnLaws) (t : Setup) (is : IsSetup t) (most : ℕ) (low : most
     call : Call
     calls : current caller ≡ Some call
 
-  record HasEnded (b n k : ℕ) (core : Core) : Type 0 where
-    leads : Leads t core AllResting
-    fewer : all_behind core.callers + 1 ≡ b
-    caller : Caller
-    there : slice_get core.callers k ≡ Some caller
-    own : behind_of caller + 1 ≡ n
+  pub record HasEnded (b n k : ℕ) (core : Core) : Type 0 where
+    pub leads : Leads t core AllResting
+    pub fewer : all_behind core.callers + 1 ≡ b
+    pub caller : Caller
+    pub there : slice_get core.callers k ≡ Some caller
+    pub own : behind_of caller + 1 ≡ n
 
   module _ (k : ℕ) (core : Core) (v : HasEvent core k) (h : Leads t core (StepsAlone k)) where
     abbrev w : Watched
@@ -156,66 +156,33 @@ module _ (laws : TurnLaws) (t : Setup) (is : IsSetup t) (most : ℕ) (low : most
     calls = (still_calls t core k v untold).1;
   }
 
-  call_ends : (k : ℕ) (core : Core) → IsOpen t core → Leads t core AllResting → (v : HasEvent core k)
+  -- of a caller that is alone, while all others rest
+  pub call_ends_alone : (k : ℕ) (core : Core) → IsOpen t core → Leads t core (StepsAlone k) → (v : HasEvent core k)
       → EndsAt t (HasEnded (all_behind core.callers) (behind_of v.caller) k) (turn_of t most (suc k) (at core))
-  call_ends k core o h v =
-      let w : Watched = along t.shape t.first t.scripts h.turns in
+  call_ends_alone k core o h v =
       turn_ends t k is laws.wells (InCall (all_behind core.callers) (behind_of v.caller) k) (HasEnded (all_behind core.callers) (behind_of v.caller) k)
       (λ x opened g idle. absurd (none-some g.call (sym (idle g.caller g.there).1 ∙ g.calls)))
       (λ x opened g u over. call_over (all_behind core.callers) (behind_of v.caller) k x g u over)
       (λ x opened g u untold. call_on (all_behind core.callers) (behind_of v.caller) k x g u untold)
       most core o
+      (record { leads = h; behind = refl; caller = v.caller; there = v.there; own = refl; call = v.call; calls = v.calls })
+      (enough_events laws.enough t is most low (suc k) core (StepsAlone k) o h)
+
+  -- and so of one where all rest
+  call_ends : (k : ℕ) (core : Core) → IsOpen t core → Leads t core AllResting → (v : HasEvent core k)
+      → EndsAt t (HasEnded (all_behind core.callers) (behind_of v.caller) k) (turn_of t most (suc k) (at core))
+  call_ends k core o h v =
+      let w : Watched = along t.shape t.first t.scripts h.turns in
+      call_ends_alone k core o
       (record {
-        leads = record {
-          turns = h.turns;
-          core_is = h.core_is;
-          holds = record {
-            alone = laws.rests t.shape w k v.caller v.engine h.holds (subst (λ (x : Core). slice_get x.callers k ≡ Some v.caller) h.core_is v.there) v.runs;
-            others = λ i other. h.holds i;
-          };
+        turns = h.turns;
+        core_is = h.core_is;
+        holds = record {
+          alone = laws.rests t.shape w k v.caller v.engine h.holds (subst (λ (x : Core). slice_get x.callers k ≡ Some v.caller) h.core_is v.there) v.runs;
+          others = λ i other. h.holds i;
         };
-        behind = refl;
-        caller = v.caller;
-        there = v.there;
-        own = refl;
-        call = v.call;
-        calls = v.calls;
       })
-      (enough_events laws.enough t is most low (suc k) core AllResting o h)
-
-  -- ---- a round where all rest: a call fewer is behind, or no caller so far has one
-  record Later (b k : ℕ) (core : Core) : Type 0 where
-    leads : Leads t core AllResting
-    no_more : all_behind core.callers ≤ b
-    fewer : (all_behind core.callers + 1 ≤ b) ⊎ ((i : ℕ) (c : Caller) → i < k → slice_get core.callers i ≡ Some c → current c ≡ None)
-
-  later_turn : (b k : ℕ) (core : Core) → IsOpen t core → Later b k core → EndsAt t (Later b (suc k)) (turn_of t most (suc k) (at core))
-  later_turn b k core o l = elim (event_or_idle t core o k) [
-    | inl v ↦
-        let e = call_ends k core o l.leads v in
-        let one = e.good.fewer in
-        let few = l.no_more in
-        record { still_open = e.still_open; opened = e.opened; good = record { leads = e.good.leads; no_more = omega (arith, one, few); fewer = inl (omega (arith, one, few)) } }
-    | inr idle ↦ subst (EndsAt t (Later b (suc k))) (sym (stays_there t.shape Turn (suc k) most 1 (at core) (idle_none t core k (λ c there. (idle c there).1)))) (record {
-      still_open = refl;
-      opened = o;
-      good = record {
-        leads = l.leads;
-        no_more = l.no_more;
-        fewer = elim l.fewer [
-          | inl less ↦ inl less
-          | inr none ↦ inr (λ i c within there. elim (cases_eq i k) [
-            | inl same ↦ (idle c (subst (λ n. slice_get core.callers n ≡ Some c) same there)).1
-            | inr other ↦ none i c (omega (arith, within, other)) there
-          ])
-        ];
-      };
-    })
-  ]
-
-  later_round : (core : Core) → IsOpen t core → Leads t core AllResting → EndsAt t (Later (all_behind core.callers) (length core.callers)) (one_round t most (at core))
-  later_round core o h = round_ends t most (Later (all_behind core.callers)) (later_turn (all_behind core.callers)) core.callers 0 (length core.callers) (omega arith) core o
-      (record { leads = h; no_more = omega arith; fewer = inr (λ i c within there. absurd (omega (arith, within))) })
+      v
 
   -- ---- the calls run out
   run_out : (s : State) → s.keeper ≡ Open → IsOpen t s.core → has_calls t.shape most s.core.callers ≡ false → HasRunOut t most s
@@ -236,24 +203,74 @@ module _ (laws : TurnLaws) (t : Setup) (is : IsSetup t) (most : ℕ) (low : most
       by true some = rest
       by false none = run_out s here o none
 
-  later_low : (b n : ℕ) (core : Core) → IsOpen t core → Later b (length t.scripts) core → b ≤ suc n → all_behind core.callers ≤ n
-  later_low b n core o l few = elim l.fewer [
-    | inl less ↦ omega (arith, less, few)
-    | inr none ↦
-        let nothing = none_behind core.callers (none_at core.callers (λ i c there. (let within = slice_get_within core.callers i c there in
-        let many = as_many_callers t core o in none i c (omega (arith, within, many)) there))) in
-        omega (arith, nothing)
-  ]
+  -- ---- rounds in which the turn of each caller with a call ends one
+  -- one call fewer than so many is behind, and turns led there after which this holds
+  pub record OneFewer (Q : Watched → Type 0) (b : ℕ) (core : Core) : Type 0 where
+    pub leads : Leads t core Q
+    pub fewer : all_behind core.callers + 1 ≡ b
 
-  rounds_run_out : (n : ℕ) (core : Core) → IsOpen t core → Leads t core AllResting → all_behind core.callers ≤ n → HasRunOut t most (rounds t.shape most n (at core))
-  rounds_run_out zero core o h few = run_out (at core) refl o (has_none t.shape most core.callers (omega (arith, few)))
-  rounds_run_out (suc n) core o h few =
-      let s : State = one_round t most (at core) in
-      let e = later_round core o h in
-      let last : Later (all_behind core.callers) (length t.scripts) s.core = subst (λ k. Later (all_behind core.callers) k s.core) (as_many_callers t core o) e.good in
-      one_more n (at core) refl o
-      (subst (λ x. HasRunOut t most (rounds t.shape most n x)) (at_is s e.still_open)
-      (rounds_run_out n s.core e.opened last.leads (later_low (all_behind core.callers) n s.core e.opened last few)))
+  abbrev pub EachEndsCall : (Watched → Type 0) → Type 0
+  EachEndsCall Q = (k : ℕ) (core : Core) → IsOpen t core → Leads t core Q → HasEvent core k → EndsAt t (OneFewer Q (all_behind core.callers)) (turn_of t most (suc k) (at core))
+
+  module _ (Q : Watched → Type 0) (ends : EachEndsCall Q) where
+    -- within a round: a call fewer than so many is behind, or no caller so far has one
+    record Later (b k : ℕ) (core : Core) : Type 0 where
+      leads : Leads t core Q
+      no_more : all_behind core.callers ≤ b
+      fewer : (all_behind core.callers + 1 ≤ b) ⊎ ((i : ℕ) (c : Caller) → i < k → slice_get core.callers i ≡ Some c → current c ≡ None)
+
+    later_turn : (b k : ℕ) (core : Core) → IsOpen t core → Later b k core → EndsAt t (Later b (suc k)) (turn_of t most (suc k) (at core))
+    later_turn b k core o l = elim (event_or_idle t core o k) [
+      | inl v ↦
+          let e = ends k core o l.leads v in
+          let one = e.good.fewer in
+          let few = l.no_more in
+          record { still_open = e.still_open; opened = e.opened; good = record { leads = e.good.leads; no_more = omega (arith, one, few); fewer = inl (omega (arith, one, few)) } }
+      | inr idle ↦ subst (EndsAt t (Later b (suc k))) (sym (stays_there t.shape Turn (suc k) most 1 (at core) (idle_none t core k (λ c there. (idle c there).1)))) (record {
+        still_open = refl;
+        opened = o;
+        good = record {
+          leads = l.leads;
+          no_more = l.no_more;
+          fewer = elim l.fewer [
+            | inl less ↦ inl less
+            | inr none ↦ inr (λ i c within there. elim (cases_eq i k) [
+              | inl same ↦ (idle c (subst (λ n. slice_get core.callers n ≡ Some c) same there)).1
+              | inr other ↦ none i c (omega (arith, within, other)) there
+            ])
+          ];
+        };
+      })
+    ]
+
+    later_round : (core : Core) → IsOpen t core → Leads t core Q → EndsAt t (Later (all_behind core.callers) (length core.callers)) (one_round t most (at core))
+    later_round core o h = round_ends t most (Later (all_behind core.callers)) (later_turn (all_behind core.callers)) core.callers 0 (length core.callers) (omega arith) core o
+        (record { leads = h; no_more = omega arith; fewer = inr (λ i c within there. absurd (omega (arith, within))) })
+
+    later_low : (b n : ℕ) (core : Core) → IsOpen t core → Later b (length t.scripts) core → b ≤ suc n → all_behind core.callers ≤ n
+    later_low b n core o l few = elim l.fewer [
+      | inl less ↦ omega (arith, less, few)
+      | inr none ↦
+          let nothing = none_behind core.callers (none_at core.callers (λ i c there. (let within = slice_get_within core.callers i c there in
+          let many = as_many_callers t core o in none i c (omega (arith, within, many)) there))) in
+          omega (arith, nothing)
+    ]
+
+    pub rounds_run_out : (n : ℕ) (core : Core) → IsOpen t core → Leads t core Q → all_behind core.callers ≤ n → HasRunOut t most (rounds t.shape most n (at core))
+    rounds_run_out zero core o h few = run_out (at core) refl o (has_none t.shape most core.callers (omega (arith, few)))
+    rounds_run_out (suc n) core o h few =
+        let s : State = one_round t most (at core) in
+        let e = later_round core o h in
+        let last : Later (all_behind core.callers) (length t.scripts) s.core = subst (λ k. Later (all_behind core.callers) k s.core) (as_many_callers t core o) e.good in
+        one_more n (at core) refl o
+        (subst (λ x. HasRunOut t most (rounds t.shape most n x)) (at_is s e.still_open)
+        (rounds_run_out n s.core e.opened last.leads (later_low (all_behind core.callers) n s.core e.opened last few)))
+
+  -- where all rest it is so
+  each_ends : EachEndsCall AllResting
+  each_ends k core o h v =
+      let e = call_ends k core o h v in
+      record { still_open = e.still_open; opened = e.opened; good = record { leads = e.good.leads; fewer = e.good.fewer } }
 
   -- ---- what is said of it
   rest_of : (core : Core) → Leads t core AllResting → AllRest t core
@@ -309,7 +326,8 @@ rounds_end laws t most (suc (suc n)) s is low r here few =
     one_more laws t is most low (suc n) s here (open_of t s here r)
     (one_more laws t is most low n one first.0.still_open (open_of t one first.0.still_open run)
     (subst (λ x. HasRunOut t most (rounds t.shape most n x)) (at_is two second.0.still_open)
-    (rounds_run_out laws t is most low n two.core (open_of t two second.0.still_open run_two) (leads_of laws t is most low two.core second.1) low_now)))
+    (rounds_run_out laws t is most low (AllResting laws t is most low) (each_ends laws t is most low) n two.core (open_of t two second.0.still_open run_two)
+    (leads_of laws t is most low two.core second.1) low_now)))
 
 -- ---- there are no more calls than events
 calls_behind : (callers : List Caller) → all_behind callers ≤ all_calls (map (λ c. c.calls) callers)
