@@ -12,4 +12,4 @@ mod picks;
 
 pub use device::Device;
 pub use laws::chosen_is_possible;
-pub use picks::{ALL_NEWEST, next_number};
+pub use picks::{ALL_NEWEST, FIRST_STREAM, next_number};

@@ -10,7 +10,7 @@ const NO_NEWEST: u64 = 0;
 /// The choice that takes each newest value.
 pub const ALL_NEWEST: u64 = 1;
 /// From this choice on the choice is the state of a stream.
-const FIRST_STREAM: u64 = 1 << 63;
+pub const FIRST_STREAM: u64 = 1 << 63;
 /// What a SplitMix64 stream adds to its state for each number.
 const STRIDE: u64 = 0x9E37_79B9_7F4A_7C15;
 

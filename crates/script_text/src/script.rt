@@ -21,7 +21,8 @@ impl Model for Script {
 impl Script {
     ghost use Rattle.std.specs.Prelude.{◌≡◌, ◌==◌, ◌<◌, length, slice_index_or};
 
-    pub(crate) fn new(lines: Vec<Line>) -> Script
+    /// The script of these lines.
+    pub fn new(lines: Vec<Line>) -> Script
         ensures { result ≡ lines.items }
     {
         Script { lines }
