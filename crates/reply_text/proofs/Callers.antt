@@ -1,12 +1,13 @@
--- The lines of the callers from one on are its own, and then those of the callers behind it.
-use Rattle.std.proofs.Common.{◌≡◌, ℕ, suc, ◌-◌, ◌+◌, ◌<◌, Option, Some, List, ◌∷◌, ◌++◌, drop, length, get_or, append_assoc, arith}
+-- The lines of the callers from one on are its own, and then those of the callers behind it; and so are their calls, counted.
+use Rattle.std.proofs.Common.{◌≡◌, ℕ, suc, ◌-◌, ◌+◌, ◌<◌, ◌≤◌, Option, None, Some, List, [], ◌∷◌, ◌++◌, drop, length, get_or, append_assoc, arith}
 use Rattle.std.specs.Prelude.{slice_get}
 use Rattle.std.proofs.Math.Seq.{drop-cons}
 use Rattle.std.proofs.lemmas.Option.{get_or_from_slice_get, slice_get_within}
 use Rattle.map_model.specs.declared.entry.Entry.{Entry}
 use Rattle.map_model.specs.declared.entry.Stop.{Stop}
 use Rattle.session.specs.Transcript.{lines_from, caller_lines}
-use Rattle.reply_text.specs.Told.{told_by, tolds_of}
+use Rattle.session.specs.Callers.{open_count}
+use Rattle.reply_text.specs.Told.{left_by, told_by, tolds_of, replies_in, opens_in}
 
 -- what stands at a place of a list, and behind it
 drop-found : {A : Type 0} (xs : List A) (i : ℕ) (x : A) → slice_get xs i ≡ Some x → drop i xs ≡ x ∷ drop (suc i) xs
@@ -36,3 +37,27 @@ pub caller_written : (i : ℕ) (lists : List (List Entry)) (stops : List (Option
 caller_written i lists stops es stop old new all written so_far list within e =
     let next = lines_from-next i lists stops es stop list within e in
     grind (arith, append_assoc, next)
+
+-- with the replies of one caller more, those of the callers behind it are still to come
+pub caller_counted : (i : ℕ) (lists : List (List Entry)) (es : List Entry) (old all : ℕ) → old + replies_in (drop i lists) ≡ all → slice_get lists (i + 1 - 1) ≡ Some es
+    → old + length es + replies_in (drop (i + 1) lists) ≡ all
+caller_counted i lists es old all so_far list =
+    let a : drop i lists ≡ es ∷ drop (suc i) lists = drop-found lists i es (list_of-caller lists i es list) in
+    grind (arith, a)
+
+-- and they are no more than all
+pub caller_within : (i : ℕ) (lists : List (List Entry)) (es : List Entry) (old all : ℕ) → old + replies_in (drop i lists) ≡ all → slice_get lists (i + 1 - 1) ≡ Some es
+    → old + length es ≤ all
+caller_within i lists es old all so_far list =
+    let next = caller_counted i lists es old all so_far list in
+    omega (arith, next)
+
+-- and so are the open calls
+pub open_counted : (i : ℕ) (lists : List (List Entry)) (stops : List (Option Stop)) (old more all : ℕ)
+    → old + opens_in (tolds_of (drop i lists) (drop i stops)) ≡ all
+    → i < length lists → i < length stops → more ≡ open_count (left_by (get_or stops i None))
+    → old + more + opens_in (tolds_of (drop (i + 1) lists) (drop (i + 1) stops)) ≡ all
+open_counted i lists stops old more all so_far many within e =
+    let a = drop-cons lists i [] many in
+    let b = drop-cons stops i None within in
+    grind (arith, a, b)

@@ -1,4 +1,4 @@
--- What is written: the lines of `check` and `list`, and the line of a refusal.
+-- What is written: the lines of `check`, `list` and `storm`, and the line of a refusal.
 use Rattle.std.specs.Prelude.{ℕ, Bool, true, false, List, [], ◌∷◌, ◌++◌, codes}
 use Rattle.std.specs.List.{flat_map}
 use Rattle.std.specs.Fmt.{decimal}
@@ -8,6 +8,7 @@ use Rattle.image_rules.specs.Breach.{number_of}
 use Rattle.image_file.specs.declared.fault.ImageFault.{ImageFault}
 use Rattle.image_file.specs.declared.fault.ImageFault.TheVariants.{Length, Magic, Format, Geometry, Unsound, NoMemory as NoMemoryForImage}
 use Rattle.image_file.specs.declared.summary.Summary.{Summary}
+use Rattle.reply_text.specs.declared.left.StormSum.{StormSum}
 
 -- `sound V g LIVE PAIRS clean`, or `unclean` in place of `clean`
 abbrev pub marker_text : Bool → List ℕ
@@ -43,6 +44,12 @@ image_fault_text Format = codes "fault image format" ++ 10 ∷ []
 image_fault_text Geometry = codes "fault image geometry" ++ 10 ∷ []
 image_fault_text (Unsound rule word) = codes "fault image rule " ++ (decimal (number_of rule) ++ (codes " word " ++ (decimal word ++ 10 ∷ [])))
 image_fault_text NoMemoryForImage = []
+
+-- `storm SESSIONS REPLIES OPENS PAIRS V`
+abbrev pub storm_text : StormSum → List ℕ
+storm_text s =
+    codes "storm " ++ (decimal s.sessions ++ (codes " " ++ (decimal s.replies ++ (codes " " ++ (decimal s.opens ++ (codes " " ++ (decimal s.pairs
+    ++ (codes " " ++ (decimal s.version ++ 10 ∷ [])))))))))
 
 abbrev pub usage_text : List ℕ
 usage_text = codes "fault usage" ++ 10 ∷ []

@@ -1,7 +1,8 @@
-// What is written: the lines of `check` and `list`, and the lines of refusals.
+// What is written: the lines of `check`, `list` and `storm`, and the lines of refusals.
 ghost use Rattle.std.specs.Prelude.{◌≡◌, ◌++◌, OnOk, IfOk, string_bytes};
-ghost use Rattle.reply_text.specs.Texts.{marker_text, check_text, pair_line, list_text, script_fault_text, image_fault_text};
+ghost use Rattle.reply_text.specs.Texts.{marker_text, check_text, pair_line, list_text, storm_text, script_fault_text, image_fault_text};
 
+use crate::left::StormSum;
 use image_file::{ImageFault, Summary};
 use script_text::ScriptFault;
 use std::alloc::{AllocError, Global};
@@ -30,6 +31,22 @@ pub fn check_line(alloc: Global, summary: &Summary) -> Result<String, AllocError
     let pairs = summary.pairs;
     let marker = marker(summary.clean);
     format!(in alloc; "sound {version} {depth} {live} {pairs} {marker}\n")
+}
+
+/// The line of what sessions one after another did.
+///
+/// # Errors
+///
+/// `AllocError` if there is no memory.
+pub fn storm_line(alloc: Global, sum: &StormSum) -> Result<String, AllocError>
+    ensures { IfOk result (λ text. string_bytes text ≡ storm_text sum.now) }
+{
+    let sessions = sum.sessions;
+    let replies = sum.replies;
+    let opens = sum.opens;
+    let pairs = sum.pairs;
+    let version = sum.version;
+    format!(in alloc; "storm {sessions} {replies} {opens} {pairs} {version}\n")
 }
 
 // Appends the line of a pair.
