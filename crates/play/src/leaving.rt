@@ -50,7 +50,7 @@ impl RunState {
     pub(crate) fn into_session(self, cut: Option<u64>) -> Session
         requires { length self.callers.items ≤ most_callers }
         ensures left { (t : Setup) (s : State) → IsOf t self s → IsLeftOf t s cut result }
-        ensures lists { length result.lists ≡ length self.lists }
+        ensures lists { result.lists ≡ self.lists }
     {
         let stops = stops_of(&self.callers);
         Session {

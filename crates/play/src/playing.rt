@@ -1,11 +1,13 @@
 //! A script from its start to its end.
 
 ghost use Rattle.std.specs.Prelude.{◌≡◌, ◌≤◌, All, length, IfOk};
+ghost use Rattle.map_model.specs.Roomed.{lists_of};
 ghost use Rattle.map_model.specs.Weave.{most_callers};
 ghost use Rattle.script_text.specs.Script.{most_script_lines};
 ghost use Rattle.script_text.specs.Calls.{IsLineSoFar};
 ghost use Rattle.sound_image.specs.Image.{IsSoundImage};
 ghost use Rattle.core_run.specs.Run.{cut_of, most_with, most_events};
+ghost use Rattle.reply_text.specs.Told.{replies_in};
 ghost use Rattle.play.specs.Played.{IsPlay};
 
 use crate::run_state::RunState;
@@ -50,6 +52,7 @@ pub fn play(alloc: Global, medium: Medium, script: &Script) -> Result<Session, N
     requires so_far { All IsLineSoFar script.now }
     ensures played { IfOk result (IsPlay medium.geometry medium.words script.now) }
     ensures few_lists { IfOk result (λ left. length left.lists ≤ most_callers) }
+    ensures few_replies { IfOk result (λ left. replies_in (lists_of left.lists) ≤ length script.now) }
 {
     core_run::run_begins();
     core_run::lines_are_well();

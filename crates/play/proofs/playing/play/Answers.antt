@@ -1,5 +1,7 @@
 -- A play does its run: the run state stands where the definitions of a run do, from its beginning to its end.
-use Rattle.std.proofs.Common.{◌≡◌, ℕ, Option, List, length, All, ap, sym, ◌∙◌, subst, arith}
+use Rattle.std.proofs.Common.{◌≡◌, ℕ, Option, List, length, All, refl, ap, sym, ◌∙◌, subst, arith}
+use Rattle.map_model.specs.Roomed.{Roomed, lists_of}
+use Rattle.reply_text.specs.Told.{replies_in}
 use Rattle.script_text.specs.declared.line.Line.{Line}
 use Rattle.script_text.specs.Calls.{IsLineSoFar}
 use Rattle.core_run.specs.Run.{cut_of, lines_done}
@@ -12,6 +14,7 @@ use Rattle.play.specs.RunStates.{Stands, end_state}
 use Rattle.play.specs.Played.{scripts_of, setup_of, IsOfRun, IsPlay}
 use Rattle.play.proofs.driven.Doing.{callers_as_scripts}
 use Rattle.play.proofs.driven.Listed.{lists_many}
+use Rattle.play.proofs.ended.Few.{few_replies}
 use Rattle.play.proofs.ended.Whole.{play_is, play_begins, play_stands, most_is, few_in, is_setup, is_play}
 use Rattle.play.proofs.playing.play.Goals as goal
 
@@ -121,6 +124,26 @@ returns-clause-few_lists c =
     c.cut_of-cut.ensures c.do_lines.ensures c.end_run.ensures in
     let as_many = callers_as_scripts t (end_state shape most c.cut_of-cut.result (lines_done shape most lines (start_state t))) c.end_run.new.self ends in
     let lists = lists_many c.end_run.new.self.callers.items c.end_run.new.self.lists ends.is_of.room in
-    let same = c.into_session.ensures.lists in
+    let same : length c.into_session.result.lists ≡ length c.end_run.new.self.lists = ap length c.into_session.ensures.lists in
     let few = is.few in
+    omega arith
+
+pub returns-clause-few_replies : goal.returns-clause-few_replies
+returns-clause-few_replies c =
+    let lines : List Line = c.as_slice-lines.result.now in
+    let shape = c.args.medium.geometry in let first = c.args.medium.words in
+    let t : Setup = setup_of shape first (scripts_of lines) in
+    let is : IsSetup t = is_setup shape first lines c.requires.sound (subst (λ ls. All IsLineSoFar ls) (sym c.as_slice-lines.ensures) c.requires.so_far) in
+    let most : ℕ = c.most_events-most.result in
+    let many : most ≡ most_of t = most_is shape first (scripts_of lines) c.in_ok-callers.callers.items c.count_calls.result most c.in_ok-callers.ensures
+    (c.count_calls.ensures ∙ ap (λ (rs : List PlayCaller). calls_in rs) c.deref.ensures.value) c.most_events-most.ensures in
+    let begins : Stands t (start_state t) c.in_ok-run_state.run_state =
+    play_begins c.run_begins.ensures shape first lines c.in_ok-callers.callers.items c.in_ok-run_state.run_state is c.in_ok-callers.ensures c.in_ok-run_state.ensures in
+    let well = c.lines_are_well.ensures t lines is in
+    let ends = play_stands t lines most c.cut_of-cut.result c.in_ok-run_state.run_state c.do_lines.new.self c.end_run.new.self begins well many
+    c.cut_of-cut.ensures c.do_lines.ensures c.end_run.ensures in
+    let few = few_replies t (end_state shape most c.cut_of-cut.result (lines_done shape most lines (start_state t))) lines c.end_run.new.self ends refl in
+    let same : replies_in (lists_of c.into_session.result.lists) ≡ replies_in (lists_of c.end_run.new.self.lists) =
+    ap (λ (ks : List Roomed). replies_in (lists_of ks)) c.into_session.ensures.lists in
+    let long : length lines ≡ length c.args.script.now = ap (λ (ls : List Line). length ls) c.as_slice-lines.ensures in
     omega arith
