@@ -1,7 +1,7 @@
 // What the program is called with: its name, the image's path, and the words.
-ghost use Rattle.std.specs.Prelude.{◌≡◌, ◌↔◌, ◌⊎◌, MatchOption, [], drop, map, slice_get, string_bytes};
+ghost use Rattle.std.specs.Prelude.{◌≡◌, ◌↔◌, MatchOption, [], drop, map, slice_get, string_bytes};
 ghost use Rattle.outside.specs.declared.file.Purpose.TheVariants.{Reading};
-ghost use Rattle.command_line.specs.Commands.{check_words, list_words};
+ghost use Rattle.command_line.specs.Commands.{LeavesStore};
 
 use crate::command::{Command, command_of};
 use outside::Purpose;
@@ -43,12 +43,12 @@ pub fn program_of(arguments: &[String]) -> &str {
     }
 }
 
-/// What the image's file is for: `check` and `list` read it, and every other command writes it.
+/// What the image's file is for: `check` and `list` read it, `storm` leaves it alone, and every other command writes it.
 pub fn purpose_of(words: &[String]) -> Purpose
-    ensures { (result ≡ Reading) ↔ ((map string_bytes words.now ≡ check_words) ⊎ (map string_bytes words.now ≡ list_words)) }
+    ensures { (result ≡ Reading) ↔ LeavesStore (map string_bytes words.now) }
 {
     match command_of(words) {
-        Command::Check | Command::List => Purpose::Reading,
+        Command::Check | Command::List | Command::Storm(_) => Purpose::Reading,
         Command::Format(_) | Command::Play | Command::Serve | Command::Unknown => {
             Purpose::Writing
         }

@@ -10,7 +10,7 @@ mod heard;
 mod status;
 
 pub use arguments::{parted, program_of, purpose_of, received};
-pub use command::{Command, command_of};
+pub use command::{Command, StormSize, command_of};
 pub use heard::Heard;
 pub use status::{
     BAD_IMAGE, BAD_SCRIPT, BAD_WORDS, DONE, NO_MEMORY, SINK_FAILED, SOURCE_FAILED, STORE_FAILED,

@@ -38,7 +38,7 @@ impl<'a> Refusal<'a> {
         };
         write!(
             f,
-            "dash: {what}: {program} IMAGE format SEGMENTS DEPTH KIND (1 to 16384, 0 to 16, 0 or 1), {program} IMAGE play or {program} IMAGE serve (with a script as standard input), {program} IMAGE check, {program} IMAGE list; IMAGE is the path of the image's file, as in {program} a.img format 1 0 0"
+            "dash: {what}: {program} IMAGE format SEGMENTS DEPTH KIND (1 to 16384, 0 to 16, 0 or 1), {program} IMAGE play or {program} IMAGE serve (with a script as standard input), {program} IMAGE check, {program} IMAGE list, {program} IMAGE storm SEED SESSIONS CALLS (a number below 2^64, 1 to 1000, 1 to 10000); IMAGE is the path of the image's file, as in {program} a.img format 1 0 0"
         )
     }
 
@@ -117,7 +117,7 @@ impl<'a> fmt::Display for Refusal<'a> {
             SINK_FAILED => self.stream(
                 "standard output could not be written",
                 self.out,
-                "check and list may be run again; a play or a serve may have stored its image all the same, so see by list before it is played again",
+                "check, list and storm may be run again; a play or a serve may have stored its image all the same, so see by list before it is played again",
                 f,
             ),
             STORE_FAILED => self.store(f),
@@ -125,7 +125,7 @@ impl<'a> fmt::Display for Refusal<'a> {
                 let path = self.path;
                 write!(
                     f,
-                    "dash: {path}: memory was wanting, and the image is as it was: {}, or take a shorter script",
+                    "dash: {path}: memory was wanting, and the image is as it was: {}, or take a shorter script, or a storm of fewer calls",
                     GIVE_MORE
                 )
             }

@@ -1,5 +1,5 @@
 -- What is good is not refused: a good script has no fault, and a good image is taken.
-use Rattle.std.proofs.Common.{◌≡◌, ℕ, ◌+◌, ◌≤◌, List, [], ◌∷◌, length, take, refl, sym, ◌∙◌, subst, arith, Option, None, Some, false}
+use Rattle.std.proofs.Common.{◌≡◌, ℕ, ◌+◌, ◌≤◌, List, [], ◌∷◌, length, take, refl, sym, ◌∙◌, subst, arith, inl, inr, Option, None, Some, false}
 use Rattle.std.proofs.lemmas.Grind.{common_steps}
 use Rattle.std.specs.Prelude.{codes}
 use Rattle.std.specs.Str.{bytes_eq}
@@ -16,13 +16,15 @@ use Rattle.script_text.specs.declared.fault.ScriptFault.{ScriptFault}
 use Rattle.script_text.specs.Script.{IsScript}
 use Rattle.script_text.proofs.Complete.{no_fault as no_script_fault}
 use Rattle.image_file.proofs.Accepted.{no_fault}
-use Rattle.command_line.specs.Commands.{SaysFormat, check_words, list_words, words_of_mode, IsNoCommand, ReadsImage, RunsScript, ReadsSource}
+use Rattle.command_line.specs.declared.command.StormSize.{StormSize}
+use Rattle.command_line.specs.Commands.{SaysFormat, SaysStorm, LeavesStore, check_words, list_words, words_of_mode, IsNoCommand, ReadsImage, RunsScript, ReadsSource}
 use Rattle.command_line.specs.Commands.ReadsImage.{for_check, for_list, for_run}
+use Rattle.command_line.proofs.Forms.{differ, one_is_not_four, check_is_no_run, list_is_no_run, run_is_no_storm}
 use Rattle.dash_top.specs.Bytes.{Bytes, ReadsGoodScript, RefusesImage, RefusesScript}
 use Rattle.dash_top.specs.Top.{HasGoodImage, HasGoodScript, IsGoodCommand}
-use Rattle.dash_top.specs.Top.IsGoodCommand.{good_format, good_check, good_list, good_run}
+use Rattle.dash_top.specs.Top.IsGoodCommand.{good_format, good_check, good_list, good_run, good_storm}
 use Rattle.dash_top.specs.Work.{Runs, IsDone, IsRefused}
-use Rattle.dash_top.specs.Work.IsDone.{by_format, by_check, by_list, by_run}
+use Rattle.dash_top.specs.Work.IsDone.{by_format, by_check, by_list, by_run, by_storm}
 use Rattle.dash_top.proofs.Sizes.{file-le}
 use Rattle.dash_top.proofs.Headlines.{consumed_all}
 
@@ -55,34 +57,13 @@ good_image_is_taken t fault refused good =
     let whole : refused.start ≡ good.start = whole_front t.store_old 282067200 refused.start good.start good.store_tells refused.reads short in
     refused.not_memory (no_fault good.start good.good fault (subst (λ (x : List ℕ). HasFault x fault) whole refused.has_fault))
 
--- THE WORDS: of two forms only one can be said
-check_is_no_list : (words : List (List ℕ)) → words ≡ check_words → words ≡ list_words → ⊥
-check_is_no_list words h k = cc
-
-only_word : (a b : List ℕ) → a ∷ [] ≡ b ∷ [] → a ≡ b
-only_word a b h = cc
-
--- words that are not the same bytes
-differ : (words : List (List ℕ)) (a b : List ℕ) → bytes_eq a b ≡ false → words ≡ a ∷ [] → words ≡ b ∷ [] → ⊥
-differ words a b unlike h k = both_ways (bytes_eq a b) unlike ((bytes_eq-Decides a b).1 (only_word a b (sym h ∙ k)))
-
-pub check_is_no_run : (words : List (List ℕ)) → words ≡ check_words → ReadsSource words → ⊥
-check_is_no_run words h (Play, k) = differ words (codes "check") (codes "play") refl h k
-check_is_no_run words h (Serve, k) = differ words (codes "check") (codes "serve") refl h k
-
-pub list_is_no_run : (words : List (List ℕ)) → words ≡ list_words → ReadsSource words → ⊥
-list_is_no_run words h (Play, k) = differ words (codes "list") (codes "play") refl h k
-list_is_no_run words h (Serve, k) = differ words (codes "list") (codes "serve") refl h k
-
+-- THE WORDS
 -- a run has one mode
 same_mode : (words : List (List ℕ)) (mode other : Mode) → RunsScript words mode → RunsScript words other → mode ≡ other
 same_mode words Play Play h k = refl
 same_mode words Play Serve h k = absurd (differ words (codes "play") (codes "serve") refl h k)
 same_mode words Serve Play h k = absurd (differ words (codes "serve") (codes "play") refl h k)
 same_mode words Serve Serve h k = refl
-
-one_is_not_four : (words : List (List ℕ)) (a b c d e : List ℕ) → words ≡ a ∷ [] → words ≡ b ∷ c ∷ d ∷ e ∷ [] → ⊥
-one_is_not_four words a b c d e h k = cc
 
 -- who found the script of its mode good found it so
 pub found_good : {source_old source_new : Option (List ℕ)} (mode : Mode) → ReadsGoodScript source_old source_new mode → (other : Mode) → RunsScript (words_of_mode mode) other
@@ -98,6 +79,9 @@ pub image_of_good : (t : Bytes) (words : List (List ℕ)) → ReadsImage words �
 image_of_good t words (for_check h) (good_format f) = absurd (one_is_not_four words _ _ f.segments f.depth f.kind h f.says)
 image_of_good t words (for_list h) (good_format f) = absurd (one_is_not_four words _ _ f.segments f.depth f.kind h f.says)
 image_of_good t words (for_run mode h) (good_format f) = absurd (run_is_no_format words mode f h)
+image_of_good t words (for_check h) (good_storm s) = absurd (one_is_not_four words _ _ s.seed s.sessions s.calls h s.says)
+image_of_good t words (for_list h) (good_storm s) = absurd (one_is_not_four words _ _ s.seed s.sessions s.calls h s.says)
+image_of_good t words (for_run mode h) (good_storm s) = absurd (run_is_no_storm words mode s h)
 image_of_good t words reads (good_check k image) = image
 image_of_good t words reads (good_list k image) = image
 image_of_good t words reads (good_run mode k image script) = image
@@ -106,6 +90,7 @@ pub script_of_good : (t : Bytes) (words : List (List ℕ)) (mode : Mode) → Run
 script_of_good t words mode h (good_format f) = absurd (run_is_no_format words mode f h)
 script_of_good t words mode h (good_check k image) = absurd (check_is_no_run words k (mode, h))
 script_of_good t words mode h (good_list k image) = absurd (list_is_no_run words k (mode, h))
+script_of_good t words mode h (good_storm s) = absurd (run_is_no_storm words mode s h)
 script_of_good t words mode h (good_run other k image script) = subst (λ (m : Mode). HasGoodScript t m) (same_mode words other mode k h) script
 
 pub good_words : (t : Bytes) (words : List (List ℕ)) → IsNoCommand words → IsGoodCommand t words → ⊥
@@ -114,6 +99,7 @@ good_words t words none (good_check k image) = none.no_check k
 good_words t words none (good_list k image) = none.no_list k
 good_words t words none (good_run Play k image script) = none.no_play k
 good_words t words none (good_run Serve k image script) = none.no_serve k
+good_words t words none (good_storm s) = none.no_storm _ s
 
 -- SO a good command meets no refusal
 pub good_image : (t : Bytes) (words : List (List ℕ)) (fault : ImageFault) → IsRefused t words fault → IsGoodCommand t words → ⊥
@@ -127,4 +113,5 @@ pub run_of_done : (t : Bytes) (words : List (List ℕ)) (text : List ℕ) (mode 
 run_of_done t words text mode h (by_format f stores once) = absurd (run_is_no_format words mode f h)
 run_of_done t words text mode h (by_check k checks keeps) = absurd (check_is_no_run words k (mode, h))
 run_of_done t words text mode h (by_list k lists keeps) = absurd (list_is_no_run words k (mode, h))
+run_of_done t words text mode h (by_storm s tells keeps) = absurd (run_is_no_storm words mode s h)
 run_of_done t words text mode h (by_run other k runs once) = subst (λ (m : Mode). Runs m t text) (same_mode words other mode k h) runs

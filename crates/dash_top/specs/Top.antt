@@ -7,7 +7,8 @@ use Rattle.script_text.specs.declared.fault.ScriptFault.{ScriptFault}
 use Rattle.script_text.specs.Script.{IsScript}
 use Rattle.image_file.specs.declared.fault.ImageFault.{ImageFault}
 use Rattle.image_file.specs.Fault.{IsSoundFile}
-use Rattle.command_line.specs.Commands.{check_words, list_words, SaysFormat, IsNoCommand, RunsScript}
+use Rattle.command_line.specs.declared.command.StormSize.{StormSize}
+use Rattle.command_line.specs.Commands.{check_words, list_words, SaysFormat, SaysStorm, IsNoCommand, RunsScript}
 use Rattle.reply_text.specs.Texts.{usage_text, script_fault_text, image_fault_text}
 use Rattle.dash_top.specs.Modes.{IsRunIn}
 use Rattle.dash_top.specs.Bytes.{Bytes, KeepsStore, RefusesScript}
@@ -48,3 +49,4 @@ pub data IsGoodCommand (t : Bytes) (words : List (List ℕ)) : Type 0 where
   good_check : words ≡ check_words → HasGoodImage t → IsGoodCommand t words
   good_list : words ≡ list_words → HasGoodImage t → IsGoodCommand t words
   good_run : (mode : Mode) → RunsScript words mode → HasGoodImage t → HasGoodScript t mode → IsGoodCommand t words
+  good_storm : {size : StormSize} → SaysStorm words size → IsGoodCommand t words

@@ -16,8 +16,11 @@ use Rattle.dash_top.specs.declared.work.Refused.{Refused}
 use Rattle.dash_top.specs.declared.work.Refused.TheVariants.{Words, Script, Image, Source, Store, NoMemory}
 use Rattle.script_text.specs.declared.line.Mode.{Mode}
 use Rattle.script_text.specs.Script.{most_script_bytes}
-use Rattle.command_line.specs.Commands.{check_words, list_words, SaysFormat, IsNoCommand, ReadsImage, RunsScript, ReadsSource}
-use Rattle.reply_text.specs.Texts.{check_text, list_text}
+use Rattle.storm.specs.Storm.{IsStorm}
+use Rattle.command_line.specs.declared.command.StormSize.{StormSize}
+use Rattle.command_line.specs.Commands.{check_words, list_words, SaysFormat, SaysStorm, IsNoCommand, ReadsImage, RunsScript, ReadsSource}
+use Rattle.reply_text.specs.declared.left.StormSum.{StormSum}
+use Rattle.reply_text.specs.Texts.{check_text, list_text, storm_text}
 use Rattle.dash_top.specs.Modes.{IsRunIn}
 use Rattle.dash_top.specs.Bytes.{Bytes, KeepsStore, WritesOnce, LosesWrite, ReadsScript, ReadsGoodScript, RefusesScript, ReadsSound, ReadsSomeSound, RefusesImage}
 
@@ -67,12 +70,19 @@ pub record Runs (mode : Mode) (t : Bytes) (transcript : List ℕ) : Type 0 where
   pub few : length script ≤ most_script_bytes
   pub run : IsRunIn mode (image_bytes words) script transcript ending
 
+-- the text has the numbers of a storm of this size
+pub record TellsStorm (size : StormSize) (text : List ℕ) : Type 0 where
+  pub sum : StormSum
+  pub storm : IsStorm size.seed size.sessions size.calls sum
+  pub text_is : text ≡ storm_text sum
+
 -- what the words ask for was done, with one write of the store or none, and this is to be written
 pub data IsDone (t : Bytes) (words : List (List ℕ)) : List ℕ → Type 0 where
   by_format : {shape : Shape} → SaysFormat words shape → StoresNew t.store_old t.store_new shape → WritesOnce t → IsDone t words []
   by_check : {text : List ℕ} → words ≡ check_words → Checks t.store_old text → KeepsStore t → IsDone t words text
   by_list : {text : List ℕ} → words ≡ list_words → ListsPairs t.store_old text → KeepsStore t → IsDone t words text
   by_run : (mode : Mode) {transcript : List ℕ} → RunsScript words mode → Runs mode t transcript → WritesOnce t → IsDone t words transcript
+  by_storm : {size : StormSize} {text : List ℕ} → SaysStorm words size → TellsStorm size text → KeepsStore t → IsDone t words text
 
 -- THE ORDER: the image is read after the script, where there is one, was read to its end and found good
 abbrev pub FindsScriptGood : Bytes → List (List ℕ) → Type 0

@@ -8,7 +8,7 @@ ghost use Rattle.map_model.specs.Weave.{most_callers, first_caller};
 ghost use Rattle.script_text.specs.declared.fault.ScriptFault.{ScriptFault};
 ghost use Rattle.image_file.specs.declared.fault.ImageFault.{ImageFault};
 ghost use Rattle.script_text.specs.declared.line.Mode.{Mode};
-ghost use Rattle.command_line.specs.Commands.{check_words, list_words, IsNoCommand, RunsScript, ReadsSource};
+ghost use Rattle.command_line.specs.Commands.{LeavesStore, IsNoCommand, RunsScript, ReadsSource};
 ghost use Rattle.reply_text.specs.Texts.{usage_text, script_fault_text, image_fault_text};
 ghost use Rattle.dash_top.specs.Bytes.{bytes_told, counts, NoneRose, KeepsStore, RefusesScript};
 ghost use Rattle.dash_top.specs.Work.{IsDone, IsRefused, StoreFailed};
@@ -41,8 +41,8 @@ fn finish<K: Sink>(out: &mut K, status: u8, text: &[u8]) -> u8
 
 /// Does all that the program does, and answers its status.
 ///
-/// `words` are the words behind the path: `format SEGMENTS DEPTH KIND`, `check`, `list`, `play` or `serve`. The store holds the
-/// image's file, the source gives the script, and the sink takes the text, or the line of a refusal.
+/// `words` are the words behind the path: `format SEGMENTS DEPTH KIND`, `check`, `list`, `play`, `serve` or `storm SEED SESSIONS CALLS`.
+/// The store holds the image's file, the source gives the script, and the sink takes the text, or the line of a refusal.
 pub fn dash_run<R: Threads + Wait + Sync, I: Store, S: Source, K: Sink, M: Gates>(
     rt: &R,
     alloc: Global,
@@ -84,12 +84,12 @@ pub fn dash_run<R: Threads + Wait + Sync, I: Store, S: Source, K: Sink, M: Gates
     ensures store_failed { result ≡ STORE_FAILED → Rose (I.faults image.old) (I.faults image.new)
         × StoreFailed (bytes_told (I.contents image.old) (I.contents image.new) (I.writes image.old) (I.writes image.new) (I.lost image.new) (S.left input.old) (S.left input.new)) (map string_bytes words.now) }
 
-    // What is unchanged: the store where nothing was done, and by `check` and `list`; the source but by `play` and `serve`; and the
+    // What is unchanged: the store where nothing was done, and by `check`, `list` and `storm`; the source but by `play` and `serve`; and the
     // sink where nothing is to be written. A store that is as it was was not written, and none is written twice. Where
     // the sink failed, it has taken a front of what was to be written.
     ensures store_kept { result ≢ DONE → result ≢ SINK_FAILED → result ≢ STORE_FAILED
         → KeepsStore (bytes_told (I.contents image.old) (I.contents image.new) (I.writes image.old) (I.writes image.new) (I.lost image.new) (S.left input.old) (S.left input.new)) }
-    ensures readers_keep { (map string_bytes words.now ≡ check_words) ⊎ (map string_bytes words.now ≡ list_words)
+    ensures readers_keep { LeavesStore (map string_bytes words.now)
         → KeepsStore (bytes_told (I.contents image.old) (I.contents image.new) (I.writes image.old) (I.writes image.new) (I.lost image.new) (S.left input.old) (S.left input.new)) }
     ensures no_second_write { I.writes image.new ≤ I.writes image.old + 1 }
     ensures source_kept { (ReadsSource (map string_bytes words.now) → ⊥) → (S.left input.new ≡ S.left input.old) × (S.faults input.new ≡ S.faults input.old) }

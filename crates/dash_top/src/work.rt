@@ -1,24 +1,25 @@
 // What each command does between the outside's bytes.
 ghost use Rattle.std.specs.Prelude.{◌≡◌, ◌≢◌, ◌⊎◌, ◌+◌, ◌<◌, ◌≤◌, ℕ, List, OnOk, IfOk, IfErr, map, string_bytes, false};
 ghost use Rattle.outside.specs.Storing.{most_writes};
-ghost use Rattle.command_line.specs.Commands.{check_words, list_words, words_of_mode, ReadsSource};
+ghost use Rattle.command_line.specs.Commands.{LeavesStore, words_of_mode, IsStormSize, ReadsSource};
 ghost use Rattle.dash_top.specs.Bytes.{bytes_told};
 ghost use Rattle.dash_top.specs.Reading.{HasImageCause};
-ghost use Rattle.dash_top.specs.Work.{StoresNew, Checks, ListsPairs, Runs, IsDone, HasCause, HasFormatCause, output_bytes};
+ghost use Rattle.dash_top.specs.Work.{StoresNew, Checks, ListsPairs, Runs, TellsStorm, IsDone, HasCause, HasFormatCause, output_bytes};
 
 use crate::reading::{read_image, read_script};
 use crate::running::run;
-use command_line::{Command, command_of};
+use command_line::{Command, StormSize, command_of};
 use image_file::{ImageFault, check, format, list, to_bytes};
 use image_layout::Geometry;
 use map_model::NoMemory;
 use outside::{Failed, Source, Store};
-use reply_text::{check_line, list_lines, transcript};
+use reply_text::{check_line, list_lines, storm_line, transcript};
 use script_text::{Mode, ScriptFault};
 use std::alloc::{AllocError, Global};
 use std::marker::Sync;
 use std::sync::Wait;
 use std::thread::Threads;
+use storm::storm;
 
 /// Why a command is refused: it stops before all is done.
 #[derive(Clone, Copy, Debug, PartialEq, Eq)]
@@ -151,7 +152,17 @@ fn run_script<R: Threads + Wait + Sync, I: Store, S: Source>(
     }
 }
 
-/// Does what the words ask for, and answers what is to be written. `check` and `list` leave the store as it is, and only
+// The line of a storm of this size.
+fn storm_in_memory(alloc: Global, size: StormSize) -> Result<String, NoMemory>
+    requires { IsStormSize size }
+    ensures { IfOk result (λ text. TellsStorm size (string_bytes text)) }
+{
+    let sum = storm(alloc, size.seed, size.sessions, size.calls)?;
+    let text = storm_line(alloc, &sum)?;
+    Ok(text)
+}
+
+/// Does what the words ask for, and answers what is to be written. `check`, `list` and `storm` leave the store as it is, and only
 /// `play` and `serve` read the source.
 pub fn perform<R: Threads + Wait + Sync, I: Store, S: Source>(
     rt: &R,
@@ -165,8 +176,8 @@ pub fn perform<R: Threads + Wait + Sync, I: Store, S: Source>(
         (map string_bytes words.now) (output_bytes output)) }
     ensures err { IfErr result (HasCause (bytes_told (I.contents image.old) (I.contents image.new) (I.writes image.old) (I.writes image.new) (I.lost image.new) (S.left input.old) (S.left input.new))
         (map string_bytes words.now) (S.faults input.old) (S.faults input.new) (I.faults image.old) (I.faults image.new)) }
-    ensures readers_keep { (map string_bytes words.now ≡ check_words) ⊎ (map string_bytes words.now ≡ list_words) → I.contents image.new ≡ I.contents image.old }
-    ensures readers_write_nothing { (map string_bytes words.now ≡ check_words) ⊎ (map string_bytes words.now ≡ list_words) → I.writes image.new ≡ I.writes image.old }
+    ensures readers_keep { LeavesStore (map string_bytes words.now) → I.contents image.new ≡ I.contents image.old }
+    ensures readers_write_nothing { LeavesStore (map string_bytes words.now) → I.writes image.new ≡ I.writes image.old }
     ensures no_second_write { I.writes image.new ≤ I.writes image.old + 1 }
     ensures source_left { (ReadsSource (map string_bytes words.now) → ⊥) → S.left input.new ≡ S.left input.old }
     ensures source_still { (ReadsSource (map string_bytes words.now) → ⊥) → S.faults input.new ≡ S.faults input.old }
@@ -191,6 +202,10 @@ pub fn perform<R: Threads + Wait + Sync, I: Store, S: Source>(
         Command::Serve => {
             let lines = run_script(rt, alloc, Mode::Serve, image, input)?;
             Ok(Output::Lines(lines))
+        }
+        Command::Storm(size) => {
+            let text = storm_in_memory(alloc, size)?;
+            Ok(Output::Text(text))
         }
         Command::Unknown => Err(Refused::Words),
     }

@@ -21,6 +21,9 @@ returns-in-Ok-clause-sink_front g c = λ e. (
   of_done c.in-Ok.ensures.ok,
 )
 
+pub returns-in-Ok-clause-readers_keep : goal.returns-in-Ok-clause-readers_keep
+returns-in-Ok-clause-readers_keep g c = λ leaves. record { same = c.perform.ensures.readers_keep leaves; unwritten = c.perform.ensures.readers_write_nothing leaves }
+
 -- BAD WORDS
 pub returns-in-Err-Words-clause-bad_words : goal.returns-in-Err-Words-clause-bad_words
 returns-in-Err-Words-clause-bad_words g c = λ e. (

@@ -1,8 +1,9 @@
+use Rattle.std.proofs.Common.{refl}
 use Rattle.command_line.specs.Commands.ReadsImage.{for_check, for_list}
 use Rattle.script_text.specs.declared.line.Mode.TheVariants.{Play as PlayMode, Serve as ServeMode}
-use Rattle.dash_top.specs.Work.{by_format, by_check, by_list, by_run}
+use Rattle.dash_top.specs.Work.{by_format, by_check, by_list, by_run, by_storm}
 use Rattle.dash_top.proofs.Causes.{cause_of_reading, cause_of_format, cause_of_run, err_of}
-use Rattle.dash_top.proofs.Complete.{check_is_no_run, list_is_no_run}
+use Rattle.command_line.proofs.Forms.{check_is_no_run, list_is_no_run, format_is_no_reader, run_is_no_reader}
 use Rattle.dash_top.proofs.work.perform.Goals as goal
 
 -- FORMAT
@@ -15,6 +16,18 @@ pub returns-in_err-format_image-in-Format-clause-err : goal.returns-in_err-forma
 returns-in_err-format_image-in-Format-clause-err g c =
     err_of _ c.from_residual.result c.in_err-format_image-in-Format.field-0.0 c.from_residual.ensures.1
     (cause_of_format _ _ _ _ _ _ _ c.in-Format.ensures c.in_err-format_image-in-Format.ensures.err)
+
+pub returns-in_ok-format_image-in-Format-clause-readers_keep : goal.returns-in_ok-format_image-in-Format-clause-readers_keep
+returns-in_ok-format_image-in-Format-clause-readers_keep g c = λ reader. absurd (format_is_no_reader _ c.in-Format.ensures reader)
+
+pub returns-in_ok-format_image-in-Format-clause-readers_write_nothing : goal.returns-in_ok-format_image-in-Format-clause-readers_write_nothing
+returns-in_ok-format_image-in-Format-clause-readers_write_nothing g c = λ reader. absurd (format_is_no_reader _ c.in-Format.ensures reader)
+
+pub returns-in_err-format_image-in-Format-clause-readers_keep : goal.returns-in_err-format_image-in-Format-clause-readers_keep
+returns-in_err-format_image-in-Format-clause-readers_keep g c = λ reader. absurd (format_is_no_reader _ c.in-Format.ensures reader)
+
+pub returns-in_err-format_image-in-Format-clause-readers_write_nothing : goal.returns-in_err-format_image-in-Format-clause-readers_write_nothing
+returns-in_err-format_image-in-Format-clause-readers_write_nothing g c = λ reader. absurd (format_is_no_reader _ c.in-Format.ensures reader)
 
 -- CHECK
 pub returns-in_ok-text-in-Check-clause-ok : goal.returns-in_ok-text-in-Check-clause-ok
@@ -51,6 +64,18 @@ returns-in_err-lines-in-Play-clause-err g c =
     err_of _ c.from_residual-in_err-lines-in-Play.result c.in_err-lines-in-Play.field-0.0 c.from_residual-in_err-lines-in-Play.ensures.1
     (cause_of_run _ _ _ _ _ _ PlayMode _ c.in-Play.ensures c.in_err-lines-in-Play.ensures.err)
 
+pub returns-in_ok-lines-in-Play-clause-readers_keep : goal.returns-in_ok-lines-in-Play-clause-readers_keep
+returns-in_ok-lines-in-Play-clause-readers_keep g c = λ reader. absurd (run_is_no_reader _ PlayMode c.in-Play.ensures reader)
+
+pub returns-in_ok-lines-in-Play-clause-readers_write_nothing : goal.returns-in_ok-lines-in-Play-clause-readers_write_nothing
+returns-in_ok-lines-in-Play-clause-readers_write_nothing g c = λ reader. absurd (run_is_no_reader _ PlayMode c.in-Play.ensures reader)
+
+pub returns-in_err-lines-in-Play-clause-readers_keep : goal.returns-in_err-lines-in-Play-clause-readers_keep
+returns-in_err-lines-in-Play-clause-readers_keep g c = λ reader. absurd (run_is_no_reader _ PlayMode c.in-Play.ensures reader)
+
+pub returns-in_err-lines-in-Play-clause-readers_write_nothing : goal.returns-in_err-lines-in-Play-clause-readers_write_nothing
+returns-in_err-lines-in-Play-clause-readers_write_nothing g c = λ reader. absurd (run_is_no_reader _ PlayMode c.in-Play.ensures reader)
+
 -- SERVE
 pub returns-in_ok-lines-in-Serve-clause-ok : goal.returns-in_ok-lines-in-Serve-clause-ok
 returns-in_ok-lines-in-Serve-clause-ok g c =
@@ -61,3 +86,19 @@ pub returns-in_err-lines-in-Serve-clause-err : goal.returns-in_err-lines-in-Serv
 returns-in_err-lines-in-Serve-clause-err g c =
     err_of _ c.from_residual-in_err-lines-in-Serve.result c.in_err-lines-in-Serve.field-0.0 c.from_residual-in_err-lines-in-Serve.ensures.1
     (cause_of_run _ _ _ _ _ _ ServeMode _ c.in-Serve.ensures c.in_err-lines-in-Serve.ensures.err)
+
+pub returns-in_ok-lines-in-Serve-clause-readers_keep : goal.returns-in_ok-lines-in-Serve-clause-readers_keep
+returns-in_ok-lines-in-Serve-clause-readers_keep g c = λ reader. absurd (run_is_no_reader _ ServeMode c.in-Serve.ensures reader)
+
+pub returns-in_ok-lines-in-Serve-clause-readers_write_nothing : goal.returns-in_ok-lines-in-Serve-clause-readers_write_nothing
+returns-in_ok-lines-in-Serve-clause-readers_write_nothing g c = λ reader. absurd (run_is_no_reader _ ServeMode c.in-Serve.ensures reader)
+
+pub returns-in_err-lines-in-Serve-clause-readers_keep : goal.returns-in_err-lines-in-Serve-clause-readers_keep
+returns-in_err-lines-in-Serve-clause-readers_keep g c = λ reader. absurd (run_is_no_reader _ ServeMode c.in-Serve.ensures reader)
+
+pub returns-in_err-lines-in-Serve-clause-readers_write_nothing : goal.returns-in_err-lines-in-Serve-clause-readers_write_nothing
+returns-in_err-lines-in-Serve-clause-readers_write_nothing g c = λ reader. absurd (run_is_no_reader _ ServeMode c.in-Serve.ensures reader)
+
+-- STORM
+pub returns-in_ok-text-in-Storm-clause-ok : goal.returns-in_ok-text-in-Storm-clause-ok
+returns-in_ok-text-in-Storm-clause-ok g c = by_storm c.in-Storm.ensures c.in_ok-text-in-Storm.ensures (record { same = refl; unwritten = refl })

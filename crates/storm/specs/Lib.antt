@@ -1,0 +1,3 @@
+pub mod Stream
+pub mod Scripts
+pub mod Storm
