@@ -20,7 +20,7 @@ directory_from = 3
 abbrev pub power_word : Shape → ℕ
 power_word shape = words_of shape + power_from
 
--- what it is while the power is on; with any other word it is off, and a cut of the power stores this one
+-- what it is while the power is on; with any other word it is off, and who turns it off stores `power_off`
 abbrev pub power_on : ℕ
 power_on = 0
 

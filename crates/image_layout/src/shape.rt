@@ -88,7 +88,7 @@ const DIRECTORY: u64 = 3;
 const GUARDS_FROM: u64 = DIRECTORY + 1;
 /// The power word while the power is on; with any other word it is off.
 pub const POWER_ON: u64 = 0;
-/// The power word that a cut of the power stores.
+/// The power word that is stored by who turns the power off.
 pub const POWER_OFF: u64 = 1;
 /// The word of a guard that nobody holds; else it is the number of the caller who has it.
 pub const FREE_GUARD: u64 = 0;

@@ -10,7 +10,7 @@ use std::marker::Send;
 pub enum Power {
     /// The event may happen.
     On,
-    /// The power is cut: neither this event nor a later one of this caller happens.
+    /// The power is cut: neither this event nor a later one of this caller's calls happens.
     Off,
 }
 
@@ -45,7 +45,7 @@ pub trait Gate: Drop {
     /// How many passes it still lets through (a number, or no limit), where it tells that.
     ghost left: { Self → Option (Option ℕ) };
 
-    /// Asked once before each event, and at no other time. After Off it answers Off.
+    /// Asked once before each event of a call, and at no other time. After Off it answers Off.
     fn pass(&mut self) -> Power
         ensures cuts { Cuts (cuts self.old) result (cuts self.new) }
         ensures left { Passes (left self.old) result (left self.new) };

@@ -73,7 +73,7 @@ module _ (site : Ground) (first last : List ℕ) (scripts : List (List Call)) (l
       → state_at (frame_of shape (slice_index first)) s ≡ free → state_at (frame_of shape (slice_index last)) s ≢ free
   none_free e there is s slot was now =
       let o = whose views e (among (all_own views) e (subst (λ (es : List Entry). Contains es e) (sym all_told) there)) in
-      w.ended.ended.full o.0 o.1 e o.2 o.3 is s slot (free_still s slot was) (sym (ap state_in (same_head s slot)) ∙ now)
+      w.ended.ended.causes.full o.0 o.1 e o.2 o.3 is s slot (free_still s slot was) (sym (ap state_in (same_head s slot)) ∙ now)
 
   spent_bucket : HasSpentLock shape words → HasSpentBucket shape last
   spent_bucket (lock, ((s, b, slot, near, at, lives), is_last)) = record {
@@ -88,7 +88,7 @@ module _ (site : Ground) (first last : List ℕ) (scripts : List (List Call)) (l
   spent : (e : Entry) → Contains (all_of lists) e → e.reply ≡ Spent → draws (all_of lists) < 2 ^ 63 → HasSpentBucket shape last
   spent e there is few =
       let o = whose views e (among (all_own views) e (subst (λ (es : List Entry). Contains es e) (sym all_told) there)) in
-      elim (w.ended.ended.spent o.0 o.1 e o.2 o.3 is) [
+      elim (w.ended.ended.causes.spent o.0 o.1 e o.2 o.3 is) [
         | inl many ↦ absurd (let d = sym (ap draws all_told) ∙ drawn site words views w.ended.ended.log w.ended.ended.history in omega (arith, many, few, d))
         | inr lock ↦ spent_bucket lock
       ]

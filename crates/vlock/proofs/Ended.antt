@@ -30,7 +30,7 @@ use Rattle.world.proofs.stepping.Rests.{rests_are_quiet, current_segments_rest}
 use Rattle.vlock.specs.declared.knows.Watch.{Watch}
 use Rattle.world.specs.Attempts.{OwesNothing}
 use Rattle.vlock.specs.Ruling.{word, all_views, IsIdle, Kept}
-use Rattle.vlock.specs.Ends.{IsEnd, IsPowerCut}
+use Rattle.vlock.specs.Ends.{RefusalsHadCauses, IsEnd, IsPowerCut}
 use Rattle.vlock.proofs.Lists.{behind}
 
 -- ---- sums over all views
@@ -128,6 +128,12 @@ module _ (site : Ground) (s : State ℕ Watch) (id : ℕ) (k : Watch) (h : Kept 
     each_once = λ n below. sym (sums (λ v. length (filter (drew_at n) v.own)) (λ v e. ap (λ es. length (filter (drew_at n) es)) e)) ∙ h.holds.history.each_once n below;
   }
 
+  causes : RefusalsHadCauses site (word s.words) (k.view ∷ k.past) h.holds.log
+  causes = record {
+    spent = λ j v e a has is. (let n = among s.views id k at j v a in h.holds.spending.told n.0 v e n.1 has is);
+    full = λ j v e a has is. h.full id k v e at (has_at (k.view ∷ k.past) j v a) has is;
+  }
+
   -- ---- wherever the callers stood
   -- what is possible by its views is so by all
   possible : (medium : Words) → IsPossible site (word s.words) (k.view ∷ k.past) medium → IsPossible site (word s.words) (all_views s.views) medium
@@ -164,6 +170,7 @@ module _ (site : Ground) (s : State ℕ Watch) (id : ℕ) (k : Watch) (h : Kept 
     replay_is = λ start same. (entries_legal site (word s.words) (k.view ∷ k.past) h.holds.log history start same).1;
     planned = λ j v call a has. (let n = among s.views id k at j v a in h.holds.plans.fits n.0 v call n.1 has);
     taken_in = λ j v a. h.past id k v at (has_at k.past j v a);
+    causes = causes;
   }
 
   module _ (nothing : OwesNothing k.view) where
@@ -240,8 +247,7 @@ module _ (site : Ground) (s : State ℕ Watch) (id : ℕ) (k : Watch) (h : Kept 
           legal = λ start same. (entries_legal site (word s.words) (k.view ∷ k.past) h.holds.log history start same).0;
           nobody = record { views = all_views s.views; well = well; nothing = nobody_at };
           guards = λ guard is. rests_are_quiet.guards site (word s.words) (all_views s.views) h.holds no_areas guard is;
-          spent = λ j v e a has is. (let n = among s.views id k at j v a in h.holds.spending.told n.0 v e n.1 has is);
-          full = λ j v e a has is. h.full id k v e at (has_at (k.view ∷ k.past) j v a) has is;
+          causes = causes;
           repaired = λ n current. record { normal = normal_now n current; in_order = in_order n current; free = free n current };
           replay_is = λ start same key. (entries_legal site (word s.words) (k.view ∷ k.past) h.holds.log history start same).1 key ∙ sym (pairs key);
         }

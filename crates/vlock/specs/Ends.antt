@@ -44,6 +44,12 @@ pub record NobodyIsLeft (site : Ground) (words : Words) : Type 0 where
   pub well : IsWell site words (record { words = words; trace = []; views = views })
   pub nothing : (j : ℕ) (v : View) → At views j v → OwesNothing v
 
+-- WHAT REFUSALS CAME FROM: where it was replied that a number is spent, 2 ^ 63 changes are drawn, or some lock word of a live segment is free with the last
+-- version; and where it was replied that no slot is free, none is that was free at the start
+pub record RefusalsHadCauses (site : Ground) (words : Words) (views : List View) (log : Log) : Type 0 where
+  pub spent : (j : ℕ) (v : View) (e : Entry) → At views j v → Has e v.own → e.reply ≡ Spent → (spent_count ≤ length log) ⊎ HasSpentLock site.shape words
+  pub full : (j : ℕ) (v : View) (e : Entry) → At views j v → Has e v.own → e.reply ≡ Full → HasNoFreeSlot site words
+
 -- these views have one history, and the words are a table with a sound structure that has what the history leaves
 pub record IsEnd (site : Ground) (words : Words) (views : List View) : Type 0 where
   pub log : Log
@@ -58,10 +64,7 @@ pub record IsEnd (site : Ground) (words : Words) (views : List View) : Type 0 wh
   pub nobody : NobodyIsLeft site words
   pub guards : (guard : Guard) → HasGuard site.shape guard → words (guard_word site.shape guard) ≡ free_guard
   pub repaired : (s : ℕ) → IsCurrentIn site words s → IsRepaired site words s
-  -- where it was replied that a number is spent, 2 ^ 63 changes are drawn, or some lock word of a live segment is free with the last version; and
-  -- where it was replied that no slot is free, none is that was free at the start
-  pub spent : (j : ℕ) (v : View) (e : Entry) → At views j v → Has e v.own → e.reply ≡ Spent → (spent_count ≤ length log) ⊎ HasSpentLock site.shape words
-  pub full : (j : ℕ) (v : View) (e : Entry) → At views j v → Has e v.own → e.reply ≡ Full → HasNoFreeSlot site words
+  pub causes : RefusalsHadCauses site words views log
 
 -- THE POWER WAS CUT, and callers stood anywhere: of these views, whose first is that of who took the others in, there is one history, and whatever the
 -- cut may leave of these words is good over it
@@ -78,6 +81,7 @@ pub record IsPowerCut (site : Ground) (words : Words) (views : List View) : Type
   pub planned : (j : ℕ) (v : View) (call : Call) → At views j v → Has call v.planned → Done ≡ reply_by (map_now site.start log (key_of call)) call
   -- and the views that were taken in owe nothing: what may be left beside the words themselves is so by the first view alone
   pub taken_in : (j : ℕ) (v : View) → At views (suc j) v → OwesNothing v
+  pub causes : RefusalsHadCauses site words views log
 
 -- an opening of what was left: the words of the image, with 0 in those behind it, for callers that are few enough
 pub record IsOfWhatWasLeft (site : Ground) (words : Words) (key : Opening) : Type 0 where

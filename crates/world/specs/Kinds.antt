@@ -72,7 +72,7 @@ pub data Kind : Type 0 where
   draws_place : (call : Call) → Kind
   -- a store that frees a lock
   unlocks : (lock next : ℕ) → Kind
-  -- a store of the power word, by a caller whose power is cut
+  -- a store of the power word, by a caller that turns the power off
   cuts_power : Kind
 
 -- what is wanted of the memory

@@ -72,7 +72,7 @@ pub record View : Type 0 where
   pub room : ℕ
   -- the lock words that it found free with the last version
   pub spent_locks : List ℕ
-  -- whether it stored the power word: no machine does so far, and the caller that turns the power off will
+  -- whether it stored the power word: no machine does, but a caller that turns the power off
   pub stored_power : Bool
   -- what it relies on of the structure
   pub facts : List Fact
