@@ -1,5 +1,5 @@
 pub mod machines
-mod holding
+pub mod holding
 pub mod Places
 pub mod sessions
 pub mod attempts

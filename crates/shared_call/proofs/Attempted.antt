@@ -32,6 +32,7 @@ use Rattle.engine.proofs.attempts.Stepping.{op_decided}
 use Rattle.engine.proofs.attempts.Doing.{anew_fresh}
 use Rattle.vlock.specs.declared.knows.Watch.{Watch}
 use Rattle.shared_call.specs.Laws.{AttemptLaws}
+use Rattle.shared_call.specs.Headway.{no_headway, headway_after}
 use Rattle.shared_call.specs.Suited.{Suits, IsRunning, HasCauseOf}
 use Rattle.shared_call.specs.Turns.{Leaves, Turns}
 use Rattle.shared_call.specs.Tries.{BeginsRepairing}
@@ -117,6 +118,8 @@ module _ (site : Ground) (here : Site) (call : Call) (work : Work) where
       suits = subst (λ (x : Engine). SuitsPart op_part site here call x.op p.view p.view) (sym now) suits.suits;
       remembers = subst (λ (x : Engine). op_part.Remembers site x.op nothing_done) (sym now) suits.remembers;
       decided = λ outcome some. absurd (none-some outcome (sym (begins_undecided here start fresh) ∙ (ap (λ (x : Engine). op_part.outcome x.op) (sym now) ∙ some)));
+      draws = inl refl;
+      plans = λ planned has. laws.machines.part.plans site here call start.op p.view p.view planned suits.suits has;
     }
 
     -- ---- it goes on
@@ -148,6 +151,8 @@ module _ (site : Ground) (here : Site) (call : Call) (work : Work) where
           suits = l.suits;
           remembers = l.remembers;
           decided = decided_on p.view g.events e next q.view r.view t.found (op_part.outcome e.op) refl g.work_is g.later g.decided l;
+          draws = l.draws (headway_after g.events no_headway) g.draws;
+          plans = λ planned has. laws.machines.part.plans site here call next.op p.view r.view planned l.suits has;
         }
 
     -- ---- it ends
@@ -183,6 +188,7 @@ module _ (site : Ground) (here : Site) (call : Call) (work : Work) where
           past = g.past;
           callers = g.suits.callers;
           same_callers = g.same_callers;
+          draws = g.draws;
           nothing = λ on. laws.machines.part.ends site here call e.op q.view g.suits.stands done (never_hands_on e.op) (λ o. on (sym same ∙ o));
           outcome = d.0;
           told = sym same ∙ d.1;

@@ -1,3 +1,4 @@
+pub mod Headways
 pub mod Deciding
 pub mod Turned
 pub mod Anew

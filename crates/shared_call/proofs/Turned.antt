@@ -28,6 +28,7 @@ use Rattle.vlock.specs.Plays.{Moment, Met, MayDo, Answers, watched}
 use Rattle.shared_call.specs.Laws.{TurnLaws}
 use Rattle.shared_call.specs.Suited.{Suits, IsRunning, IsCaused}
 use Rattle.shared_call.specs.Turns.{FoundOff, Leaves, Turns}
+use Rattle.shared_call.proofs.Headways.{draws}
 use Rattle.shared_call.proofs.Deciding.{off_cause, op_caused}
 
 module _ (laws : TurnLaws) (site : Ground) (e : Engine) where
@@ -100,6 +101,8 @@ module _ (laws : TurnLaws) (site : Ground) (e : Engine) where
             stays = stays;
             caused = caused;
             not_own = op_not_own laws.machines.causes site here call m.words m.views m.seat before v m.holds m.there did e.op suits.suits suits.asks fits suits.remembers;
+            draws = draws site here call before v kind (wanted e) found (reply_of (op_part.outcome next.op)) s.wants s.may
+                (λ planned has. laws.machines.part.plans site here call e.op before v planned suits.suits has) stands.enters;
           };
         }
 

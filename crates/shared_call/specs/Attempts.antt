@@ -24,6 +24,7 @@ use Rattle.engine.specs.Left.{most_of_attempt, most_of_get, left}
 use Rattle.engine.specs.OpPart.{Work, calls, work_of, op_part}
 use Rattle.vlock.specs.declared.knows.Watch.{Watch}
 use Rattle.vlock.specs.Plays.{Moment}
+use Rattle.shared_call.specs.Headway.{no_headway, headway_after, HasDrawn, PlansCall}
 use Rattle.shared_call.specs.Suited.{Suits, HasCauseOf}
 
 -- ---- events one after another, the newest first, each with the value that its word was found to have
@@ -73,6 +74,9 @@ pub record IsGoing (site : Ground) (here : Site) (call : Call) (work : Work) (st
   pub suits : SuitsPart op_part site here call e.op p.view q.view
   pub remembers : op_part.Remembers site e.op (doings_of events)
   pub decided : (outcome : Outcome) → op_part.outcome e.op ≡ Some outcome → IsDecided site here call work p.view events outcome
+  -- and the view has the entry of the place that the events drew; what it has planned is the change of this call, and then no reply is entered yet
+  pub draws : HasDrawn call p.view (headway_after events no_headway).drew q.view
+  pub plans : PlansCall call p.view q.view
 
 -- THE SEAT HAS FOUND THE POWER OFF since it knew p: among the events that it took since then is a look at the power word, which found another one
 -- than that of a power that is on
@@ -105,6 +109,8 @@ pub record IsOver (site : Ground) (here : Site) (call : Call) (work : Work) (sta
   pub past : q.past ≡ p.past
   pub callers : 0 < q.view.callers
   pub same_callers : q.view.callers ≡ p.view.callers
+  -- it has the entry of the place that the events drew; where they drew none, at the most one entry more, which drew none
+  pub draws : HasDrawn call p.view (headway_after events no_headway).drew q.view
   -- it holds and owes nothing, unless the power was found off
   pub nothing : outcome_of_end end ≢ Some off → HoldsOnly [] q.view
   -- the end tells what one of the events decided, which has its cause

@@ -1,5 +1,6 @@
 pub mod Laws
 pub mod Suited
+pub mod Headway
 pub mod Turns
 pub mod Attempts
 pub mod Gated

@@ -19,6 +19,8 @@ use Rattle.engine.specs.Engine.{wanted, taken, end_of, reply_of_end}
 use Rattle.engine.specs.Left.{left}
 use Rattle.engine.specs.OpPart.{op_part}
 use Rattle.vlock.specs.declared.knows.Watch.{Watch}
+use Rattle.shared_call.specs.declared.headway.Headway.{Headway}
+use Rattle.shared_call.specs.Headway.{headway_with, HasDrawn}
 use Rattle.shared_call.specs.Suited.{Suits, IsCaused}
 
 -- THE POWER WAS FOUND OFF: the event was a look at it, which found a word that is not that of a power that is on; and no reply was entered in this attempt
@@ -33,7 +35,8 @@ done_after e found did = with_event_of (wanted e) (answer_to (wanted e) found) d
 
 -- WHAT A TURN LEAVES of an attempt of this call that began with the view `before` and did this, where the view was v: the engine goes on, and the
 -- view after suits it; or it wants nothing more, and has ended or found the power off; an outcome is decided by an event that has its cause, and
--- stays; and who is told that a lock is taken does not hold it
+-- stays; and who is told that a lock is taken does not hold it. And where the view had the entry of the place that was drawn by then, or at the most one
+-- more that drew none, it is so behind this event
 pub record Leaves (site : Ground) (here : Site) (call : Call) (e : Engine) (did : Doings) (before v : View) (found : ℕ) (next : Engine) (w : View) : Type 0 where
   pub goes_on : wanted next ≢ Done → Suits site here call next (done_after e found did) before w
   pub ends : wanted next ≡ Done → op_part.outcome next.op ≢ Some off → HasEnded call (reply_of_end (end_of next)) before w
@@ -44,6 +47,7 @@ pub record Leaves (site : Ground) (here : Site) (call : Call) (e : Engine) (did 
   pub stays : (outcome : Outcome) → op_part.outcome e.op ≡ Some outcome → op_part.outcome next.op ≡ Some outcome
   pub caused : (outcome : Outcome) → op_part.outcome e.op ≡ None → op_part.outcome next.op ≡ Some outcome → IsCaused site here call e did v found outcome
   pub not_own : (word value : ℕ) → op_part.outcome e.op ≡ None → op_part.outcome next.op ≡ Some (again (Busy word value)) → HasLock v.held word → ⊥
+  pub draws : (headway : Headway) → HasDrawn call before headway.drew v → HasDrawn call before (headway_with headway (answer_to (wanted e) found)).drew w
 
 -- A TURN: the seat took the one event that the engine wanted, and the engine the answer; the view after is a later one; fewer events are left, or
 -- the engine waits for a guard that another has; and so much is left of each attempt that the view suited

@@ -8,6 +8,7 @@ ghost use Rattle.vlock.specs.Ruling.{ground_of};
 ghost use Rattle.vlock.specs.Plays.{IsSeatOf};
 ghost use Rattle.shared_call.specs.Attempts.{IsAttempted};
 
+use crate::headway::Headway;
 use crate::laws::attempts_have_laws;
 use crate::turns::turn;
 use engine::{End, Engine};
@@ -35,8 +36,9 @@ pub fn attempt(
 {
     attempts_have_laws();
     let mut engine = Engine::of(call, site);
+    let mut headway = Headway::none();
     while !engine.wants_nothing() {
-        turn(image, geometry, seat, &mut engine);
+        turn(image, geometry, seat, &mut engine, &mut headway);
     }
     engine.end()
 }

@@ -8,6 +8,7 @@ ghost use Rattle.vlock.specs.Ruling.{ground_of};
 ghost use Rattle.vlock.specs.Plays.{IsSeatOf};
 ghost use Rattle.shared_call.specs.Gated.{CameTo};
 
+use crate::headway::Headway;
 use crate::laws::attempts_have_laws;
 use crate::turns::turn;
 use engine::{End, Engine};
@@ -45,9 +46,10 @@ pub fn attempt_gated<G: Gate>(
 {
     attempts_have_laws();
     let mut engine = Engine::of(call, site);
+    let mut headway = Headway::none();
     while !engine.wants_nothing() {
         match gate.pass() {
-            Power::On => turn(image, geometry, seat, &mut engine),
+            Power::On => turn(image, geometry, seat, &mut engine, &mut headway),
             Power::Off => return Gated::Cut,
         }
     }

@@ -5,7 +5,9 @@ ghost use Rattle.vlock.specs.Ruling.{ground_of};
 ghost use Rattle.vlock.specs.Plays.{IsSeatOf};
 ghost use Rattle.shared_call.specs.Attempts.{IsUnderWay};
 ghost use Rattle.shared_call.specs.Gated.{HasGoneOn};
+ghost use Rattle.shared_call.specs.Headway.{HasHeadway};
 
+use crate::headway::Headway;
 use crate::laws::attempts_have_laws;
 use crate::turns::turn;
 use engine::Engine;
@@ -26,13 +28,14 @@ pub enum Stop {
 
 /// Goes on with an attempt that is under way, of a call, a split or a repair, by `most` events at the most, before each of which the
 /// caller's gate is asked. So an attempt that waits, as a split does for the guard of the directory, is left after so many events, and
-/// may go on later.
+/// may go on later. Each event is added to the headway of the call.
 pub fn go_on<G: Gate>(
     image: &Image,
     geometry: &Geometry,
     seat: &mut ImageSeat,
     gate: &mut G,
     engine: &mut Engine,
+    headway: &mut Headway,
     most: u64,
 ) -> Stop
     requires table { IsSeatOf image.now.table_id image.now.key seat.old }
@@ -40,6 +43,7 @@ pub fn go_on<G: Gate>(
     requires going { IsUnderWay (ground_of image.now.key) engine.old seat.old.me.0 }
     ensures table { IsSeatOf image.now.table_id image.now.key seat.new }
     ensures gone { HasGoneOn (ground_of image.now.key) most engine.old seat.old.me.0 (G.left gate.old) result engine.new seat.new.me.0 (G.left gate.new) (G.cuts gate.new) }
+    ensures headway { HasHeadway seat.old.me.0 headway.old seat.new.me.0 headway.new }
 {
     attempts_have_laws();
     for _ in 0..most {
@@ -47,7 +51,7 @@ pub fn go_on<G: Gate>(
             return Stop::Over;
         }
         match gate.pass() {
-            Power::On => turn(image, geometry, seat, engine),
+            Power::On => turn(image, geometry, seat, engine, headway),
             Power::Off => return Stop::Cut,
         }
     }

@@ -10,9 +10,11 @@ ghost use Rattle.engine.specs.Fits.{IsWordCall};
 ghost use Rattle.engine.specs.Left.{most_of_attempt};
 ghost use Rattle.vlock.specs.Ruling.{ground_of};
 ghost use Rattle.vlock.specs.Plays.{IsSeatOf};
+ghost use Rattle.shared_call.specs.Headway.{no_headway, HasHeadway};
 ghost use Rattle.shared_call.specs.Tries.{answer_for, IsTrying, HasTried, Tells};
 
 use crate::going::{Stop, go_on};
+use crate::headway::Headway;
 use crate::laws::{attempts_have_laws, turns_have_laws};
 use engine::{
     EncloseEnd, End, Engine, MoveEnd, NotEnclosed, ReadEnd, RedirectEnd, ReleaseEnd, RepairEnd,
@@ -82,13 +84,14 @@ pub fn answer_of(end: End) -> Answer
 
 /// Goes on with the attempt of a call that is under way, by `most` events at the most, each of which the caller's gate lets through; and where
 /// it is over, has the next one ready: the call anew, or a split or a repair that it needs. So each try goes on from the one before, until
-/// there is a reply or the power is off.
+/// there is a reply or the power is off. Each event is added to the headway.
 pub fn try_on<G: Gate>(
     image: &Image,
     geometry: &Geometry,
     seat: &mut ImageSeat,
     gate: &mut G,
     engine: &mut Engine,
+    headway: &mut Headway,
     call: Call,
     site: &Site,
     most: u64,
@@ -100,9 +103,10 @@ pub fn try_on<G: Gate>(
     requires trying { IsTrying (ground_of image.now.key) site.now call engine.old seat.old.me.0 }
     ensures table { IsSeatOf image.now.table_id image.now.key seat.new }
     ensures tried { HasTried (ground_of image.now.key) site.now call most engine.old seat.old.me.0 (G.left gate.old) result engine.new seat.new.me.0 (G.left gate.new) (G.cuts gate.new) }
+    ensures headway { HasHeadway seat.old.me.0 headway.old seat.new.me.0 headway.new }
 {
     attempts_have_laws();
-    match go_on(image, geometry, seat, gate, engine, most) {
+    match go_on(image, geometry, seat, gate, engine, headway, most) {
         Stop::Left => Answer::Left,
         Stop::Cut => Answer::Off,
         Stop::Over => {
@@ -117,13 +121,14 @@ pub fn try_on<G: Gate>(
 const MOST_OF_ATTEMPT: u64 = 700;
 
 /// The first try of a call, by a seat that holds and owes nothing: it is never left in the midst but by a cut of the power. The engine
-/// becomes that of the call, and behind it that of the next attempt, with which [`try_on`] goes on.
+/// becomes that of the call, and behind it that of the next attempt, with which [`try_on`] goes on. The headway begins with this try.
 pub fn try_call<G: Gate>(
     image: &Image,
     geometry: &Geometry,
     seat: &mut ImageSeat,
     gate: &mut G,
     engine: &mut Engine,
+    headway: &mut Headway,
     call: Call,
     site: &Site,
 ) -> Answer
@@ -136,16 +141,19 @@ pub fn try_call<G: Gate>(
     ensures tried { HasTried (ground_of image.now.key) site.now call most_of_attempt (begun site.now call) seat.old.me.0 (G.left gate.old) result engine.new seat.new.me.0 (G.left gate.new) (G.cuts gate.new) }
     ensures tells { Tells (ground_of image.now.key) site.now call calls (begun site.now call) seat.old.me.0 result engine.new seat.new.me.0 }
     ensures over { result ≢ Answer.Left }
+    ensures headway { HasHeadway seat.old.me.0 no_headway seat.new.me.0 headway.new }
 {
     turns_have_laws();
     attempts_have_laws();
     engine.restart(call, *site);
+    *headway = Headway::none();
     try_on(
         image,
         geometry,
         seat,
         gate,
         engine,
+        headway,
         call,
         site,
         MOST_OF_ATTEMPT,

@@ -1,7 +1,8 @@
-use Rattle.std.proofs.Common.{◌≡◌, ◌≢◌, ◌≤◌, rules}
+use Rattle.std.proofs.Common.{◌≡◌, ◌≢◌, ◌≤◌, [], ◌∷◌, rules}
 use Rattle.op_core.specs.declared.want.Want.TheVariants.{Done}
 use Rattle.engine.specs.Engine.{wanted}
 use Rattle.vlock.specs.Ruling.{ground_of}
+use Rattle.shared_call.proofs.Headways.{headway_of_none, headway_on}
 use Rattle.shared_call.proofs.Gating.{none_taken, runs, one_taken, over_now, left_now, cut_now_on}
 use Rattle.shared_call.proofs.going.go_on.Goals as goal
 
@@ -9,6 +10,7 @@ pub loop-init : goal.loop-init
 loop-init g c = record {
   table = c.requires.table;
   on = none_taken (ground_of c.args.image.now.key) c.args.engine.now c.args.seat.now.me.0 _ _;
+  headway = headway_of_none c.args.seat.now.me.0 c.args.headway.now;
 }
 
 pub returns-then-wants_nothing-clause-gone : goal.returns-then-wants_nothing-clause-gone
@@ -33,6 +35,8 @@ loop-preserved g c =
       table = c.turn.ensures.table;
       on = one_taken (ground_of c.args.image.now.key) c.args.engine.now c.args.seat.now.me.0 _ c.attempts_have_laws.ensures _ _ _ _ _ _ _ _ _ asks c.loop.invariant.on c.in-On.ensures.left
           c.in-On.ensures.cuts c.turn.ensures.turns;
+      headway = headway_on c.args.seat.now.me.0 c.loop.seat.me.0 c.turn.new.seat.me.0 c.args.headway.now c.loop.headway c.turn.new.headway c.loop.invariant.on.taking.events ((wanted c.loop.engine, c.turn.ensures.turns.found) ∷ []) c.loop.invariant.on.taking.took
+          c.turn.ensures.turns.took c.loop.invariant.headway c.turn.ensures.headway;
     }
 
 pub returns-then-wants_nothing-2-clause-gone : goal.returns-then-wants_nothing-2-clause-gone
