@@ -35,7 +35,7 @@ use Rattle.vlock.specs.Ruling.{word}
 use Rattle.vlock.specs.Seats.{both}
 use Rattle.vlock.specs.Ends.{IsPowerCut}
 use Rattle.shared_image.specs.Closed.{with_all, replies_of}
-use Rattle.shared_image.specs.Cutting.{views_of, planned_in, MayBeLeft, LeavesGoodMedia}
+use Rattle.shared_image.specs.Cutting.{views_of, planned_in, MayBeLeft, LeavesGoodMedia, WasCut}
 
 -- ---- lists joined
 contained : (calls : List Call) (call : Call) → Has call calls → Contains calls call
@@ -158,10 +158,19 @@ module _ (site : Ground) (before newest : List ℕ) (p : Watch) (passes : List (
     newest_may = newest_left;
   }
 
+  pub was_cut : WasCut site (replies_of passes) newest
+  was_cut = record { words = word before; views = all; cut = cut; told = own; same = same_word }
+
 -- A CUT LEAVES GOOD MEDIA, by other names of the shape and of what the keeper knows
 pub cut_leaves : (site : Ground) (shape : Shape) (before newest : List ℕ) (p q : Watch) (passes : List (Seat ℕ Watch)) → shape ≡ site.shape → IsShape site.shape → q ≡ with_all p passes
     → IsPowerCut site (word before) (q.view ∷ q.past) → OwesNothing p.view → map (λ v. v.own) (q.view ∷ q.past) ≡ replies_of passes → SaysShape site.shape site.front
-    → marker_in (site.front state_word) ≡ 0 → newest ≡ take (words_of shape) before → words_of site.shape ≤ length before → ((i : ℕ) → slice_index newest i < 2 ^ 64) → LeavesGoodMedia site passes newest
+    → marker_in (site.front state_word) ≡ 0 → newest ≡ take (words_of shape) before → words_of site.shape ≤ length before → ((i : ℕ) → slice_index newest i < 2 ^ 64)
+    → LeavesGoodMedia site passes newest × WasCut site (replies_of passes) newest
 cut_leaves site shape before newest p q passes same is_shape is cut nothing own says unmarked given long fits =
-    leaves_good site before newest p passes is_shape (subst (λ (w : Watch). IsPowerCut site (word before) (w.view ∷ w.past)) is cut) nothing
-    (subst (λ (w : Watch). map (λ v. v.own) (w.view ∷ w.past) ≡ replies_of passes) is own) says unmarked (given ∙ ap (λ (g : Shape). take (words_of g) before) same) long fits
+    let by_all : IsPowerCut site (word before) ((with_all p passes).view ∷ (with_all p passes).past) = subst (λ (w : Watch). IsPowerCut site (word before) (w.view ∷ w.past)) is cut in
+    let told : map (λ v. v.own) ((with_all p passes).view ∷ (with_all p passes).past) ≡ replies_of passes =
+    subst (λ (w : Watch). map (λ v. v.own) (w.view ∷ w.past) ≡ replies_of passes) is own in
+    let taken : newest ≡ take (words_of site.shape) before = given ∙ ap (λ (g : Shape). take (words_of g) before) same in (
+      leaves_good site before newest p passes is_shape by_all nothing told says unmarked taken long fits,
+      was_cut site before newest p passes is_shape by_all nothing told says unmarked taken long fits,
+    )

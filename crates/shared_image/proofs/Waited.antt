@@ -1,5 +1,7 @@
 -- A call that is tried again and again, by what each try tells.
 use Rattle.std.proofs.Common.{◌≡◌, ◌≢◌, ℕ, suc, ◌+◌, Bool, true, false, Option, None, Some, List, [], ◌∷◌, ◌++◌, length, inl, inr, refl, sym, ap, ◌∙◌, subst, arith, append_assoc, length-append}
+use Rattle.std.specs.Bool.{⊤}
+use Rattle.std.proofs.lemmas.List.{append_cancel_right}
 use Rattle.op_core.specs.declared.want.Want.{Want}
 use Rattle.op_core.specs.declared.want.Want.TheVariants.{Done}
 use Rattle.map_model.specs.declared.call.Call.{Call}
@@ -18,6 +20,9 @@ use Rattle.shared_call.specs.declared.tries.Answer.TheVariants as answers
 use Rattle.shared_call.specs.Attempts.{after_events}
 use Rattle.shared_call.specs.Gated.{IsLowered, HasNoneLeft}
 use Rattle.shared_call.specs.Tries.{IsTrying, Tells, HasTried}
+use Rattle.shared_call.specs.declared.headway.Headway.{Headway}
+use Rattle.shared_call.specs.Headway.{no_headway, headway_after, HasHeadway, PlansCall, HasDrawn}
+use Rattle.shared_call.proofs.Headways.{after_both, after_same, none_drawn, drawn_since, headway_on}
 use Rattle.shared_call.proofs.Gating.{not_lowered}
 use Rattle.shared_call.proofs.FoundOff.{found_off, found_by, since_before}
 use Rattle.shared_image.specs.Calling.{says_off, HasCalled, HasGoneOnTrying}
@@ -62,12 +67,37 @@ one_more_on call reply place u v w a b =
     let entry : List Entry → Entry = λ es. record { serial = suc (length es); call = call; reply = reply; place = place; drew = is_done reply } in
     record { own = b.own ∙ ap (λ (es : List Entry). es ++ entry es ∷ []) a.own; seen = b.seen ∙ ap (λ (es : List Entry). seen_after (entry es)) a.own }
 
+-- ---- how far a call has come
+-- the place that was drawn since a seat knew this
+abbrev pub DrewSince : Watch → Watch → Headway → Type 0
+DrewSince first q n = (events : List (Want × ℕ)) → q.took ≡ events ++ first.took → n.drew ≡ (headway_after events no_headway).drew
+
+drew_of : (p q : Watch) (n : Headway) → HasHeadway p no_headway q n → DrewSince p q n
+drew_of p q n headway events took = ap (λ (x : Headway). x.drew) (headway events took)
+
+drew_on : (first q r : Watch) (n now : Headway) (old more : List (Want × ℕ)) → q.took ≡ old ++ first.took → r.took ≡ more ++ q.took → DrewSince first q n → HasHeadway q n r now → DrewSince first r now
+drew_on first q r n now old more took then drew headway events all =
+    let same : events ≡ more ++ old = append_cancel_right events (more ++ old) first.took
+    (sym all ∙ (then ∙ (ap (λ (es : List (Want × ℕ)). more ++ es) took ∙ sym (append_assoc more old first.took)))) in
+    ap (λ (x : Headway). x.drew) (headway more then)
+    ∙ (after_same more n (headway_after old no_headway) (drew old took)
+    ∙ (ap (λ (x : Headway). x.drew) (sym (after_both more old no_headway)) ∙ ap (λ (es : List (Want × ℕ)). (headway_after es no_headway).drew) (sym same)))
+
+-- where a call stands that was told this, by the place that it drew
+abbrev pub DrewAt : Ground → Site → Call → Watch → Answer → Engine → Watch → Headway → Type 0
+DrewAt site here call p (answers.Replied reply place) e q n = ⊤
+DrewAt site here call p answers.Off e q n = HasDrawn call p.view n.drew q.view
+DrewAt site here call p answer e q n = (t : IsTryingSince site here call p e q) × DrewSince t.first q n
+
 -- ---- where a call stands, what was taken for it, and why it gave up, where it was told that the power is off
 pub record IsWaiting (site : Ground) (here : Site) (call : Call) (off : Bool) (p : Watch) (left : Option (Option ℕ)) (answer : Answer) (e : Engine) (q : Watch) (now : Option (Option ℕ))
-    (cuts : ℕ) : Type 0 where
+    (cuts : ℕ) (n : Headway) : Type 0 where
   pub taken : HasTaken p left q now
   pub stands : StandsAt site here call p answer e q
   pub why : answer ≡ answers.Off → GaveUpFor off p left q now cuts
+  pub headway : HasHeadway p no_headway q n
+  pub drew : DrewAt site here call p answer e q n
+  pub plans : answer ≡ answers.Off → off ≡ false → PlansCall call p.view q.view
 
 module _ (site : Ground) (here : Site) (call : Call) (number : HasNumber here) (p : Watch) where
   -- what a try tells of an attempt that began with the entries of p, behind the events `some`; by now `all` were taken
@@ -86,14 +116,37 @@ module _ (site : Ground) (here : Site) (call : Call) (number : HasNumber here) (
       let ready = t.2 number in
       record { work = work_of next.op; start = next; first = q; going = ready.going; asks = ready.asks; same = no_more_on p.view first.view q.view same t.1; events = all; since = took }
 
-  pub called : (left now : Option (Option ℕ)) (before cuts : ℕ) (off : Bool) (answer : Answer) (next : Engine) (q : Watch) → HasCalled site here call off p left before answer next q now cuts
-      → IsWaiting site here call off p left answer next q now cuts
-  called left now before cuts true answer next q c = record {
+  -- and which place was drawn
+  drew_by : (work : Work) (start : Engine) (first : Watch) (answer : Answer) (next : Engine) (q : Watch) (some all : List (Want × ℕ)) (n : Headway) → (answer ≡ answers.Left → wanted start ≢ Done)
+      → HasNoMore p.view first.view → first.took ≡ some ++ p.took → q.took ≡ all ++ p.took → DrewSince first q n → Tells site here call work start first answer next q
+      → DrewAt site here call p answer next q n
+  drew_by work start first (answers.Replied reply place) next q some all n asks same since took drew t = tt
+  drew_by work start first answers.Left next q some all n asks same since took drew t =
+      (record { work = work; start = start; first = first; going = t.0; asks = asks refl; same = same; events = some; since = since }, drew)
+  drew_by work start first answers.Off next q some all n asks same since took drew t =
+      drawn_since call p.view first.view q.view n.drew same
+      (subst (λ (d : Option ℕ). HasDrawn call first.view d q.view) (sym (drew t.1.events t.1.took)) t.1.draws)
+  drew_by work start first answer next q some all n asks same since took drew t =
+      let ready = t.2 number in
+      let none : n.drew ≡ None = none_drawn call first.view q.view n.drew t.1
+      (subst (λ (d : Option ℕ). HasDrawn call first.view d q.view) (sym (drew t.0.over.events t.0.over.took)) t.0.over.draws) in (
+        record { work = work_of next.op; start = next; first = q; going = ready.going; asks = ready.asks; same = no_more_on p.view first.view q.view same t.1; events = all; since = took },
+        λ events own. none ∙ ap (λ (es : List (Want × ℕ)). (headway_after es no_headway).drew) (append_cancel_right [] events q.took own),
+      )
+
+  pub called : (left now : Option (Option ℕ)) (before cuts : ℕ) (off : Bool) (answer : Answer) (next : Engine) (q : Watch) (n : Headway)
+      → HasCalled site here call off p left before answer next q now cuts → HasHeadway p no_headway q n → IsWaiting site here call off p left answer next q now cuts n
+  called left now before cuts true answer next q n c headway = record {
     taken = subst (λ (x : Watch). HasTaken p left x now) (sym c.1) (subst (λ (x : Option (Option ℕ)). HasTaken p left p x) (sym c.2) (nothing_taken p left));
     stands = subst (λ (x : Answer). StandsAt site here call p x next q) (sym c.0) tt;
     why = λ _. inl (refl, c.1);
+    headway = headway;
+    drew = subst (λ (x : Answer). DrewAt site here call p x next q n) (sym c.0)
+        (subst (λ (d : Option ℕ). HasDrawn call p.view d q.view) (sym (ap (λ (x : Headway). x.drew) (headway [] (ap (λ (x : Watch). x.took) c.1))))
+        (inl (ap (λ (x : Watch). x.view.own) c.1)));
+    plans = λ is on. absurd (let no : true ≡ false = on in cc);
   }
-  called left now before cuts false answer next q c = record {
+  called left now before cuts false answer next q n c headway = record {
     taken = taken_on p p q left left now c.0.events (nothing_taken p left) c.0.took c.0.past c.0.callers c.0.lowered;
     stands = stands_by calls (begun here call) p answer next q [] c.0.events (λ is. absurd (c.2 is)) (record { own = refl; seen = refl }) refl c.0.took c.1;
     why = λ is.
@@ -103,6 +156,9 @@ module _ (site : Ground) (here : Site) (call : Call) (number : HasNumber here) (
               let g = subst (λ (x : Answer). Tells site here call calls (begun here call) p x next q) is c.1 in
               inr (inr (found_by site here call calls (begun here call) p g.0 q c.0.events g.1 c.0.took out))
         ];
+    headway = headway;
+    drew = drew_by calls (begun here call) p answer next q [] c.0.events n (λ is. absurd (c.2 is)) (record { own = refl; seen = refl }) refl c.0.took (drew_of p q n headway) c.1;
+    plans = λ is on. (subst (λ (x : Answer). Tells site here call calls (begun here call) p x next q) is c.1).1.plans;
   }
 
   -- without a reply, while the power is on, it is under way
@@ -112,12 +168,19 @@ module _ (site : Ground) (here : Site) (call : Call) (number : HasNumber here) (
   trying_of answers.Off e q unreplied on s = absurd (on refl)
   trying_of answer e q unreplied on s = s
 
+  pub drew_trying : (answer : Answer) (e : Engine) (q : Watch) (n : Headway) → ((reply : Reply) (place : ℕ) → answer ≢ answers.Replied reply place) → answer ≢ answers.Off
+      → DrewAt site here call p answer e q n → (t : IsTryingSince site here call p e q) × DrewSince t.first q n
+  drew_trying (answers.Replied reply place) e q n unreplied on d = absurd (unreplied reply place refl)
+  drew_trying answers.Off e q n unreplied on d = absurd (on refl)
+  drew_trying answer e q n unreplied on d = d
+
   pub trying_now : (e : Engine) (q : Watch) → IsTryingSince site here call p e q → IsTrying site here call e q
   trying_now e q t = record { work = t.work; start = t.start; first = t.first; going = t.going; asks = t.asks }
 
-  pub waited_on : (off : Bool) (left now after : Option (Option ℕ)) (cuts most : ℕ) (then : Answer) (e next : Engine) (q r : Watch) → IsTryingSince site here call p e q → HasTaken p left q now
-      → HasTried site here call most e q now then next r after cuts → IsWaiting site here call off p left then next r after cuts
-  waited_on off left now after cuts most then e next q r t k tried =
+  pub waited_on : (off : Bool) (left now after : Option (Option ℕ)) (cuts most : ℕ) (then : Answer) (e next : Engine) (q r : Watch) (n last : Headway) (t : IsTryingSince site here call p e q)
+      → DrewSince t.first q n → HasTaken p left q now → HasHeadway p no_headway q n → HasTried site here call most e q now then next r after cuts → HasHeadway q n r last
+      → IsWaiting site here call off p left then next r after cuts last
+  waited_on off left now after cuts most then e next q r n last t drew k headway tried more =
       let taken = taken_on p q r left now after tried.events k tried.took tried.past tried.callers tried.lowered in
       record {
         taken = taken;
@@ -129,6 +192,12 @@ module _ (site : Ground) (here : Site) (call : Call) (number : HasNumber here) (
                   let found = found_off site here call t.work t.start t.first (after_events e tried.events) r (tried.going t.work t.start t.first t.going) out in
                   inr (inr (since_before p t.first r t.events found t.since))
             ];
+        headway = headway_on p q r no_headway n last k.events tried.events k.took tried.took headway more;
+        drew = drew_by t.work t.start t.first then next r t.events taken.events last (λ _. t.asks) t.same t.since taken.took
+            (drew_on t.first q r n last t.going.events tried.events t.going.took tried.took drew more) (tried.tells t.work t.start t.first t.asks t.going);
+        plans = λ is on planned has.
+            (let g = subst (λ (x : Answer). Tells site here call t.work t.start t.first x next r) is (tried.tells t.work t.start t.first t.asks t.going) in
+            let of = g.1.plans planned has in (of.0, of.1 ∙ t.same.own));
       }
 
 -- while the power is not told off, it is on

@@ -3,7 +3,9 @@ use Rattle.std.specs.Prelude.{◌≡◌, ◌≢◌, ℕ, ◌^◌, ◌<◌, List,
 use Rattle.std.specs.FinMap.{get}
 use Rattle.atomic_table.specs.declared.shared.Seat.{Seat}
 use Rattle.image_layout.specs.Places.{block, root_word, words_of}
+use Rattle.trace.specs.Events.{Words}
 use Rattle.map_model.specs.declared.call.Call.{Call}
+use Rattle.map_model.specs.declared.entry.Entry.{Entry}
 use Rattle.map_model.specs.Map.{Map}
 use Rattle.map_model.specs.Weave.{weave}
 use Rattle.map_model.specs.Legal.{replay, IsLegal}
@@ -13,6 +15,7 @@ use Rattle.world.specs.Ground.{Ground}
 use Rattle.world.specs.Views.{View}
 use Rattle.world.specs.Media.{IsPossible}
 use Rattle.vlock.specs.declared.knows.Watch.{Watch}
+use Rattle.vlock.specs.Ends.{IsPowerCut}
 use Rattle.shared_image.specs.Closed.{replies_of}
 
 -- the views of passes, one for each
@@ -42,3 +45,11 @@ pub record LeavesGoodMedia (site : Ground) (passes : List (Seat ℕ Watch)) (new
   pub front : (medium : List ℕ) → MayBeLeft site passes newest medium → (i : ℕ) → i < block → i ≢ root_word → slice_index medium i ≡ site.front i
   -- the newest words may be left
   pub newest_may : MayBeLeft site passes newest newest
+
+-- HOW THE IMAGE WAS WHEN THE POWER WAS CUT: words and views of which `vlock` says what a cut is, with these replies; and the words that are given are those
+pub record WasCut (site : Ground) (replies : List (List Entry)) (given : List ℕ) : Type 0 where
+  pub words : Words
+  pub views : List View
+  pub cut : IsPowerCut site words views
+  pub told : map (λ v. v.own) views ≡ replies
+  pub same : (i : ℕ) → i < words_of site.shape → slice_index given i ≡ words i

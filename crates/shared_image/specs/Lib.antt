@@ -6,6 +6,7 @@ pub mod Calling
 pub mod Waiting
 pub use Rattle.shared_call.specs.Engines
 pub use Rattle.shared_call.specs.declared.tries.Answer
+pub use Rattle.shared_call.specs.Headway
 pub use Rattle.restart_op.specs.Restarted
 pub use Rattle.vlock.specs.Seats
 pub use Rattle.vlock.specs.declared.knows.Watch

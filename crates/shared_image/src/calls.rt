@@ -2,6 +2,7 @@
 
 ghost use Rattle.std.specs.Prelude.{◌≡◌, false, true};
 ghost use Rattle.shared_call.specs.Engines.{IsWordCall, repairing};
+ghost use Rattle.shared_call.specs.Headway.{no_headway, HasHeadway};
 ghost use Rattle.world.specs.Facts.{Lives};
 ghost use Rattle.world.specs.Views.{Has};
 ghost use Rattle.shared_call.specs.Tries.{IsTrying};
@@ -11,7 +12,7 @@ ghost use Rattle.shared_image.specs.Calling.{IsSiteOf, Rests, says_off, HasCalle
 use crate::image::{Pass, SharedImage};
 use map_model::Call;
 use outside::Gate;
-use shared_call::{Answer, Engine, Op, RepairOp, try_call, try_on};
+use shared_call::{Answer, Engine, Headway, Op, RepairOp, try_call, try_on};
 use world::Site;
 
 /// Notes an answer: the gate is told of a reply.
@@ -31,12 +32,13 @@ fn note_answer<G: Gate>(gate: &mut G, answer: Answer) -> bool
     }
 }
 
-/// The first try of a call, by a caller that rests; where its power was off before, nothing is done.
+/// The first try of a call, by a caller that rests; where its power was off before, nothing is done. The headway begins with it.
 pub(crate) fn first_try<G: Gate>(
     image: &SharedImage,
     pass: &mut Pass,
     gate: &mut G,
     engine: &mut Engine,
+    headway: &mut Headway,
     off: &mut bool,
     call: Call,
     site: &Site,
@@ -49,8 +51,10 @@ pub(crate) fn first_try<G: Gate>(
     ensures pass { IsPassOf image.now pass.new }
     ensures called { HasCalled (ground_in image.now) site.now call off.old pass.old.me.0 (G.left gate.old) (G.cuts gate.old) result engine.new pass.new.me.0 (G.left gate.new) (G.cuts gate.new) }
     ensures off { off.new ≡ says_off result }
+    ensures headway { HasHeadway pass.old.me.0 no_headway pass.new.me.0 headway.new }
 {
     if *off {
+        *headway = Headway::none();
         return Answer::Off;
     }
     let answer = try_call(
@@ -59,6 +63,7 @@ pub(crate) fn first_try<G: Gate>(
         pass,
         gate,
         engine,
+        headway,
         call,
         site,
     );
@@ -66,12 +71,13 @@ pub(crate) fn first_try<G: Gate>(
     answer
 }
 
-/// A try behind it, of the attempt that is under way, by `most` events at the most.
+/// A try behind it, of the attempt that is under way, by `most` events at the most, each of which is added to the headway.
 pub(crate) fn next_try<G: Gate>(
     image: &SharedImage,
     pass: &mut Pass,
     gate: &mut G,
     engine: &mut Engine,
+    headway: &mut Headway,
     off: &mut bool,
     call: Call,
     site: &Site,
@@ -85,6 +91,7 @@ pub(crate) fn next_try<G: Gate>(
     ensures pass { IsPassOf image.now pass.new }
     ensures tried { HasGoneOnTrying (ground_in image.now) site.now call most off.old engine.old pass.old.me.0 (G.left gate.old) (G.cuts gate.old) result engine.new pass.new.me.0 (G.left gate.new) (G.cuts gate.new) }
     ensures off { off.new ≡ says_off result }
+    ensures headway { HasHeadway pass.old.me.0 headway.old pass.new.me.0 headway.new }
 {
     if *off {
         return Answer::Off;
@@ -95,6 +102,7 @@ pub(crate) fn next_try<G: Gate>(
         pass,
         gate,
         engine,
+        headway,
         call,
         site,
         most,
@@ -116,6 +124,7 @@ pub(crate) fn try_repair_in<G: Gate>(
     pass: &mut Pass,
     gate: &mut G,
     engine: &mut Engine,
+    headway: &mut Headway,
     off: &mut bool,
     call: Call,
     site: &Site,
@@ -132,8 +141,9 @@ pub(crate) fn try_repair_in<G: Gate>(
     ensures pass { IsPassOf image.now pass.new }
     ensures tried { HasGoneOnTrying (ground_in image.now) site.now call most off.old (repairing site.now segment) pass.old.me.0 (G.left gate.old) (G.cuts gate.old) result engine.new pass.new.me.0 (G.left gate.new) (G.cuts gate.new) }
     ensures off { off.new ≡ says_off result }
+    ensures headway { HasHeadway pass.old.me.0 headway.old pass.new.me.0 headway.new }
 {
     shared_call::attempts_begin_and_end();
     let _ = segment;
-    next_try(image, pass, gate, engine, off, call, site, most)
+    next_try(image, pass, gate, engine, headway, off, call, site, most)
 }

@@ -4,8 +4,8 @@ ghost use Rattle.std.specs.Prelude.{◌≡◌, ◌+◌, All, length};
 ghost use Rattle.image_layout.specs.Places.{words_of};
 ghost use Rattle.sound_image.specs.Image.{IsSoundImage};
 ghost use Rattle.shared_image.specs.Powered.{IsOn, IsKeeperOf, IsPassOf, ground_in, callers_left};
-ghost use Rattle.shared_image.specs.Closed.{callers_of};
-ghost use Rattle.shared_image.specs.Cutting.{LeavesGoodMedia};
+ghost use Rattle.shared_image.specs.Closed.{callers_of, replies_of};
+ghost use Rattle.shared_image.specs.Cutting.{LeavesGoodMedia, WasCut};
 
 use crate::image::{Keeper, Pass, SharedImage};
 use crate::taking::take_all;
@@ -21,6 +21,7 @@ pub fn cut(image: SharedImage, keeper: Keeper, passes: Vec<Pass>) -> Vec<u64>
     ensures length { length result.items ≡ words_of (ground_in image).shape }
     ensures sound { IsSoundImage (ground_in image).shape result.items }
     ensures media { LeavesGoodMedia (ground_in image) passes.items result.items }
+    ensures was_cut { WasCut (ground_in image) (replies_of passes.items) result.items }
 {
     let SharedImage {
         table,

@@ -20,4 +20,4 @@ pub use closing::close;
 pub use cutting::cut;
 pub use image::{Keeper, Pass, SharedImage};
 pub use power::power_on;
-pub use shared_call::Answer;
+pub use shared_call::{Answer, Headway};

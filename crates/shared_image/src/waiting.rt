@@ -3,6 +3,7 @@
 ghost use Rattle.std.specs.Prelude.{◌≡◌, false, None, is_none};
 ghost use Rattle.map_model.specs.declared.call.Call.TheVariants.{Get, Insert, Update, Remove};
 ghost use Rattle.shared_call.specs.Engines.{IsWordCall};
+ghost use Rattle.shared_call.specs.Headway.{no_headway, HasHeadway, PlansCall, HasDrawn};
 ghost use Rattle.shared_image.specs.Powered.{ground_in, IsOn, IsPassOf};
 ghost use Rattle.shared_image.specs.Calling.{IsSiteOf, IsCallerOf, Rests};
 ghost use Rattle.shared_image.specs.Waiting.{HasTaken, CameToReply, GaveUpFor};
@@ -13,7 +14,7 @@ use crate::image::{Pass, SharedImage};
 use crossbeam_utils::Backoff;
 use map_model::{Call, Reply};
 use outside::Gate;
-use shared_call::{Answer, Engine};
+use shared_call::{Answer, Engine, Headway};
 use std::sync::Wait;
 use world::Site;
 
@@ -27,6 +28,7 @@ pub(crate) fn call_in<R: Wait, G: Gate>(
     pass: &mut Pass,
     gate: &mut G,
     engine: &mut Engine,
+    headway: &mut Headway,
     off: &mut bool,
     call: Call,
     site: &Site,
@@ -41,16 +43,29 @@ pub(crate) fn call_in<R: Wait, G: Gate>(
     ensures taken { HasTaken pass.old.me.0 (G.left gate.old) pass.new.me.0 (G.left gate.new) }
     ensures why { result ≡ None → GaveUpFor off.old pass.old.me.0 (G.left gate.old) pass.new.me.0 (G.left gate.new) (G.cuts gate.new) }
     ensures off { off.new ≡ is_none result }
+    ensures headway { HasHeadway pass.old.me.0 no_headway pass.new.me.0 headway.new }
+    ensures drawn { result ≡ None → HasDrawn call pass.old.me.0.view headway.new.drew pass.new.me.0.view }
+    ensures planned { result ≡ None → off.old ≡ false → PlansCall call pass.old.me.0.view pass.new.me.0.view }
 {
     let backoff = Backoff::new();
-    let mut answer = first_try(image, pass, gate, engine, off, call, site);
+    let mut answer = first_try(image, pass, gate, engine, headway, off, call, site);
     for _ in rt.forever() {
         answer = match answer {
             Answer::Replied(reply, place) => return Some((reply, place)),
             Answer::Off => return None,
             _ => {
                 backoff.snooze();
-                next_try(image, pass, gate, engine, off, call, site, EVENTS_OF_TRY)
+                next_try(
+                    image,
+                    pass,
+                    gate,
+                    engine,
+                    headway,
+                    off,
+                    call,
+                    site,
+                    EVENTS_OF_TRY,
+                )
             }
         };
     }
@@ -59,7 +74,7 @@ pub(crate) fn call_in<R: Wait, G: Gate>(
 
 impl<'a, G: Gate> Caller<'a, G> {
     /// Makes a call: it is tried until it has a reply, which is given with its place, or none where the power is off. What the call needs is
-    /// split and repaired.
+    /// split and repaired. Where it has no reply [`Caller::headway`] tells whether it has begun, and which place it drew.
     pub fn make<R: Wait>(&mut self, rt: &R, call: Call) -> Option<(Reply, u64)>
         requires caller { IsCallerOf self.old.image.now self.old.pass self.old.site self.old.call }
         requires call { IsWordCall call }
@@ -70,6 +85,9 @@ impl<'a, G: Gate> Caller<'a, G> {
         ensures taken { HasTaken self.old.pass.me.0 (G.left self.old.gate) self.new.pass.me.0 (G.left self.new.gate) }
         ensures why { result ≡ None → GaveUpFor self.old.off self.old.pass.me.0 (G.left self.old.gate) self.new.pass.me.0 (G.left self.new.gate) (G.cuts self.new.gate) }
         ensures off { self.new.off ≡ is_none result }
+        ensures headway { HasHeadway self.old.pass.me.0 no_headway self.new.pass.me.0 self.new.headway }
+        ensures drawn { result ≡ None → HasDrawn call self.old.pass.me.0.view self.new.headway.drew self.new.pass.me.0.view }
+        ensures planned { result ≡ None → self.old.off ≡ false → PlansCall call self.old.pass.me.0.view self.new.pass.me.0.view }
     {
         self.call = call;
         call_in(
@@ -78,6 +96,7 @@ impl<'a, G: Gate> Caller<'a, G> {
             &mut self.pass,
             &mut self.gate,
             &mut self.engine,
+            &mut self.headway,
             &mut self.off,
             call,
             &self.site,
@@ -94,6 +113,9 @@ impl<'a, G: Gate> Caller<'a, G> {
         ensures taken { HasTaken self.old.pass.me.0 (G.left self.old.gate) self.new.pass.me.0 (G.left self.new.gate) }
         ensures why { result ≡ None → GaveUpFor self.old.off self.old.pass.me.0 (G.left self.old.gate) self.new.pass.me.0 (G.left self.new.gate) (G.cuts self.new.gate) }
         ensures off { self.new.off ≡ is_none result }
+        ensures headway { HasHeadway self.old.pass.me.0 no_headway self.new.pass.me.0 self.new.headway }
+        ensures drawn { result ≡ None → HasDrawn (Get key) self.old.pass.me.0.view self.new.headway.drew self.new.pass.me.0.view }
+        ensures planned { result ≡ None → self.old.off ≡ false → PlansCall (Get key) self.old.pass.me.0.view self.new.pass.me.0.view }
     {
         self.make(rt, Call::Get(key))
     }
@@ -108,6 +130,9 @@ impl<'a, G: Gate> Caller<'a, G> {
         ensures taken { HasTaken self.old.pass.me.0 (G.left self.old.gate) self.new.pass.me.0 (G.left self.new.gate) }
         ensures why { result ≡ None → GaveUpFor self.old.off self.old.pass.me.0 (G.left self.old.gate) self.new.pass.me.0 (G.left self.new.gate) (G.cuts self.new.gate) }
         ensures off { self.new.off ≡ is_none result }
+        ensures headway { HasHeadway self.old.pass.me.0 no_headway self.new.pass.me.0 self.new.headway }
+        ensures drawn { result ≡ None → HasDrawn (Insert key value) self.old.pass.me.0.view self.new.headway.drew self.new.pass.me.0.view }
+        ensures planned { result ≡ None → self.old.off ≡ false → PlansCall (Insert key value) self.old.pass.me.0.view self.new.pass.me.0.view }
     {
         self.make(rt, Call::Insert(key, value))
     }
@@ -122,6 +147,9 @@ impl<'a, G: Gate> Caller<'a, G> {
         ensures taken { HasTaken self.old.pass.me.0 (G.left self.old.gate) self.new.pass.me.0 (G.left self.new.gate) }
         ensures why { result ≡ None → GaveUpFor self.old.off self.old.pass.me.0 (G.left self.old.gate) self.new.pass.me.0 (G.left self.new.gate) (G.cuts self.new.gate) }
         ensures off { self.new.off ≡ is_none result }
+        ensures headway { HasHeadway self.old.pass.me.0 no_headway self.new.pass.me.0 self.new.headway }
+        ensures drawn { result ≡ None → HasDrawn (Update key value) self.old.pass.me.0.view self.new.headway.drew self.new.pass.me.0.view }
+        ensures planned { result ≡ None → self.old.off ≡ false → PlansCall (Update key value) self.old.pass.me.0.view self.new.pass.me.0.view }
     {
         self.make(rt, Call::Update(key, value))
     }
@@ -136,6 +164,9 @@ impl<'a, G: Gate> Caller<'a, G> {
         ensures taken { HasTaken self.old.pass.me.0 (G.left self.old.gate) self.new.pass.me.0 (G.left self.new.gate) }
         ensures why { result ≡ None → GaveUpFor self.old.off self.old.pass.me.0 (G.left self.old.gate) self.new.pass.me.0 (G.left self.new.gate) (G.cuts self.new.gate) }
         ensures off { self.new.off ≡ is_none result }
+        ensures headway { HasHeadway self.old.pass.me.0 no_headway self.new.pass.me.0 self.new.headway }
+        ensures drawn { result ≡ None → HasDrawn (Remove key) self.old.pass.me.0.view self.new.headway.drew self.new.pass.me.0.view }
+        ensures planned { result ≡ None → self.old.off ≡ false → PlansCall (Remove key) self.old.pass.me.0.view self.new.pass.me.0.view }
     {
         self.make(rt, Call::Remove(key))
     }

@@ -1,4 +1,4 @@
-//! Callers whose gate cuts the power: before a call, or in its midst.
+//! Callers whose gate cuts the power: before a call, or in its midst; and one that turns it off for all.
 
 ghost use Rattle.shared_image.specs.Powered.{IsOn, IsPassOf};
 ghost use Rattle.shared_image.specs.Calling.{Rests};
@@ -45,5 +45,35 @@ fn a_call_that_is_cut_off_gives_up_and_others_go_on(rt: HostRuntime) -> Result<(
     assert!(rt; matches!(at_once, Err(Answer::Off)));
     assert!(rt; matches!(in_midst, Err(Answer::Off)));
     assert!(rt; matches!(whole, Ok((Reply::Found(7), 0))));
+    Ok(())
+}
+
+/// Turns the power off, by a caller that makes no call.
+fn turn_off_by(image: &SharedImage, pass: Pass)
+    requires on { IsOn image.now }
+    requires pass { IsPassOf image.now pass }
+    requires rests { Rests pass }
+{
+    let gate = Fuse {
+        left: None,
+        cut: false,
+    };
+    let mut caller = Caller::new(image, pass, gate, 1);
+    caller.turn_off();
+}
+
+#[test]
+fn a_call_gives_up_where_another_caller_has_turned_the_power_off(
+    rt: HostRuntime,
+) -> Result<(), Fail> {
+    let (image, mut keeper) = shared(rt.alloc(), 3)?;
+    let first = cut_off(&image, &mut keeper);
+    let second = cut_off(&image, &mut keeper);
+    let third = cut_off(&image, &mut keeper);
+    let before = look_up(&rt, &image, first, 150);
+    turn_off_by(&image, second);
+    let behind = look_up(&rt, &image, third, 150);
+    assert!(rt; matches!(before, Ok((Reply::Found(7), 0))));
+    assert!(rt; matches!(behind, Err(Answer::Off)));
     Ok(())
 }
