@@ -47,9 +47,11 @@ pub was_shared : (site : Ground) (shape : Shape) (first last : List ℕ) (image 
 was_shared site shape first last image jobs passes lists same before restarted started sound clean replied ended c =
     let back = sym same in
     record {
-      image = subst (λ (s : Shape). IsSoundImage s first) back before;
-      restarted = subst (λ (s : Shape). site.front ≡ words_at_end s first) back restarted;
-      started = subst (λ (s : Shape). (m : Map) → HasPairsOf s (slice_index first) m → (k : ℕ) → get m k ≡ site.start k) back started;
+      power_on = record {
+        image = subst (λ (s : Shape). IsSoundImage s first) back before;
+        restarted = subst (λ (s : Shape). site.front ≡ words_at_end s first) back restarted;
+        started = subst (λ (s : Shape). (m : Map) → HasPairsOf s (slice_index first) m → (k : ℕ) → get m k ≡ site.start k) back started;
+      };
       sound = sound;
       clean = clean;
       replied = subst (λ (es : List (List Entry)). HasWhatWasReplied site ([] ∷ es) last) c.replies replied;

@@ -1,5 +1,8 @@
 pub mod Owners
+pub mod SameWords
 pub mod ToSession
+pub mod AtCut
+pub mod CutToSession
 pub mod Told
 pub mod OneByOne
 pub mod Lists

@@ -1,12 +1,11 @@
 -- What callers were told of an image that was restarted, shared and closed is a session.
-use Rattle.std.proofs.Common.{◌≡◌, ◌≢◌, ℕ, ◌+◌, ◌*◌, ◌^◌, ◌<◌, List, inl, inr, refl, sym, ap, ◌∙◌, subst, arith}
+use Rattle.std.proofs.Common.{◌≡◌, ◌≢◌, ℕ, ◌^◌, ◌<◌, List, inl, inr, refl, sym, ap, ◌∙◌, subst, arith}
 use Rattle.std.specs.Prelude.{map, slice_index, Contains}
 use Rattle.std.specs.List.{AllByRecursion, AllZip}
 use Rattle.std.specs.FinMap.{get}
 use Rattle.trace.specs.Events.{Words}
-use Rattle.segment_head.specs.HeadWord.{state_in, free}
-use Rattle.bucket_meta.specs.Bucket.{lock_version}
-use Rattle.image_layout.specs.Places.{Shape, bucket_at, buckets}
+use Rattle.segment_head.specs.HeadWord.{free}
+use Rattle.image_layout.specs.Places.{Shape}
 use Rattle.map_model.specs.declared.call.Call.{Call}
 use Rattle.map_model.specs.declared.entry.Entry.{Entry}
 use Rattle.map_model.specs.declared.entry.Reply.TheVariants.{Full, Spent}
@@ -17,21 +16,16 @@ use Rattle.map_model.specs.ByPlaces.{map_at}
 use Rattle.map_model.proofs.Elements.{All-from_each}
 use Rattle.sound_image.specs.Segments.{frame_of, state_at}
 use Rattle.session.specs.Left.{HasPairsOf}
-use Rattle.segment_table.proofs.stores.Moved.{live_same}
 use Rattle.session.specs.Session.{IsClosed, HadNoRoom, HasSpentBucket}
-use Rattle.shared_image.proofs.Beginning.{is_restart}
-use Rattle.world.specs.Ground.{Ground, HasSpentLock}
+use Rattle.world.specs.Ground.{Ground}
 use Rattle.world.specs.Views.{View}
-use Rattle.world.specs.areas.Areas.{header_word}
 use Rattle.play.specs.Runs.{all_own}
 use Rattle.play.proofs.Causing.{had_room, drawn}
 use Rattle.play.proofs.CutSession.{same_shape}
 use Rattle.serve.specs.Served.{AreMade, told_by, IsServedSession, WasShared, ServedIsSession}
 use Rattle.serve.proofs.Told.{histories, all_follow, all_answered}
 use Rattle.serve.proofs.Owners.{whose, among}
-
-lock_within : (first s b n : ℕ) → s < n → b < buckets → first + 2144 * s + 32 + 32 * b < first + 2144 * n
-lock_within first s b n q h = omega (arith, q, h)
+use Rattle.serve.proofs.SameWords.{none_free as no_slot_free, spent_bucket}
 
 module _ (site : Ground) (first last : List ℕ) (scripts : List (List Call)) (lists : List (List Entry)) (w : WasShared site first lists last) (made : AllZip AreMade scripts lists)
     (opening : Map) (has : HasPairsOf site.shape (slice_index first) opening) where
@@ -39,7 +33,7 @@ module _ (site : Ground) (first last : List ℕ) (scripts : List (List Call)) (l
   shape = site.shape
 
   starts : (k : ℕ) → get opening k ≡ site.start k
-  starts k = w.started opening has k
+  starts k = w.power_on.started opening has k
 
   abbrev words : Words
   words = w.ended.words
@@ -54,18 +48,6 @@ module _ (site : Ground) (first last : List ℕ) (scripts : List (List Call)) (l
   legal : IsLegal opening lists
   legal = let l = (w.replied opening starts).0 in record { callers = l.callers.1; places = l.places; each_once = l.each_once; replies = l.replies }
 
-  -- ---- words that are as they were at the end
-  same_head : (s : ℕ) → s < shape.segments → slice_index last (header_word shape s) ≡ words (header_word shape s)
-  same_head s slot = w.ended.same (header_word shape s) (omega (arith, slot)) (λ e. omega (arith, e))
-
-  same_lock : (s b : ℕ) → s < shape.segments → b < buckets → slice_index last (bucket_at shape s b) ≡ words (bucket_at shape s b)
-  same_lock s b slot near = w.ended.same (bucket_at shape s b) (lock_within _ s b shape.segments slot near) (λ e. omega (arith, e))
-
-  -- a slot that was free in the image is so at the start
-  free_still : (s : ℕ) → s < shape.segments → state_in (slice_index first (header_word shape s)) ≡ free → state_in (site.front (header_word shape s)) ≡ free
-  free_still s slot was =
-      ap (λ (ws : Words). state_in (ws (header_word shape s))) w.restarted ∙ ((is_restart shape first 0 w.image (omega arith)).left.heads s slot).state ∙ was
-
   had_all : AllByRecursion (λ e. HadNoRoom shape (map_at opening (all_own views) e.place) e) (all_own views)
   had_all = All-from_each _ (all_own views) (λ e is_in. let o = whose views e is_in in had_room site words views w.ended.ended.log w.ended.ended.history opening starts o.0 o.1 e o.2 o.3)
 
@@ -73,24 +55,14 @@ module _ (site : Ground) (first last : List ℕ) (scripts : List (List Call)) (l
       → state_at (frame_of shape (slice_index first)) s ≡ free → state_at (frame_of shape (slice_index last)) s ≢ free
   none_free e there is s slot was now =
       let o = whose views e (among (all_own views) e (subst (λ (es : List Entry). Contains es e) (sym all_told) there)) in
-      w.ended.ended.causes.full o.0 o.1 e o.2 o.3 is s slot (free_still s slot was) (sym (ap state_in (same_head s slot)) ∙ now)
-
-  spent_bucket : HasSpentLock shape words → HasSpentBucket shape last
-  spent_bucket (lock, ((s, b, slot, near, at, lives), is_last)) = record {
-    s = s;
-    b = b;
-    slot = slot;
-    bucket = near;
-    live = live_same (frame_of shape words) (frame_of shape (slice_index last)) s (same_head s slot) lives.live;
-    spent = ap lock_version (same_lock s b slot near ∙ ap words (sym at) ∙ is_last);
-  }
+      no_slot_free site first last w.power_on words w.ended.same (w.ended.ended.causes.full o.0 o.1 e o.2 o.3 is) s slot was now
 
   spent : (e : Entry) → Contains (all_of lists) e → e.reply ≡ Spent → draws (all_of lists) < 2 ^ 63 → HasSpentBucket shape last
   spent e there is few =
       let o = whose views e (among (all_own views) e (subst (λ (es : List Entry). Contains es e) (sym all_told) there)) in
       elim (w.ended.ended.causes.spent o.0 o.1 e o.2 o.3 is) [
         | inl many ↦ absurd (let d = sym (ap draws all_told) ∙ drawn site words views w.ended.ended.log w.ended.ended.history in omega (arith, many, few, d))
-        | inr lock ↦ spent_bucket lock
+        | inr lock ↦ spent_bucket site first last w.power_on words w.ended.same lock
       ]
 
   abbrev Hists : List (List Entry) → Type 0
@@ -119,7 +91,7 @@ module _ (site : Ground) (first last : List ℕ) (scripts : List (List Call)) (l
           opening_pairs = has;
           legal = h.0;
           sound = w.sound;
-          same_shape = same_shape shape first last w.image.says_shape w.sound.says_shape;
+          same_shape = same_shape shape first last w.power_on.image.says_shape w.sound.says_shape;
           after_close = λ _. h.1;
           after_cut = λ cut. absurd (let z = cut in cc);
           had_no_room = h.2;

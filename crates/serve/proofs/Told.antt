@@ -15,7 +15,7 @@ histories (es ∷ lists) = ap (λ (ls : List (List Entry)). es ∷ ls) (historie
 same_length : (calls : List Call) (entries : List Entry) → AreMade calls entries → length entries ≡ length calls
 same_length calls entries made = sym (length-map entries (λ (e : Entry). e.call)) ∙ ap length made
 
-follows : (calls : List Call) (entries : List Entry) → AreMade calls entries → FollowsScript calls (told_by entries)
+pub follows : (calls : List Call) (entries : List Entry) → AreMade calls entries → FollowsScript calls (told_by entries)
 follows calls entries made =
     let long = same_length calls entries made in
     record {

@@ -34,11 +34,15 @@ abbrev pub IsServedSession : Shape → List ℕ → List (List Call) → List (L
 IsServedSession shape first scripts lists last =
     IsSession shape first last scripts (record { closed = true; scheduled = false }) (transcript_of (map told_by lists)) × AllZip AreMade scripts lists
 
--- an image was restarted, shared and closed, with these replies of its callers; the keeper has none
-pub record WasShared (site : Ground) (first : List ℕ) (lists : List (List Entry)) (last : List ℕ) : Type 0 where
+-- an image was sound, and its restart left the words that callers shared, with its pairs
+pub record WasPoweredOn (site : Ground) (first : List ℕ) : Type 0 where
   pub image : IsSoundImage site.shape first
   pub restarted : site.front ≡ words_at_end site.shape first
   pub started : (m : Map) → HasPairsOf site.shape (slice_index first) m → (k : ℕ) → get m k ≡ site.start k
+
+-- an image was restarted, shared and closed, with these replies of its callers; the keeper has none
+pub record WasShared (site : Ground) (first : List ℕ) (lists : List (List Entry)) (last : List ℕ) : Type 0 where
+  pub power_on : WasPoweredOn site first
   pub sound : IsSoundImage site.shape last
   pub clean : IsClean (frame_of site.shape (slice_index last))
   pub replied : HasWhatWasReplied site ([] ∷ lists) last

@@ -11,4 +11,4 @@ mod sessions;
 
 pub use play::{play, sessions_compose};
 pub use serving::serve;
-pub use sessions::served_is_session;
+pub use sessions::{served_cut_is_session, served_is_session};
