@@ -119,6 +119,7 @@ module _ (site : Ground) (e : Engine) (p : Watch) (left : Option (Option ℕ)) w
       later = later_itself p.view;
       callers = refl;
       lowered = not_lowered left;
+      idle = λ none. refl;
       going = λ here call work start first g. g;
     };
     count = refl;
@@ -142,6 +143,7 @@ module _ (site : Ground) (e : Engine) (p : Watch) (left : Option (Option ℕ)) w
           later = later_joined p.view q.view r.view k.later t.later;
           callers = t.callers ∙ k.callers;
           lowered = lets left now after (length k.events) k.lowered passes;
+          idle = λ none. absurd (cc);
           going = λ here call work start first g. goes_on site here call work laws start first q r next then asks (k.going here call work start first g) t;
         };
         count = (let c = on.count in omega (arith, c));
@@ -178,6 +180,7 @@ module _ (site : Ground) (e : Engine) (p : Watch) (left : Option (Option ℕ)) w
           later = k.later;
           callers = k.callers;
           lowered = cuts_off left now after (length k.events) k.lowered passes;
+          idle = k.idle;
           going = k.going;
         };
         few = (let c = on.count in omega (arith, few, c));

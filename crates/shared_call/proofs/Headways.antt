@@ -1,5 +1,5 @@
 -- How far events bring a call, and that each keeps the entry of the call as its headway says.
-use Rattle.std.proofs.Common.{◌≡◌, ℕ, suc, ◌≤◌, true, inl, inr, Option, None, Some, option_map, List, [], ◌∷◌, ◌++◌, length, refl, sym, ap, ◌∙◌, subst, arith, append_assoc, length-append}
+use Rattle.std.proofs.Common.{◌≡◌, ℕ, suc, ◌≤◌, true, false, inl, inr, Option, None, Some, option_map, List, [], ◌∷◌, ◌++◌, length, refl, sym, ap, ◌∙◌, subst, arith, append_assoc, length-append}
 use Rattle.std.proofs.lemmas.List.{append_cancel_right}
 use Rattle.op_core.specs.declared.want.Want.{Want}
 use Rattle.op_core.specs.declared.want.Ans.{Ans}
@@ -11,7 +11,7 @@ use Rattle.map_model.specs.declared.entry.Reply.TheVariants.{Done}
 use Rattle.map_model.specs.Map.{is_done}
 use Rattle.world.specs.declared.site.Site.{Site}
 use Rattle.world.specs.Ground.{Ground}
-use Rattle.world.specs.Views.{View, Has}
+use Rattle.world.specs.Views.{View}
 use Rattle.world.specs.Wants.{answer_to}
 use Rattle.world.specs.Kinds.{next_entry}
 use Rattle.world.specs.StepKinds.{StepKind, wanted_of, view_by, MayTake}
@@ -57,6 +57,15 @@ with_same a b ans same = same
 pub after_same : (events : List (Want × ℕ)) (a b : Headway) → a.drew ≡ b.drew → (headway_after events a).drew ≡ (headway_after events b).drew
 after_same [] a b same = same
 after_same (x ∷ events) a b same = with_same (headway_after events a) (headway_after events b) (answer_to x.0 x.1) (after_same events a b same)
+
+-- a call has begun as soon as an event was taken
+with_begun : (n : Headway) (ans : Ans) → (headway_with n ans).begun ≡ true
+with_begun n (Drawn place) = refl
+with_begun n ans = refl
+
+pub unbegun : (events : List (Want × ℕ)) (before : Headway) → (headway_after events before).begun ≡ false → events ≡ []
+unbegun [] before idle = refl
+unbegun (x ∷ events) before idle = absurd (let no : true ≡ false = sym (with_begun (headway_after events before) (answer_to x.0 x.1)) ∙ idle in cc)
 
 -- ---- the entry of a call
 -- a view that has no more than before has drawn none

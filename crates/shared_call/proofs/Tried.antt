@@ -109,6 +109,7 @@ module _ (laws : AttemptLaws) (site : Ground) (here : Site) (call : Call) (groun
       later = gone.taking.later;
       callers = gone.taking.callers;
       lowered = gone.taking.lowered;
+      idle = gone.taking.idle;
       off_by = λ is. subst (λ (x : Engine). (HasNoneLeft left now × (0 < cuts)) ⊎ (op_part.outcome x.op ≡ Some off)) gone.taking.engine (off_by is);
       uncut = uncut;
       going = λ work start first g. subst (λ (x : Engine). IsGoing site here call work start first x q) gone.taking.engine (gone.taking.going here call work start first g);

@@ -1,5 +1,5 @@
 -- An attempt behind a gate, which is asked before each event.
-use Rattle.std.specs.Prelude.{◌≡◌, ◌≢◌, ℕ, ⊤, ◌+◌, ◌<◌, ◌≤◌, Option, None, Some, List, ◌++◌, length}
+use Rattle.std.specs.Prelude.{◌≡◌, ◌≢◌, ℕ, ⊤, ◌+◌, ◌<◌, ◌≤◌, Option, None, Some, List, [], ◌++◌, length}
 use Rattle.op_core.specs.declared.want.Want.{Want}
 use Rattle.op_core.specs.declared.want.Want.TheVariants.{Done}
 use Rattle.map_model.specs.declared.call.Call.{Call}
@@ -68,6 +68,8 @@ pub record IsTaking (site : Ground) (e : Engine) (p : Watch) (left : Option (Opt
   pub later : IsLater p.view q.view
   pub callers : q.view.callers ≡ p.view.callers
   pub lowered : IsLowered left (length events) now
+  -- where it took none it knows what it knew
+  pub idle : events ≡ [] → q ≡ p
   pub going : (here : Site) (call : Call) (work : Work) (start : Engine) (first : Watch) → IsGoing site here call work start first e p → IsGoing site here call work start first next q
 
 -- WHERE IT STOPPED, after so many events of so many at most: the engine wants nothing more; or it wants an event more, and as many were taken as might be,

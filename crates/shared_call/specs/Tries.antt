@@ -76,6 +76,8 @@ pub record HasTried (site : Ground) (here : Site) (call : Call) (most : ℕ) (e 
   pub later : IsLater p.view q.view
   pub callers : q.view.callers ≡ p.view.callers
   pub lowered : IsLowered left (length events) now
+  -- where it took none the seat knows what it knew
+  pub idle : events ≡ [] → q ≡ p
   -- the power is told off where the gate has cut it, and has no pass left where it told of them, or where the engine found it off
   pub off_by : answer ≡ answers.Off → (HasNoneLeft left now × (0 < cuts)) ⊎ (op_part.outcome (after_events e events).op ≡ Some off)
   -- a gate that let an event through has not cut, unless the power is told off

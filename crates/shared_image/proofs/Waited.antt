@@ -22,7 +22,7 @@ use Rattle.shared_call.specs.Gated.{IsLowered, HasNoneLeft}
 use Rattle.shared_call.specs.Tries.{IsTrying, Tells, HasTried}
 use Rattle.shared_call.specs.declared.headway.Headway.{Headway}
 use Rattle.shared_call.specs.Headway.{no_headway, headway_after, HasHeadway, PlansCall, HasDrawn}
-use Rattle.shared_call.proofs.Headways.{after_both, after_same, none_drawn, drawn_since, headway_on}
+use Rattle.shared_call.proofs.Headways.{unbegun, after_both, after_same, none_drawn, drawn_since, headway_on}
 use Rattle.shared_call.proofs.Gating.{not_lowered}
 use Rattle.shared_call.proofs.FoundOff.{found_off, found_by, since_before}
 use Rattle.shared_image.specs.Calling.{says_off, HasCalled, HasGoneOnTrying}
@@ -83,6 +83,10 @@ drew_on first q r n now old more took then drew headway events all =
     ∙ (after_same more n (headway_after old no_headway) (drew old took)
     ∙ (ap (λ (x : Headway). x.drew) (sym (after_both more old no_headway)) ∙ ap (λ (es : List (Want × ℕ)). (headway_after es no_headway).drew) (sym same)))
 
+-- a seat took no event where a call has not begun by then
+none_since : (p q : Watch) (before now : Headway) (events : List (Want × ℕ)) → q.took ≡ events ++ p.took → HasHeadway p before q now → now.begun ≡ false → events ≡ []
+none_since p q before now events took headway idle = unbegun events before (ap (λ (x : Headway). x.begun) (sym (headway events took)) ∙ idle)
+
 -- where a call stands that was told this, by the place that it drew
 abbrev pub DrewAt : Ground → Site → Call → Watch → Answer → Engine → Watch → Headway → Type 0
 DrewAt site here call p (answers.Replied reply place) e q n = ⊤
@@ -96,6 +100,7 @@ pub record IsWaiting (site : Ground) (here : Site) (call : Call) (off : Bool) (p
   pub stands : StandsAt site here call p answer e q
   pub why : answer ≡ answers.Off → GaveUpFor off p left q now cuts
   pub headway : HasHeadway p no_headway q n
+  pub idle : n.begun ≡ false → q ≡ p
   pub drew : DrewAt site here call p answer e q n
   pub plans : answer ≡ answers.Off → off ≡ false → PlansCall call p.view q.view
 
@@ -141,6 +146,7 @@ module _ (site : Ground) (here : Site) (call : Call) (number : HasNumber here) (
     stands = subst (λ (x : Answer). StandsAt site here call p x next q) (sym c.0) tt;
     why = λ _. inl (refl, c.1);
     headway = headway;
+    idle = λ _. c.1;
     drew = subst (λ (x : Answer). DrewAt site here call p x next q n) (sym c.0)
         (subst (λ (d : Option ℕ). HasDrawn call p.view d q.view) (sym (ap (λ (x : Headway). x.drew) (headway [] (ap (λ (x : Watch). x.took) c.1))))
         (inl (ap (λ (x : Watch). x.view.own) c.1)));
@@ -157,6 +163,7 @@ module _ (site : Ground) (here : Site) (call : Call) (number : HasNumber here) (
               inr (inr (found_by site here call calls (begun here call) p g.0 q c.0.events g.1 c.0.took out))
         ];
     headway = headway;
+    idle = λ unbegun. c.0.idle (none_since p q no_headway n c.0.events c.0.took headway unbegun);
     drew = drew_by calls (begun here call) p answer next q [] c.0.events n (λ is. absurd (c.2 is)) (record { own = refl; seen = refl }) refl c.0.took (drew_of p q n headway) c.1;
     plans = λ is on. (subst (λ (x : Answer). Tells site here call calls (begun here call) p x next q) is c.1).1.plans;
   }
@@ -178,9 +185,9 @@ module _ (site : Ground) (here : Site) (call : Call) (number : HasNumber here) (
   trying_now e q t = record { work = t.work; start = t.start; first = t.first; going = t.going; asks = t.asks }
 
   pub waited_on : (off : Bool) (left now after : Option (Option ℕ)) (cuts most : ℕ) (then : Answer) (e next : Engine) (q r : Watch) (n last : Headway) (t : IsTryingSince site here call p e q)
-      → DrewSince t.first q n → HasTaken p left q now → HasHeadway p no_headway q n → HasTried site here call most e q now then next r after cuts → HasHeadway q n r last
+      → DrewSince t.first q n → HasTaken p left q now → HasHeadway p no_headway q n → (n.begun ≡ false → q ≡ p) → HasTried site here call most e q now then next r after cuts → HasHeadway q n r last
       → IsWaiting site here call off p left then next r after cuts last
-  waited_on off left now after cuts most then e next q r n last t drew k headway tried more =
+  waited_on off left now after cuts most then e next q r n last t drew k headway idle tried more =
       let taken = taken_on p q r left now after tried.events k tried.took tried.past tried.callers tried.lowered in
       record {
         taken = taken;
@@ -193,6 +200,10 @@ module _ (site : Ground) (here : Site) (call : Call) (number : HasNumber here) (
                   inr (inr (since_before p t.first r t.events found t.since))
             ];
         headway = headway_on p q r no_headway n last k.events tried.events k.took tried.took headway more;
+        idle = λ unbegun.
+            (let none = none_since q r n last tried.events tried.took more unbegun in
+            let same : last ≡ n = more tried.events tried.took ∙ ap (λ (es : List (Want × ℕ)). headway_after es n) none in
+            tried.idle none ∙ idle (ap (λ (x : Headway). x.begun) (sym same) ∙ unbegun));
         drew = drew_by t.work t.start t.first then next r t.events taken.events last (λ _. t.asks) t.same t.since taken.took
             (drew_on t.first q r n last t.going.events tried.events t.going.took tried.took drew more) (tried.tells t.work t.start t.first t.asks t.going);
         plans = λ is on planned has.

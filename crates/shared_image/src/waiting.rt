@@ -44,6 +44,7 @@ pub(crate) fn call_in<R: Wait, G: Gate>(
     ensures why { result ≡ None → GaveUpFor off.old pass.old.me.0 (G.left gate.old) pass.new.me.0 (G.left gate.new) (G.cuts gate.new) }
     ensures off { off.new ≡ is_none result }
     ensures headway { HasHeadway pass.old.me.0 no_headway pass.new.me.0 headway.new }
+    ensures idle { result ≡ None → headway.new.begun ≡ false → pass.new.me.0 ≡ pass.old.me.0 }
     ensures drawn { result ≡ None → HasDrawn call pass.old.me.0.view headway.new.drew pass.new.me.0.view }
     ensures planned { result ≡ None → off.old ≡ false → PlansCall call pass.old.me.0.view pass.new.me.0.view }
 {
@@ -86,6 +87,7 @@ impl<'a, G: Gate> Caller<'a, G> {
         ensures why { result ≡ None → GaveUpFor self.old.off self.old.pass.me.0 (G.left self.old.gate) self.new.pass.me.0 (G.left self.new.gate) (G.cuts self.new.gate) }
         ensures off { self.new.off ≡ is_none result }
         ensures headway { HasHeadway self.old.pass.me.0 no_headway self.new.pass.me.0 self.new.headway }
+        ensures idle { result ≡ None → self.new.headway.begun ≡ false → self.new.pass.me.0 ≡ self.old.pass.me.0 }
         ensures drawn { result ≡ None → HasDrawn call self.old.pass.me.0.view self.new.headway.drew self.new.pass.me.0.view }
         ensures planned { result ≡ None → self.old.off ≡ false → PlansCall call self.old.pass.me.0.view self.new.pass.me.0.view }
     {
@@ -114,6 +116,7 @@ impl<'a, G: Gate> Caller<'a, G> {
         ensures why { result ≡ None → GaveUpFor self.old.off self.old.pass.me.0 (G.left self.old.gate) self.new.pass.me.0 (G.left self.new.gate) (G.cuts self.new.gate) }
         ensures off { self.new.off ≡ is_none result }
         ensures headway { HasHeadway self.old.pass.me.0 no_headway self.new.pass.me.0 self.new.headway }
+        ensures idle { result ≡ None → self.new.headway.begun ≡ false → self.new.pass.me.0 ≡ self.old.pass.me.0 }
         ensures drawn { result ≡ None → HasDrawn (Get key) self.old.pass.me.0.view self.new.headway.drew self.new.pass.me.0.view }
         ensures planned { result ≡ None → self.old.off ≡ false → PlansCall (Get key) self.old.pass.me.0.view self.new.pass.me.0.view }
     {
@@ -131,6 +134,7 @@ impl<'a, G: Gate> Caller<'a, G> {
         ensures why { result ≡ None → GaveUpFor self.old.off self.old.pass.me.0 (G.left self.old.gate) self.new.pass.me.0 (G.left self.new.gate) (G.cuts self.new.gate) }
         ensures off { self.new.off ≡ is_none result }
         ensures headway { HasHeadway self.old.pass.me.0 no_headway self.new.pass.me.0 self.new.headway }
+        ensures idle { result ≡ None → self.new.headway.begun ≡ false → self.new.pass.me.0 ≡ self.old.pass.me.0 }
         ensures drawn { result ≡ None → HasDrawn (Insert key value) self.old.pass.me.0.view self.new.headway.drew self.new.pass.me.0.view }
         ensures planned { result ≡ None → self.old.off ≡ false → PlansCall (Insert key value) self.old.pass.me.0.view self.new.pass.me.0.view }
     {
@@ -148,6 +152,7 @@ impl<'a, G: Gate> Caller<'a, G> {
         ensures why { result ≡ None → GaveUpFor self.old.off self.old.pass.me.0 (G.left self.old.gate) self.new.pass.me.0 (G.left self.new.gate) (G.cuts self.new.gate) }
         ensures off { self.new.off ≡ is_none result }
         ensures headway { HasHeadway self.old.pass.me.0 no_headway self.new.pass.me.0 self.new.headway }
+        ensures idle { result ≡ None → self.new.headway.begun ≡ false → self.new.pass.me.0 ≡ self.old.pass.me.0 }
         ensures drawn { result ≡ None → HasDrawn (Update key value) self.old.pass.me.0.view self.new.headway.drew self.new.pass.me.0.view }
         ensures planned { result ≡ None → self.old.off ≡ false → PlansCall (Update key value) self.old.pass.me.0.view self.new.pass.me.0.view }
     {
@@ -165,6 +170,7 @@ impl<'a, G: Gate> Caller<'a, G> {
         ensures why { result ≡ None → GaveUpFor self.old.off self.old.pass.me.0 (G.left self.old.gate) self.new.pass.me.0 (G.left self.new.gate) (G.cuts self.new.gate) }
         ensures off { self.new.off ≡ is_none result }
         ensures headway { HasHeadway self.old.pass.me.0 no_headway self.new.pass.me.0 self.new.headway }
+        ensures idle { result ≡ None → self.new.headway.begun ≡ false → self.new.pass.me.0 ≡ self.old.pass.me.0 }
         ensures drawn { result ≡ None → HasDrawn (Remove key) self.old.pass.me.0.view self.new.headway.drew self.new.pass.me.0.view }
         ensures planned { result ≡ None → self.old.off ≡ false → PlansCall (Remove key) self.old.pass.me.0.view self.new.pass.me.0.view }
     {

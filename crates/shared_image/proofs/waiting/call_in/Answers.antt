@@ -32,7 +32,7 @@ loop-preserved g c =
     record {
       pass_of = c.next_try-answer.ensures.pass;
       waiting = waited_on (ground_in c.args.image.now) c.args.site.now c.args.call c.requires.site.number c.args.pass.now.me.0 _ _ _ _ _ 1000 _ _ _ _ _ c.loop.headway _ d.0 d.1 c.loop.invariant.waiting.taken
-          c.loop.invariant.waiting.headway (gone_on (ground_in c.args.image.now) c.args.site.now c.args.call 1000 c.loop.off _ _ _ _ _ _ _ _ _ on c.next_try-answer.ensures.tried) c.next_try-answer.ensures.headway;
+          c.loop.invariant.waiting.headway c.loop.invariant.waiting.idle (gone_on (ground_in c.args.image.now) c.args.site.now c.args.call 1000 c.loop.off _ _ _ _ _ _ _ _ _ on c.next_try-answer.ensures.tried) c.next_try-answer.ensures.headway;
       off_is = c.next_try-answer.ensures.off;
     }
 
@@ -48,3 +48,6 @@ returns-in-Off-clause-drawn g c = λ none.
 
 pub returns-in-Off-clause-planned : goal.returns-in-Off-clause-planned
 returns-in-Off-clause-planned g c = λ none. c.loop.invariant.waiting.plans c.in-Off.is
+
+pub returns-in-Off-clause-idle : goal.returns-in-Off-clause-idle
+returns-in-Off-clause-idle g c = λ none. c.loop.invariant.waiting.idle
