@@ -11,7 +11,7 @@ use Rattle.session.specs.Callers.{FollowsScript, history_of, undrawn_call, undra
 use Rattle.session.specs.Transcript.{Told}
 use Rattle.reply_text.specs.Told.{told_by}
 use Rattle.engine.specs.Holding.{HasUntold}
-use Rattle.engine.proofs.holding.Scripted.{replied_more, within_more}
+use Rattle.engine.proofs.holding.Scripted.{replied_more}
 use Rattle.shared_image.specs.Closed.{replies_in}
 use Rattle.shared_image.specs.Cutting.{planned_in}
 use Rattle.shared_image.specs.Headway.{PlansCall, HasDrawn}
@@ -54,25 +54,25 @@ module _ (script : List Call) (entries : List Entry) (v : View) where
         subst (λ (o : Option Call). Contains (undrawn_call o (Some None)) planned) (sym next) (0, omega arith, sym (plans planned has).0)
 
     longer : (es : List Entry) (e : Entry) → v.own ≡ es ++ e ∷ [] → v.own ≡ es → ⊥
-    longer es e more same = let w = within_more es (map (λ e. e.call) es) e call in absurd (no_longer es e (sym more ∙ same))
+    longer es e more same = no_longer es e (sym more ∙ same)
       where
         no_longer : (xs : List Entry) (x : Entry) → xs ++ x ∷ [] ≡ xs → ⊥
         no_longer [] x is = cc
         no_longer (y ∷ xs) x is = no_longer xs x (cc)
 
-    gave_up : (begun : Bool) (drew : Option ℕ) → (begun ≡ false → (drew ≡ None) × (v.planned ≡ [])) → HasDrawn call before drew v
-        → Tells script (told_by entries (Some (stop_at entries call begun drew))) v
-    gave_up false drew idle drawn = subst (λ (d : Option ℕ). Tells script (told_by entries (Some (stop_at entries call false d))) v) (sym (idle refl).0) (record {
+    gave_up : (begun : Bool) (drew : Option ℕ) → before.planned ≡ [] → (begun ≡ false → v ≡ before) → HasDrawn call before drew v → Tells script (told_by entries (Some (stop_at entries call begun drew))) v
+    gave_up false None rested idle drawn = record {
       scripted = record { its_calls = made; within = let w = slice_get_within script (length entries) call next in omega (arith, w) };
-      untold = undrawn_told (subst (λ (d : Option ℕ). HasDrawn call before d v) (idle refl).0 drawn);
-      planned = λ planned has. nothing_planned _ planned (idle refl).1 has;
-    })
-    gave_up true None idle drawn = record {
+      untold = undrawn_told drawn;
+      planned = λ planned has. nothing_planned _ planned (ap (λ (w : View). w.planned) (idle refl) ∙ rested) has;
+    }
+    gave_up false (Some place) rested idle drawn = absurd (longer before.own _ drawn (ap (λ (w : View). w.own) (idle refl)))
+    gave_up true None rested idle drawn = record {
       scripted = record { its_calls = made; within = let w = slice_get_within script (length entries) call next in omega (arith, w) };
       untold = undrawn_told drawn;
       planned = open_call;
     }
-    gave_up true (Some place) idle drawn = record {
+    gave_up true (Some place) rested idle drawn = record {
       scripted = record {
         its_calls = replied_more entries script (drawn_entry entries call place) call made refl next;
         within = let w = slice_get_within script (length entries) call next in omega (arith, w);
@@ -85,7 +85,7 @@ pub tells : (c : CallerAtCut) → StoodAtCut c → Tells c.script (told_of c) c.
 tells c (inl all, alone) = subst (λ (s : Option Stop). Tells c.script (told_by c.entries s) c.pass.me.0.view) (sym all.stop)
     (all_made c.script c.entries c.pass.me.0.view all.own all.made all.planned)
 tells c (inr g, alone) = subst (λ (s : Option Stop). Tells c.script (told_by c.entries s) c.pass.me.0.view) (sym g.stop)
-    (gave_up c.script c.entries c.pass.me.0.view g.call g.before g.own g.made g.next g.planned g.begun g.drew g.unbegun g.drawn)
+    (gave_up c.script c.entries c.pass.me.0.view g.call g.before g.own g.made g.next g.planned g.begun g.drew g.rested g.idle g.drawn)
 
 -- ---- all callers
 abbrev pub owns_of : List CallerAtCut → List (List Entry)

@@ -57,8 +57,9 @@ pub record GaveUpAtCall (c : CallerAtCut) : Type 0 where
   pub own : before.own ≡ c.entries
   pub made : map (λ e. e.call) c.entries ≡ take (length c.entries) c.script
   pub next : slice_get c.script (length c.entries) ≡ Some call
-  -- a call of which no event was taken has drawn no place, and planned nothing
-  pub unbegun : begun ≡ false → (drew ≡ None) × (c.pass.me.0.view.planned ≡ [])
+  -- it had planned nothing then, and a call of which no event was taken leaves the pass as it was
+  pub rested : before.planned ≡ []
+  pub idle : begun ≡ false → c.pass.me.0.view ≡ before
   pub drawn : HasDrawn call before drew c.pass.me.0.view
   pub planned : PlansCall call before c.pass.me.0.view
 
