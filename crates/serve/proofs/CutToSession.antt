@@ -2,9 +2,7 @@
 use Rattle.std.proofs.Common.{◌≡◌, ◌≢◌, ℕ, ◌^◌, ◌<◌, Option, None, Some, cond, Bool, true, false, List, [], ◌∷◌, is_some, inl, inr, refl, sym, ap, ◌∙◌, subst, arith}
 use Rattle.std.specs.Prelude.{map, slice_index, Contains, if◌then◌else◌}
 use Rattle.std.specs.List.{AllByRecursion, AllZip}
-use Rattle.std.specs.Cmp.{nat_cmp_total, unsigned_tied}
-use Rattle.std.proofs.lemmas.Bool.{eq-eqb}
-use Rattle.std.specs.FinMap.{get, insert, remove, get-insert, get-remove}
+use Rattle.std.specs.FinMap.{get}
 use Rattle.atomic_table.specs.declared.shared.Seat.{Seat}
 use Rattle.trace.specs.Events.{Words}
 use Rattle.image_layout.specs.Places.{Shape}
@@ -33,22 +31,16 @@ use Rattle.shared_image.specs.Closed.{replies_of}
 use Rattle.shared_image.specs.Cutting.{planned_in}
 use Rattle.shared_image.specs.Watch.{Watch}
 use Rattle.world.specs.Ground.{Ground}
-use Rattle.world.specs.History.{map_now}
+use Rattle.world.specs.History.{map_now, reply_by}
 use Rattle.world.specs.Parts.{History}
 use Rattle.world.specs.Views.{View}
-use Rattle.world.proofs.Legality.{entries_legal}
+use Rattle.world.proofs.Legality.{after_has, entries_legal}
 use Rattle.serve.specs.AtCut.{CallerAtCut, told_of, StoodAtCut, WasSharedAndCut, ServedCutIsSession}
 use Rattle.serve.proofs.AtCut.{all_follow, all_untold, all_planned, all_replies}
 use Rattle.serve.proofs.Owners.{whose, among}
 use Rattle.serve.proofs.SameWords.{none_free as no_slot_free, spent_bucket}
 
 -- ---- a call on two maps that have the same at its key
-put_there : (m : Map) (k v : ℕ) → get (insert m k v) k ≡ Some v
-put_there m k v = get-insert nat_cmp_total m k v k ∙ ap (λ b. cond b (Some v) (get m k)) (unsigned_tied k k ∙ eq-eqb k k refl)
-
-taken_away : (m : Map) (k : ℕ) → get (remove m k) k ≡ None
-taken_away m k = get-remove nat_cmp_total m k k ∙ ap (λ b. cond b None (get m k)) (unsigned_tied k k ∙ eq-eqb k k refl)
-
 either : (b : Bool) (m : Map) → cond b m m ≡ m
 either true m = refl
 either false m = refl
@@ -66,19 +58,19 @@ after_leaves : (m : Map) (call : Call) → get (after m call (reply_of m call)) 
 after_leaves m (Get k) = ap (λ (z : Map). get z k) (either (is_done (shown (get m k))) m)
 after_leaves m (Insert k v) = by (get m k) refl
   where
-    by : (o : Option ℕ) → get m k ≡ o → get (after m (Insert k v) (if is_some o then Exists else Done)) k ≡ leaves o (Insert k v)
-    by None is = put_there m k v
-    by (Some x) is = is
+    by : (o : Option ℕ) → get m k ≡ o → get (after m (Insert k v) (reply_of m (Insert k v))) k ≡ leaves o (Insert k v)
+    by None is = after_has m (Insert k v) (ap (λ (a : Option ℕ). reply_by a (Insert k v)) (sym is))
+    by (Some x) is = ap (λ (a : Option ℕ). get (after m (Insert k v) (if is_some a then Exists else Done)) k) is ∙ is
 after_leaves m (Update k v) = by (get m k) refl
   where
-    by : (o : Option ℕ) → get m k ≡ o → get (after m (Update k v) (if is_some o then Done else Absent)) k ≡ leaves o (Update k v)
-    by None is = is
-    by (Some x) is = put_there m k v
+    by : (o : Option ℕ) → get m k ≡ o → get (after m (Update k v) (reply_of m (Update k v))) k ≡ leaves o (Update k v)
+    by None is = ap (λ (a : Option ℕ). get (after m (Update k v) (if is_some a then Done else Absent)) k) is ∙ is
+    by (Some x) is = after_has m (Update k v) (ap (λ (a : Option ℕ). reply_by a (Update k v)) (sym is))
 after_leaves m (Remove k) = by (get m k) refl
   where
-    by : (o : Option ℕ) → get m k ≡ o → get (after m (Remove k) (if is_some o then Done else Absent)) k ≡ leaves o (Remove k)
-    by None is = is
-    by (Some x) is = taken_away m k
+    by : (o : Option ℕ) → get m k ≡ o → get (after m (Remove k) (reply_of m (Remove k))) k ≡ leaves o (Remove k)
+    by None is = ap (λ (a : Option ℕ). get (after m (Remove k) (if is_some a then Done else Absent)) k) is ∙ is
+    by (Some x) is = after_has m (Remove k) (ap (λ (a : Option ℕ). reply_by a (Remove k)) (sym is))
 
 same_after : (m n : Map) (call : Call) → get m (key_of call) ≡ get n (key_of call) → get (after m call (reply_of m call)) (key_of call) ≡ get (after n call (reply_of n call)) (key_of call)
 same_after m n call same = after_leaves m call ∙ (ap (λ o. leaves o call) same ∙ sym (after_leaves n call))
