@@ -1,8 +1,7 @@
 pub mod Owners
 pub mod SameWords
 pub mod ToSession
-pub mod AtCut
-pub mod CutToSession
+pub mod cutting
 pub mod Told
 pub mod OneByOne
 pub mod Lists

@@ -1,4 +1,4 @@
-use Rattle.serve.proofs.CutToSession.{served_cut_is_session}
+use Rattle.serve.proofs.cutting.CutToSession.{served_cut_is_session}
 use Rattle.serve.proofs.sessions.served_cut_is_session.Goals as goal
 
 pub returns : goal.returns

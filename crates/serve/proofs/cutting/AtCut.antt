@@ -1,9 +1,10 @@
 -- What a caller was told by the time of a cut, against what its pass has.
-use Rattle.std.proofs.Common.{◌≡◌, ℕ, zero, suc, Bool, true, false, Option, None, Some, List, [], ◌∷◌, ◌++◌, length, inl, inr, refl, sym, ap, ◌∙◌, subst, arith}
+use Rattle.std.proofs.Common.{◌≡◌, ℕ, Bool, true, false, Option, None, Some, List, [], ◌∷◌, ◌++◌, length, inl, inr, refl, sym, ap, ◌∙◌, subst, arith}
 use Rattle.std.specs.Prelude.{map, take, slice_get, Contains}
 use Rattle.std.specs.List.{AllByRecursion, AllZip}
 use Rattle.std.proofs.lemmas.Option.{slice_get_within}
 use Rattle.std.proofs.lemmas.List.Elements.{Contains-append_left, Contains-append_right, Contains-append_cases}
+use Rattle.trace.proofs.Listed.{has_of_contains}
 use Rattle.map_model.specs.declared.call.Call.{Call}
 use Rattle.map_model.specs.declared.entry.Entry.{Entry}
 use Rattle.map_model.specs.declared.entry.Stop.{Stop}
@@ -19,11 +20,6 @@ use Rattle.world.specs.Views.{View, Has}
 use Rattle.serve.specs.Served.{AreMade}
 use Rattle.serve.specs.AtCut.{drawn_entry, stop_at, CallerAtCut, told_of, StoodAtCut}
 use Rattle.serve.proofs.Told.{follows}
-
-has_of : (calls : List Call) (call : Call) → Contains calls call → Has call calls
-has_of [] call (k, low, is) = absurd (omega (arith, low))
-has_of (c ∷ calls) call (zero, low, is) = inl (sym is)
-has_of (c ∷ calls) call (suc k, low, is) = inr (has_of calls call (k, omega (arith, low), is))
 
 -- what it was told is what its view has: its calls are the first of its script; the view has the entries that it was told, and one more at the most, which
 -- drew no place and was not told; and a change that is planned is its open call, which has drawn none
@@ -102,9 +98,9 @@ all_untold (c ∷ callers) all = ((tells c all.0).untold, all_untold callers all
 -- a change that a pass has planned is an open call, which has drawn no place
 pub all_planned : (callers : List CallerAtCut) → AllByRecursion StoodAtCut callers → (call : Call) → Contains (planned_in (map (λ c. c.pass) callers)) call
     → Contains (undrawn (map (λ c. c.script) callers) (map told_of callers)) call
-all_planned [] all call there = absurd (has_of [] call there)
+all_planned [] all call there = absurd (has_of_contains call [] there)
 all_planned (c ∷ callers) all call there = elim (Contains-append_cases c.pass.me.0.view.planned (planned_in (map (λ c. c.pass) callers)) call there) [
-  | inl its ↦ Contains-append_left _ (undrawn (map (λ c. c.script) callers) (map told_of callers)) call ((tells c all.0).planned call (has_of c.pass.me.0.view.planned call its))
+  | inl its ↦ Contains-append_left _ (undrawn (map (λ c. c.script) callers) (map told_of callers)) call ((tells c all.0).planned call (has_of_contains call c.pass.me.0.view.planned its))
   | inr others ↦ Contains-append_right (undrawn_call (slice_get c.script (length c.entries)) (told_of c).left_open) (undrawn (map (λ c. c.script) callers) (map told_of callers)) call
       (all_planned callers all.1 call others)
 ]

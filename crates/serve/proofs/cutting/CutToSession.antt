@@ -36,7 +36,7 @@ use Rattle.world.specs.Parts.{History}
 use Rattle.world.specs.Views.{View}
 use Rattle.world.proofs.Legality.{after_has, entries_legal}
 use Rattle.serve.specs.AtCut.{CallerAtCut, told_of, StoodAtCut, WasSharedAndCut, ServedCutIsSession}
-use Rattle.serve.proofs.AtCut.{all_follow, all_untold, all_planned, all_replies}
+use Rattle.serve.proofs.cutting.AtCut.{all_follow, all_untold, all_planned, all_replies}
 use Rattle.serve.proofs.Owners.{whose, among}
 use Rattle.serve.proofs.SameWords.{none_free as no_slot_free, spent_bucket}
 

@@ -1,0 +1,3 @@
+-- What callers were told by the time of a cut.
+pub mod AtCut
+pub mod CutToSession
